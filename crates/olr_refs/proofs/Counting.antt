@@ -129,9 +129,6 @@ module _ (K : Map) (slot : ℕ → ℕ) (s v : ℕ) (xs : List ℕ) (q : Dijkstr
       let some = sound.long x p.2 in
       omega (arith, p.3, way_le K slot s 1 q h (start K x) p.0 (sound.starts x p.2) p.1 (omega (arith, p.3)))
 
-pub nodes_counted : (g : Margin) (M : Map) (xs : List ℕ) (v : ℕ) → has_node (counted g M xs) v ≡ has_node M v
-nodes_counted g M xs v = grind (arith, cases_Bool (g.routes == 0))
-
 -- without a margin it is one on the map itself, from where it begins
 pub plain_search : (g : Margin) (M : Map) (slot : ℕ → ℕ) (xs : List ℕ) (v : ℕ) (q : Dijkstra) → g.routes ≡ 0 →
     IsSearch (counted g M xs) slot Along ((v, begun_at g) ∷ []) q → IsSearch M slot Along ((v, 0) ∷ []) q

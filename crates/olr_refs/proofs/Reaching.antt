@@ -5,7 +5,8 @@ use Rattle.olr_refs.proofs.Common.{IsMap, start, end, dm, has_line, IsRoute, dm_
 use Rattle.olr_refs.proofs.Common.{IsLastTestedWith, dm_of-append, stretch_parts, Along, Dijkstra, IsSearch, limit_of}
 use Rattle.olr_refs.proofs.Common.{IsFar, IsReach, UniqueShortest, Needed, empty_unique, stretch_last, ResolvedLine, record_of}
 use Rattle.olr_refs.proofs.Common.{cases_eq, ne_eqb, cond, refl, has_node}
-use Rattle.olr_refs.proofs.Counting.{own_same, line_counts, sum_counts, unique_more, end_ahead, starts_settled, nodes_counted}
+use Rattle.std.proofs.lemmas.Bool.{cases_Bool}
+use Rattle.olr_refs.proofs.Counting.{own_same, line_counts, sum_counts, unique_more, end_ahead, starts_settled}
 use Rattle.olr_refs.proofs.Joined.{known_at}
 use Rattle.olr_refs.proofs.LegLemmas.{joined_known}
 use Rattle.olr_refs.proofs.Stretches.{stretch_sum}
@@ -205,7 +206,7 @@ module _ (g : Margin) (M : Map) (m : IsMap M) (slot : ℕ → ℕ) (ls : List �
           let later : begun_at g ≡ 1 = ap (λ b. cond b 0 1) (ne_eqb g.routes 0 some) in
           let s = subst (λ b. IsSearch K slot Along ((from, b) ∷ []) old) later t.search in
           let far : limit_of old ≡ dm_of K front = t.settled ∙ t.long in
-          let node : (v : ℕ) → IsTrue (has_node M v) → IsTrue (has_node K v) = λ v there. nodes_counted g M front v ∙ there in
+          let node : (v : ℕ) → IsTrue (has_node M v) → IsTrue (has_node K v) = λ v there. grind (arith, cases_Bool (g.routes == 0)) in
           let same : (y : ℕ) → label_of old.frontier (slot (start K y)) ≡ label_of old.frontier (slot (start M y)) =
           λ y. ap (λ v. label_of old.frontier (slot v)) (counted_start g M front y) in
           inr (at_x record {

@@ -1,6 +1,4 @@
 -- The fields of an answer's reference fit, so it can be encoded as bytes.
-use Rattle.olr_spec.specs.Margins.{no_margin}
-use Rattle.olr_spec.proofs.Common.{Follow, reference}
 use Rattle.olr_spec.specs.Margins.{Margin}
 use Rattle.olr_spec.proofs.Common.{◌≡◌, ℕ, ◌+◌, ◌-◌, true, List, ◌∷◌, length, ◌<◌, ◌≤◌, None, IsTrue, sym, ap, ◌∙◌}
 use Rattle.olr_spec.proofs.Common.{subst, arith, nat_le, length-append, [], eqb-true, leb-false, cases_Bool, cond_both}
@@ -119,10 +117,3 @@ encoded_fits g M m P is r q =
     let s = extended_sound M P is x.0 p.before p.after p.tried in
     let a = answered g M E p.points r p.holds in
     subst IsReference (sym a.1) (reference_fits_with g M m E.lines s.known s.size p.points E.pos E.neg p.follow a.0 s.long)
-
--- ---- without a margin
-
-pub reference_fits : (M : Map) → IsMap M → (ls : List ℕ) → Each (Known M) ls → 0 < length ls →
-    (js : List ℕ) (positive negative : ℕ) → Follow M ls 0 js → last_position 0 js ≡ length ls → positive + negative < dm_of M ls
-    → IsReference (reference (legs M ls) positive negative js)
-reference_fits = reference_fits_with no_margin

@@ -1,6 +1,5 @@
 -- The routes between the remaining LRPs join to the extended path.
 use Rattle.olr_spec.specs.Margins.{no_margin}
-use Rattle.olr_spec.proofs.Common.{Follow}
 use Rattle.olr_spec.specs.Margins.{Margin, CountedRoute, IsSoundFor}
 use Rattle.olr_spec.proofs.Common.{inl, inr, ◌≡◌, ℕ, ◌+◌, ◌-◌, min, Bool, true, false, ◌&&◌, List, ◌∷◌, ◌++◌, length}
 use Rattle.olr_spec.proofs.Common.{take, drop, ◌<◌, ◌≤◌, refl, ap, ◌∙◌, subst, arith, nat_le, length-drop, ◌↔◌, []}
@@ -162,9 +161,3 @@ routes_join g M sound ls js positive negative f e =
 
 abbrev pub Linked : Map → List ℕ → List ℕ → Type 0
 Linked = LinkedWith no_margin
-
-pub follow_linked : (M : Map) (ls : List ℕ) (i : ℕ) (js : List ℕ) → Follow M ls i js → Linked M ls (i ∷ js)
-follow_linked = follow_linked_with no_margin
-
-pub kept_linked : (M : Map) (ls : List ℕ) (a b : ℕ) (ks : List ℕ) → Linked M ls ks → Linked M ls (filter (between a b) ks)
-kept_linked = kept_linked_with no_margin

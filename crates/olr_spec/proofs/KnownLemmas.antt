@@ -5,10 +5,10 @@ use Rattle.olr_spec.proofs.CountedLemmas.{route_counted}
 use Rattle.olr_spec.proofs.CountedMoves.{counted_longer, counted_length_same, clear_front, clear_whole}
 use Rattle.olr_spec.proofs.Common.{◌≡◌, ℕ, ◌+◌, List, ◌∷◌, ◌<◌, ◌≤◌, sym, ap, ◌∙◌, subst, arith, slice_index, [], Map, start}
 use Rattle.olr_spec.proofs.Common.{end, SameLine, IsRoute, stretch, ChangedLine, AccountsFor}
-use Rattle.olr_spec.proofs.Common.{Detour, CoverageQuery, IsClear, KnownQuery, KnownRetained, All-contains, get_or}
+use Rattle.olr_spec.proofs.Common.{Detour, IsClear, KnownQuery, KnownRetained, All-contains, get_or}
 use Rattle.olr_spec.proofs.Facts.{Each, Each-head, Each-right, IsRoute-split, same_start, IsRoute-moves}
 use Rattle.olr_spec.proofs.Facts.{same_there, stretch_first}
-use Rattle.olr_spec.specs.Queries.{IsKnownWith, AreKnown, KnownOf}
+use Rattle.olr_spec.specs.Queries.{IsKnownWith}
 use Rattle.olr_spec.proofs.QueryLemmas.{stretch_parts}
 
 -- ---- on another map
@@ -76,9 +76,3 @@ known_kept g M N C there here ls queries clear ks known k d lt =
       right = known_stays M N C there here ls (get_or ks k d) e.right
           (All-contains (IsClear N C) queries (get_or ks k d).query clear e.among);
     }
-
--- ---- without a margin
-
-pub known_right : (M : Map) (ls : List ℕ) (queries : List CoverageQuery) (ks : List KnownQuery) → KnownOf M ls queries ks
-    → AreKnown M ls ks
-known_right M ls queries ks known k d lt = (known k d lt).right

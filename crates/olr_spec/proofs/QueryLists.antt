@@ -1,6 +1,4 @@
 -- Lists of coverage queries: each LRP of the list has one.
-use Rattle.olr_spec.specs.Margins.{no_margin}
-use Rattle.olr_spec.proofs.Common.{IsQuery}
 use Rattle.olr_spec.specs.Margins.{Margin}
 use Rattle.olr_spec.proofs.Common.{◌≡◌, ℕ, ◌+◌, true, List, ◌∷◌, length, ◌<◌, Contains, arith, nat_lt, IsTrue, []}
 use Rattle.olr_spec.proofs.Common.{lt-ltb, ltb-true, AllZip, Map, has, CoverageQuery, IsQueryWith, querying}
@@ -45,9 +43,3 @@ query_from_with g M ls is queries z l c =
     let r = zip_left (IsQueryWith g M ls) (querying ls is) queries z l c in
     let p = queries_here ls is r.0 r.1 in
     (r.0, p.0, p.1, r.2)
-
--- ---- without a margin
-
-pub query_from : (M : Map) (ls is : List ℕ) (queries : List CoverageQuery) → AllZip (IsQuery M ls) (querying ls is) queries →
-    (l : CoverageQuery) → Contains queries l → (i : ℕ) × IsTrue (has is i) × (i + 2 < length ls) × IsQuery M ls i l
-query_from = query_from_with no_margin

@@ -1,6 +1,5 @@
 -- If nothing that a path depends on has changed, its answer, traversed nodes, coverage queries and footprint are the
 -- same.
-use Rattle.olr_spec.specs.Margins.{no_margin}
 use Rattle.olr_spec.specs.Margins.{Margin}
 use Rattle.olr_spec.proofs.Common.{◌⊎◌, inl, inr, ◌≡◌, ℕ, ◌+◌, List, ◌∷◌, length, true, ◌<◌, ◌≤◌, Option, None, IsTrue}
 use Rattle.olr_spec.proofs.Common.{All, Contains, sym, ◌∙◌, subst, arith, MatchOption, ◌↔◌, ◌++◌, length-append, cond}
@@ -226,8 +225,3 @@ pub untouched_retained_with : (g : Margin) → UntouchedRetained g
 untouched_retained_with g M N m n T X C d P is lines nodes queries =
     kept g M N m n C d.there d.here P is (Each-to (SameLine M N) P.lines (λ x on. d.lines x (grind (arith, lines, cases_Bool, both_ways))))
     (λ v on. d.nodes v (grind (arith, nodes, cases_Bool))) queries
-
--- ---- without a margin
-
-pub untouched_retained : UntouchedRetained no_margin
-untouched_retained = untouched_retained_with no_margin

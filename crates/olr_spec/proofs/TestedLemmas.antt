@@ -157,11 +157,5 @@ foot_affected_with g M N m T round P is queries o = (
 
 -- ---- without a margin
 
-pub foot_queried : FootIsQueried no_margin
-foot_queried = foot_queried_with no_margin
-
 pub one_last_tested : OneLastTested no_margin
 one_last_tested = one_last_tested_with no_margin
-
-pub foot_affected : FootAffected no_margin
-foot_affected = foot_affected_with no_margin
