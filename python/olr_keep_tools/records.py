@@ -217,12 +217,13 @@ def blocks(file: IO[bytes]) -> Iterator[bytes]:
     rest, is_log = b"", None
     while text := file.read(BLOCK):
         is_log = text.startswith(b"\n") if is_log is None else is_log
-        whole, end, rest = (rest + text).rpartition(b"\n")
+        lines, end, rest = (rest + text).rpartition(b"\n")
+        whole = lines + end
         if is_log and (padding := PADDING.search(whole)):
             yield whole[: whole.rfind(b"\n", 0, padding.start()) + 1]
             return
         if end:
-            yield whole + end
+            yield whole
     if rest and not (is_log and b"\r" in rest):
         yield rest
 
