@@ -49,8 +49,10 @@ class File:
         self.pending.append(event)
 
     def sync(self) -> None:
-        """What the file holds is certain."""
-        self.synced, self.pending = self.now, []
+        """What was written since the last sync is certain. A change that an earlier process failed to sync isn't."""
+        for event in self.pending:
+            self.synced = changed(self.synced, event)
+        self.pending = []
 
     def after_crash(self, rnd: Random) -> bytes:
         """One of the contents that a crash may leave."""
@@ -95,6 +97,12 @@ class Disk:
         self.certain: Dict[str, File] = {}
         self.renames: List[Callable[[Dict[str, File]], object]] = []
         self.opened: Dict[int, Union[File, str]] = {}
+
+    def put(self, name: str, now: bytes, synced: Optional[bytes] = None) -> None:
+        """A file is there before the first event. With `synced` an earlier process failed to sync more than this of it, and to sync
+        its name."""
+        self.names[name] = File(now if synced is None else synced, now)
+        self.certain = {} if synced is not None else dict(self.names)
 
     def name_in(self, name: str) -> Optional[str]:
         """The name in the folder, or None if it is another folder's."""
@@ -150,7 +158,9 @@ class Disk:
         if self.certain.get(name) is not self.names.get(name):
             return f"the name {name} is not synced"
         file = self.names.get(name)
-        return f"{len(file.pending)} writes of {name} are not synced" if file and file.pending else ""
+        if file and file.pending:
+            return f"{len(file.pending)} writes of {name} are not synced"
+        return f"{name} is not what is on the disk" if file and file.synced != file.now else ""
 
     def crash(self, rnd: Random, into: str) -> None:
         """Writes the files that a crash at this moment may leave to another folder."""

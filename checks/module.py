@@ -63,6 +63,12 @@ def check_calls():
         ends = ("node,2,6.12838,49.60399", "node,3,6.1279,49.6035")
         same("show_node", keep.show_node(3), ends[1])
         same("show_line", keep.show_line(99), (*ends, "line,99,2,3,4,3,1500"))
+        same("margin", [it.string for it in keep.margin(50, 1)], ["CwRbWyNG9RqMCQCb/jsb1AT/6/+jK1lE"])
+        same("a margin in a batch", (len(keep.begin()), keep.margin(2, classes=0).held, keep.show_margin(), len(keep.abort())),
+             (0, 1, (50, 1), 0))
+        same("a margin that changes nothing", (len(keep.margin(routes=7, classes=1)), keep.show_margin()), (0, (7, 1)))
+        same("no margin", ([it.string for it in keep.margin(0, 0)], keep.show_margin()), ([three], (0, 0)))
+        same("a margin out of bounds", raised(lambda: keep.margin(1001, 0), Rejected).number, 2)
         same("depends", (keep.depends(4), keep.depends(1, 3)), (("a",), ("a",)))
         same("ambiguous", (keep.ambiguous(), keep.ambiguous("a")), ((), ()))
         with keep.batch() as batch:
@@ -87,6 +93,7 @@ def check_calls():
         reply = keep.ask("drop-line,77\r\n")
         same("a rejected record", reply, olr_keep.Reply("fault", 6, "NoLine"))
         same("its text", (reply.accepted, reply.text()), (False, "fault,6,NoLine\n"))
+        raised(lambda: keep.margin(1.5, 0), TypeError)
         same("the status", (keep.status, keep.close(), keep.close()), (1, 1, 1))
     raised(lambda: keep.ask("report"), ValueError)
 
@@ -195,6 +202,7 @@ async def ask_together():
         except Rejected as error:
             same("a rejected edit of a batch", error.word, "NodeInUse")
         same("no batch is open", (await keep.ask("abort")).rest, "NoBatch")
+        same("a margin", (len(await keep.margin(50, 1)), await keep.show_margin()), (1, (50, 1)))
         task = asyncio.ensure_future(keep.report())
         task.cancel()
         await asyncio.sleep(0.05)

@@ -10,7 +10,7 @@ extern long syscall(long number, ...);
 extern int snprintf(char *to, size_t size, const char *format, ...);
 
 enum {
-    WRITE = 1, OPEN = 2, PWRITE = 18, FSYNC = 74, FDATASYNC = 75, TRUNCATE = 77, RENAME = 82, UNLINK = 87, OPENAT = 257,
+    WRITE = 1, OPEN = 2, SEEK = 8, PWRITE = 18, FSYNC = 74, FDATASYNC = 75, TRUNCATE = 77, RENAME = 82, UNLINK = 87, OPENAT = 257,
     RENAMEAT = 264, UNLINKAT = 263, CREATE = 0100, HERE = -100
 };
 
@@ -37,6 +37,7 @@ static void note_names(const char *kind, int file, long more, const char *first,
 ssize_t write(int file, const void *from, size_t size) {
     ssize_t n = syscall(WRITE, file, from, size);
     if (n > 0 && file == 1) note("answer", file, 0, from, n);
+    if (n > 0 && file > 2) note("write", file, syscall(SEEK, file, 0L, 1) - n, from, n);
     return n;
 }
 ssize_t __write(int file, const void *from, size_t size) { return write(file, from, size); }
