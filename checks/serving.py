@@ -33,8 +33,8 @@ class Served:
 
     started = []
 
-    def __init__(self, folder, *options, log="log.csv", env=None):
-        self.folder, self.options, self.env = folder, options, env or {}
+    def __init__(self, folder, *options, log="log.csv", env=None, program=SERVED):
+        self.folder, self.options, self.env, self.command = folder, options, env or {}, program
         self.log, self.errors = f"{folder}/{log}", f"{folder}/errors"
         self.notified, self.process = [], None
         self.systemd = socket.socket(socket.AF_UNIX, socket.SOCK_DGRAM)
@@ -48,7 +48,7 @@ class Served:
 
     def start(self, wait=True):
         """Starts it, and waits until it serves."""
-        command = [PYTHON, "-B", f"{TOP}/tools/serve", *self.options, self.log, SERVED]
+        command = [PYTHON, "-B", f"{TOP}/tools/serve", *self.options, self.log, self.command]
         self.notified.clear()
         with open(self.errors, "ab") as errors:
             self.process = subprocess.Popen(command, stdin=subprocess.DEVNULL, stderr=errors, stdout=errors,
@@ -117,18 +117,22 @@ class Served:
             to.sendall(b"health\n")
             return b"".join(iter(lambda: to.recv(1 << 16), b"")).decode()
 
-    def wait_until_well(self, seconds=40):
+    def wait_until_well(self):
         """Waits until its health has no trouble."""
+        self.wait_until_health("OK: ")
+
+    def wait_until_health(self, wanted, seconds=40):
+        """Waits until its line has this."""
         until, line = time.monotonic() + seconds, ""
         while time.monotonic() < until:
             with contextlib.suppress(OSError):
                 line = self.health()
-                if line.startswith("OK"):
+                if wanted in line:
                     return
             if self.process.poll() is not None:
                 raise Failed(f"the service ended with status {self.process.returncode}: {self.said()}")
             time.sleep(0.05)
-        raise Failed(f"it stays in trouble: {line} {self.said()}")
+        raise Failed(f"its health is not {wanted}: {line} {self.said()}")
 
     def records(self):
         """The records of the log, up to its padding."""
@@ -301,6 +305,8 @@ class Writer(threading.Thread):
         self.served, self.lines = served, lines
         self.rnd, self.stopped, self.sent = random.Random(number), threading.Event(), []
         self.count, self.names, self.wrong = number * 100_000, [], None
+        # No other writer of a log has these, of 80 in a row.
+        self.margins = iter([f"margin,{number // 8 % 10 * 100 + k},{number % 8}" for k in range(100)])
 
     def run(self):
         while not self.stopped.is_set():
@@ -327,7 +333,10 @@ class Writer(threading.Thread):
         if kind < 0.9 or not self.names:
             self.names.append(f"w{self.count}")
             return f"path,{self.names[-1]},0,0,{line}"
-        return f"drop-path,{self.names.pop()}" if kind < 0.96 else f"drop-line,{self.count + 2_000_000_000}"
+        if kind < 0.96:
+            return f"drop-path,{self.names.pop()}"
+        rejected = f"drop-line,{self.count + 2_000_000_000}"
+        return rejected if kind < 0.99 else next(self.margins, rejected)
 
     def step(self, to, replies):
         """Sends something and reads what becomes of it. Whether the connection can still be used."""

@@ -168,12 +168,19 @@ class Sender:
             self.ask(step)
             return
         begin, *changes, last = step
-        self.is_open = True
-        self.answer(begin)
+        self.open(begin)
         for first in range(0, len(changes), AT_ONCE):
             self.ask(changes[first : first + AT_ONCE])
         self.ask([last])
         self.is_open = False
+
+    def open(self, begin: Record) -> None:
+        """Opens a batch."""
+        self.is_open = True
+        reply = self.answer(begin)
+        if not reply.accepted:
+            self.is_open = False
+            self.stop(*self.cause_of(begin, reply))
 
     def answer(self, record: Record) -> Reply:
         """The reply to one record."""
@@ -203,7 +210,7 @@ class Sender:
         word, _, text = reply.rest.partition(",")
         if reply.number == OF_SERVICE and word == "NotKnown":
             raise ProgramFailed(f"the program ended: {text}")
-        if reply.number == OF_SERVICE and word == "NotServed":
+        if reply.number == OF_SERVICE and word in ("NotServed", "Connections"):
             raise Failure(NO_REPLY, f"{text}; {self.before()}")
         return record, reply
 
@@ -255,8 +262,7 @@ class Previewer(Sender):
             raise Failure(STREAM, "--preview takes the changes of one batch, and no questions")
         (self.step,) = all_steps
         begin, *changes, _ = self.step
-        self.is_open = True
-        self.answer(begin)
+        self.open(begin)
         for first in range(0, len(changes), AT_ONCE):
             self.ask(changes[first : first + AT_ONCE])
         asked = Record(0, "preview")

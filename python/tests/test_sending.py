@@ -66,3 +66,9 @@ class Rejected(unittest.TestCase):
         self.assertEqual(text, "the program ended: of the whole batch; ask show-node,1")
         text = self.failure("ok,0\nheld,1\nfault,0,NotServed,the service ends\n", "node,1,0,0")
         self.assertEqual(text, "the service ends; nothing took effect")
+
+    def test_not_taken(self) -> None:
+        """A connection that isn't taken: nothing was sent."""
+        for record in "node,1,0,0", "show,a":
+            text = self.failure("fault,0,Connections,100 are open, and no more are taken\n", record)
+            self.assertEqual(text, "100 are open, and no more are taken; nothing took effect")

@@ -10,12 +10,14 @@ import unittest
 from typing import Any, Deque, List, Tuple
 from unittest import mock
 
-from olr_keep_tools.serve import exchange, logfile
+from olr_keep_tools.serve import exchange, logfile, table
 from olr_keep_tools.serve.framing import NoReply, Replies
 from olr_keep_tools.serve.jobs import Change, Job, Kind, batch, dropped, preview, question_about
 from olr_keep_tools.serve.lines import Input, Sort
 from olr_keep_tools.serve.notify import Systemd
 from olr_keep_tools.serve.table import Entry, Table, TableError
+
+PSYCOPG2: Any = getattr(table, "psycopg2")
 
 
 class Owner:
@@ -177,7 +179,7 @@ class Jobs(unittest.TestCase):
         job = Job(Owner(), Kind.CHANGES, b"node,1,0,0\nset-line,7,1\nrepath,a,0\n", 3, done=1)
         self.assertEqual(job.not_known(), b"fault,0,NotKnown,ask show-line,7\nfault,0,NotKnown,ask show,a\n")
         self.assertEqual(batch(Owner(), b"move,5,0,0\n", 1).not_known(), b"fault,0,NotKnown,of the whole batch; ask show-node,5\n")
-        self.assertEqual(question_about(b"report"), "report")
+        self.assertEqual([question_about(it) for it in (b"report", b"margin,50,1")], ["report", "show-margin"])
 
     def test_dropped(self) -> None:
         text = b"begin\ndrop-path,a\ndrop-path,b\npath,b,0,0,1\npath,c,0,0,1\ndrop-path,c\ncommit,5\n"
@@ -247,6 +249,14 @@ class Tables(unittest.TestCase):
             self.assertEqual(os.listdir(folder), ["table"])
             with open(f"{folder}/table", "rb") as file:
                 self.assertEqual(file.read(20)[18:], b"\1\1")
+
+    @unittest.skipIf(PSYCOPG2 is None, "psycopg2 is not installed")
+    def test_silent_database(self) -> None:
+        """A database that doesn't answer fails, and isn't waited for."""
+        one, other = socket.socketpair()
+        silent = mock.Mock(poll=lambda: PSYCOPG2.extensions.POLL_READ, fileno=one.fileno)
+        with one, other, mock.patch.object(table, "ANSWERS", 0.05):
+            self.assertRaises(PSYCOPG2.OperationalError, table.wait, silent)
 
     def test_another_writer(self) -> None:
         with tempfile.TemporaryDirectory() as folder:

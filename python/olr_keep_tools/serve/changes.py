@@ -16,7 +16,14 @@ from olr_keep_tools.serve.table import TableError
 
 ASKED = re.compile(r"changes(?:,([0-9]{1,18}))?|health|metrics|GET /metrics HTTP/1\.[01]")
 PAGE = 1000
+BLOCK = 1 << 16
 WAIT = 30.0  # seconds for the first line
+
+
+async def until_end(reader: asyncio.StreamReader) -> None:
+    """Waits until a connection has ended its input. What it sends is not looked at."""
+    while await reader.read(BLOCK):
+        pass
 
 
 class Readers:
@@ -65,7 +72,7 @@ class Readers:
 
     async def _follow(self, reader: asyncio.StreamReader, writer: asyncio.StreamWriter, position: Optional[int]) -> None:
         """Writes changes as they are made; to a reader that has ended its input, all that there are."""
-        gone = asyncio.ensure_future(reader.read())
+        gone = asyncio.ensure_future(until_end(reader))
         try:
             whole = await self.keeper.read(start_of(position))
             if whole is not None:

@@ -4,10 +4,10 @@ import time
 from typing import Callable, Deque, List, Protocol
 
 from olr_keep_tools.serve.framing import NoReply, Replies
-from olr_keep_tools.serve.jobs import Change, Job, Kind, Owner
+from olr_keep_tools.serve.jobs import WEIGHT, Change, Job, Kind, Owner
 from olr_keep_tools.serve.program import Program
 
-LEAST_WINDOW, FIRST_WINDOW, MOST_WINDOW = 32, 1024, 1 << 17  # records whose replies are awaited
+LEAST_WINDOW, FIRST_WINDOW, MOST_WINDOW = 32, 1024, WEIGHT  # records whose replies are awaited
 AHEAD, MEASURED = 0.1, 0.05  # seconds of work that are passed to the program; after how many it is measured how many these are
 PAUSE = 0.01  # seconds without a record, after which it is measured anew
 MOST_BYTES = 4 << 20
@@ -42,7 +42,8 @@ class Counts:
 
 class Exchange:
     """Jobs that wait, jobs that were sent, and the window: how many records are sent before their replies have arrived. It is
-    what the program carries out in a moment, so that it never waits, and a connection that sends many holds up no other for long."""
+    what the program carries out in a moment, so that it never waits, and a connection that sends many holds up no other for long. A
+    question about all that there is fills the window."""
 
     def __init__(self, publish: Callable[[List[Change], str], None], may_send: Callable[[], bool]) -> None:
         self.publish, self.may_send = publish, may_send
@@ -102,7 +103,7 @@ class Exchange:
             self.last_progress = self.last_end = now
         job.sent_at = now
         self.sent.append(job)
-        self.awaited += job.count
+        self.awaited += job.weight
         self.awaited_bytes += len(job.text)
         source.sent(len(job.text))
         return job.text
@@ -131,7 +132,7 @@ class Exchange:
 
     def _finish(self, job: Job, now: float) -> None:
         """A job has all its replies."""
-        self.awaited -= job.count
+        self.awaited -= job.weight
         self.awaited_bytes -= len(job.text)
         self.counts.add(job, max(job.sent_at, self.last_end), now)
         self.last_end = now

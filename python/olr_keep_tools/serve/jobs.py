@@ -10,6 +10,8 @@ from olr_keep_tools.serve.framing import Span
 FAULT = re.compile(rb"^fault,([^\n]*)\n", re.M)
 REJECTED_COUNT = COUNT_DIFFERS + b"\n"
 SHOWN = 100
+# Questions about all that there is. One counts as so many records while its reply is awaited.
+ABOUT_ALL, WEIGHT = (b"report", b"dump", b"ambiguous", b"compact"), 1 << 17
 
 
 class Kind(enum.Enum):
@@ -61,6 +63,12 @@ class Job:
     rejected: int = 0
     cause: bytes = b""  # of a batch: the first change that was rejected, and its fault
     changes: List[Change] = field(default_factory=list)
+
+    @property
+    def weight(self) -> int:
+        """How many records it counts as while its replies are awaited."""
+        is_about_all = self.kind is Kind.QUESTION and self.text.rstrip(b"\n").partition(b",")[0] in ABOUT_ALL
+        return WEIGHT if is_about_all else self.count
 
     def next_most(self) -> int:
         """How many of the next replies may be taken together."""

@@ -141,7 +141,7 @@ class Keeper:
         try:
             self.table, self.is_right = self.make(), False
             self._tell(self.events.needs_all)
-        except (TableError, OSError) as error:
+        except Exception as error:  # whatever it is: without this thread nothing more would be carried out
             self._fail(error)
 
     def _fail(self, error: Exception) -> None:
@@ -158,7 +158,7 @@ class Keeper:
         if self.table and self.is_right:
             try:
                 self.table.write(entries)
-            except TableError as error:
+            except Exception as error:
                 self._fail(error)
         self._tell_written(len(entries))
 
@@ -168,7 +168,7 @@ class Keeper:
             try:
                 self.table.set_all(whole.answers, whole.user)
                 self.is_right = True
-            except TableError as error:
+            except Exception as error:
                 self._fail(error)
         self._tell_written(len(whole.answers))
 
@@ -187,8 +187,8 @@ class Keeper:
             if self.table is None or not self.is_right:
                 raise TableError("the table is not written at the moment")
             self._tell(_set_result, read.future, read.ask(self.table))
-        except TableError as error:
-            self._tell(_set_error, read.future, error)
+        except Exception as error:
+            self._tell(_set_error, read.future, TableError(str(error)))
 
     def _tell(self, function: Callable[..., None], *arguments: Any) -> None:
         """Calls a function in the loop."""

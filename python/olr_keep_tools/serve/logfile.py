@@ -11,6 +11,7 @@ ADDS = {"nodes": (b"\nnode,", b"\ndrop-node,"), "lines": (b"\nline,", b"\ndrop-l
 OWN = bytes(it for it in range(32, 127) if it != ord('"')) + b"\n"
 CUT_OFF = "its last line has no end: the file was cut off"
 MOST_FEWER = 1.0  # percent
+NOT_SERVED = 5  # the exit status
 ALWAYS_ALLOWED = 10  # records that may be missing whatever the percentage
 
 
@@ -56,6 +57,14 @@ class Scan:
     def __init__(self, name: str) -> None:
         self.name = name
         self.contents, self.at, self.inode = Contents(), 0, 0
+
+    def is_continued(self) -> bool:
+        """Whether the log is the file that was counted, and has not become shorter."""
+        try:
+            status = os.stat(self.name)
+        except OSError:
+            return False
+        return status.st_ino == self.inode and status.st_size >= self.at
 
     def update(self) -> Contents:
         """What the log has now, up to its last whole record."""
@@ -121,6 +130,11 @@ def look(log: str, most_fewer: float = MOST_FEWER) -> List[Finding]:
     return findings + fewer(log, found, read_last(log), most_fewer)
 
 
+def refusal(log: str) -> str:
+    """What is said of a log that is not served."""
+    return f"{log} is not served: look at it, and serve it with --accept if it is right"
+
+
 def fewer(log: str, now: Contents, last: Optional[Last], most_fewer: float) -> List[Finding]:
     """Whether a log leads to fewer records or paths than when it was last served."""
     if last is None:
@@ -135,8 +149,8 @@ def fewer(log: str, now: Contents, last: Optional[Last], most_fewer: float) -> L
 
 
 def own_findings(read: Callable[[int], bytes]) -> List[Finding]:
-    """What is wrong with a log that the program wrote. Its records end at the first carriage return: behind it there may be one
-    group that was being written when the program was killed, up to the next carriage return, and nothing else."""
+    """What is wrong with a log that the program wrote. Its records end at the first carriage return: the last one may be cut there, as
+    the program was killed while it wrote, and nothing else follows."""
     at, is_padding, is_cut = 0, False, False
     while block := read(BLOCK):
         if not is_padding:

@@ -9,13 +9,12 @@ from typing import List
 
 from olr_keep_tools.command import STREAM, USAGE, Failure, command_line, say
 from olr_keep_tools.program import program_name
-from olr_keep_tools.serve.logfile import MOST_FEWER, look
+from olr_keep_tools.serve.logfile import MOST_FEWER, NOT_SERVED, look, refusal
 from olr_keep_tools.serve.notify import Systemd, passed_sockets
+from olr_keep_tools.serve.program import STARTED
 from olr_keep_tools.serve.service import Service, Settings
 from olr_keep_tools.serve.sockets import listening
 from olr_keep_tools.serve.table import is_url
-
-NOT_SERVED = 5
 
 
 def mode(text: str) -> int:
@@ -85,28 +84,30 @@ def make(log: str, name: str, program: List[str]) -> None:
     """Makes a log from a file of records. Nothing is left if that fails."""
     if os.path.lexists(log):
         raise Failure(USAGE, f"{log} is there, and stays as it is")
-    for why in check(name, 100.0):
-        raise Failure(NOT_SERVED, f"{name}: {why}")
     beside = f"{log}.making"
     try:
+        for why in look(name, 100.0):
+            raise Failure(NOT_SERVED, f"{name}: {why.text}")
         shutil.copyfile(name, beside)
         ended = subprocess.run([*program, "-l", beside], stdin=subprocess.DEVNULL, capture_output=True, text=True, check=False)
         said = ended.stderr.strip().replace(beside, name).replace("olr-keep: ", "")
         if ended.returncode:
             raise Failure(NOT_SERVED if ended.returncode == NOT_SERVED else STREAM, f"{said or 'the program failed'}")
+        if not STARTED.search(ended.stderr):
+            raise Failure(STREAM, f"{program[0]} is not olr-keep")
         os.link(beside, log)
-        say(f"{log} is made: {said.splitlines()[-1] if said else ''}")
+        say(f"{log} is made: {said.splitlines()[-1]}")
     except FileExistsError:
         raise Failure(USAGE, f"{log} is there, and stays as it is") from None
     except OSError as error:
-        raise Failure(STREAM, f"{error.filename}: {error.strerror}") from None
+        raise Failure(STREAM, f"{error.filename if error.filename in (name, program[0]) else log}: {error.strerror}") from None
     finally:
         for left in (beside, f"{beside}.lock"):
             if os.path.lexists(left):
                 os.unlink(left)
 
 
-def settings_of(chosen: argparse.Namespace, program: List[str]) -> Settings:
+def settings_of(chosen: argparse.Namespace, program: List[str], accepted: List[str]) -> Settings:
     """How the service runs, with its sockets open."""
     passed = passed_sockets(os.environ)
     records = passed.get("records") or listening(chosen.socket or f"{chosen.log}.socket", chosen.mode, chosen.group)
@@ -114,7 +115,7 @@ def settings_of(chosen: argparse.Namespace, program: List[str]) -> Settings:
     command = [*program, "-l", chosen.log, "--lines", *(["--compact-at", chosen.compact_at] if chosen.compact_at else [])]
     table = chosen.table or f"{chosen.log}.published.sqlite"
     return Settings(chosen.log, command, table, chosen.notify, chosen.history, chosen.deadline, chosen.most_connections,
-                    chosen.most_waiting << 20, chosen.metrics, records, changes)
+                    chosen.most_waiting << 20, chosen.most_fewer, accepted, chosen.metrics, records, changes)
 
 
 async def serve(settings: Settings, systemd: Systemd) -> int:
@@ -136,5 +137,5 @@ def main(about: str) -> int:
         print(f"{chosen.log}: {'to be looked at' if found else 'nothing speaks against serving it'}")
         return NOT_SERVED if found else 0
     if found and not chosen.accept:
-        raise Failure(NOT_SERVED, f"{chosen.log} is not served: look at it, and serve it with --accept if it is right")
-    return asyncio.run(serve(settings_of(chosen, program), Systemd(os.environ)))
+        raise Failure(NOT_SERVED, refusal(chosen.log))
+    return asyncio.run(serve(settings_of(chosen, program, found), Systemd(os.environ)))

@@ -78,7 +78,7 @@ class Health:
         yield Metric("log_bytes", "gauge", "Size of the log.", size_of(self.log))
         yield Metric("log_records", "gauge", "Nodes and lines of the map.", self.records)
         yield Metric("compaction_age_seconds", "gauge", "Seconds since the log was replaced by a dump.",
-                     round(time.time() - self.compacted_at))
+                     max(0, round(time.time() - self.compacted_at)))
         yield Metric("paths", "gauge", "Registered paths.", self.paths)
         yield Metric("paths_refused", "gauge", "Paths that are not encodable.", self.refused)
         yield Metric("position", "gauge", "Position of the table.", self.position)

@@ -1,20 +1,23 @@
 """The program with its log, as a process of asyncio."""
 import asyncio
+import collections
 import contextlib
 import ctypes
 import fcntl
 import re
 import signal
-from typing import Any, Callable, List, NamedTuple, Optional, Protocol
+from typing import Any, Callable, Deque, List, NamedTuple, Optional, Protocol
 
 PIPE_SIZE = 1 << 20
 PR_SET_PDEATHSIG = 1
+PRCTL = ctypes.CDLL(None).prctl  # looked up here, since little may be done between fork and exec
 STARTED = re.compile(r"olr-keep: .* has \d+ records? and \d+ paths?")
 ENDING = 4096  # bytes of a message that is kept until its line ends
+LAST_MESSAGES = 2  # the cause, and what follows from it
 
 
 class Ended(NamedTuple):
-    """How the program ended: its status, negative after a signal, and its last message."""
+    """How the program ended: its status, negative after a signal, and its last messages."""
 
     status: int
     message: str
@@ -39,7 +42,7 @@ def dies_with_service() -> None:
     """Called in the new process: it is killed when the service dies, so that it doesn't hold the log any longer. A file that grows
     beyond a limit is a failed write, and no signal."""
     signal.signal(signal.SIGXFSZ, signal.SIG_IGN)
-    ctypes.CDLL(None).prctl(PR_SET_PDEATHSIG, signal.SIGKILL)
+    PRCTL(PR_SET_PDEATHSIG, signal.SIGKILL)
 
 
 class Program(asyncio.SubprocessProtocol):
@@ -49,7 +52,8 @@ class Program(asyncio.SubprocessProtocol):
         self.reader, self.say = reader, say
         self.transport: Optional[asyncio.SubprocessTransport] = None
         self.input: Optional[asyncio.WriteTransport] = None
-        self.messages, self.last_message = b"", ""
+        self.messages = b""
+        self.last_messages: Deque[str] = collections.deque(maxlen=LAST_MESSAGES)
 
     @classmethod
     async def start(cls, command: List[str], reader: Reader, say: Callable[[str], None]) -> "Program":
@@ -97,12 +101,14 @@ class Program(asyncio.SubprocessProtocol):
         *lines, self.messages = (self.messages + data).split(b"\n")
         self.messages = self.messages[-ENDING:]
         for it in lines:
-            self.last_message = it.decode("utf-8", "replace")
-            self.say(self.last_message)
+            message = it.decode("utf-8", "replace")
+            self.say(message)
+            self.last_messages.append(message.replace("olr-keep: ", "", 1))
+            if STARTED.match(message):
+                self.last_messages.clear()
 
     def connection_lost(self, error: Optional[Exception]) -> None:
         assert self.transport is not None
         status = self.transport.get_returncode()
-        message = "" if STARTED.fullmatch(self.last_message) else self.last_message.replace("olr-keep: ", "", 1)
         self.transport.close()
-        self.reader.take_end(Ended(-signal.SIGKILL if status is None else status, message))
+        self.reader.take_end(Ended(-signal.SIGKILL if status is None else status, "; ".join(self.last_messages)))

@@ -14,7 +14,7 @@ from olr_keep_tools.serve.exchange import Exchange
 from olr_keep_tools.serve.framing import NoReply
 from olr_keep_tools.serve.jobs import Change, Job, Kind
 from olr_keep_tools.serve.keeper import Events, Keeper
-from olr_keep_tools.serve.logfile import Contents, Last, Scan, read_last, write_last
+from olr_keep_tools.serve.logfile import NOT_SERVED, Contents, Last, Scan, look, read_last, refusal, write_last
 from olr_keep_tools.serve.metrics import Health, State, size_of, write_metrics
 from olr_keep_tools.serve.notify import Systemd
 from olr_keep_tools.serve.program import Ended, Program
@@ -41,6 +41,8 @@ class Settings:
     deadline: Optional[float]  # seconds for a reply; by the size of the log if None
     connections: int
     waiting: int
+    most_fewer: float
+    accepted: List[str]  # what speaks against serving the log, and is right
     metrics: str
     records_socket: socket.socket
     changes_socket: socket.socket
@@ -200,7 +202,7 @@ class Service:
                 ended.cancel()
                 break
             pause = FIRST_PAUSE if time.monotonic() - self.began > GOOD_RUN else min(2 * pause, LONGEST_PAUSE)
-            final = self.take_program_end(ended.result())
+            final = self.take_program_end(ended.result()) or await self.look_again()
             if final:
                 status = final
                 break
@@ -220,7 +222,12 @@ class Service:
         try:
             self.program = await Program.start(self.settings.command, self, print_message)
         except OSError as error:
-            raise Failure(STREAM, f"{self.settings.command[0]}: {error.strerror}") from None
+            text = f"{self.settings.command[0]}: {error.strerror}"
+            if not self.was_loaded:
+                raise Failure(STREAM, text) from None
+            # As while it is being installed.
+            self.ended.put_nowait(Ended(STREAM, text))
+            return
         self.exchange.connect(self.program)
         self.exchange.turns.clear()
         self.questions.ask()
@@ -257,6 +264,21 @@ class Service:
         say(f"{ended.text()}; it is started again")
         self.systemd.tell(f"STATUS={ended.text()}; it is started again")
         return 0
+
+    async def look_again(self) -> int:
+        """Looks at the log before another program begins with it. Returns the status with which the service has to end if it is not
+        what was served, or 0."""
+        try:
+            if self.was_loaded and self.scan.is_continued():
+                # What was carried out since is no finding.
+                await self.note_contents()
+            found = await asyncio.get_running_loop().run_in_executor(None, look, self.settings.log, self.settings.most_fewer)
+        except OSError:
+            return 0  # the program says it
+        wrong = [it.text for it in found if it.text not in self.settings.accepted]
+        for text in [*wrong, refusal(self.settings.log)] if wrong else []:
+            say(text)
+        return NOT_SERVED if wrong else 0
 
     def reload(self) -> None:
         """Starts the program again, when it has answered all that was sent to it. Connections stay."""
@@ -305,7 +327,10 @@ class Service:
     async def tick(self) -> None:
         """Looks at deadlines, tells systemd, and notes what is known of the log."""
         while True:
+            before = time.monotonic()
             await asyncio.sleep(TICK)
+            # No deadline counts the time in which this process, or the machine, was stopped.
+            self.exchange.last_progress += max(0.0, time.monotonic() - before - 2 * TICK)
             self.check_deadline()
             words = ["WATCHDOG=1"] if self.systemd.watchdog else []
             if self.health.state is State.LOADING:
@@ -348,8 +373,7 @@ class Service:
         """Notes what is known of the log, and writes the metrics."""
         try:
             if self.health.state in (State.SERVING, State.STOPPING):
-                async with self.noting:
-                    self.note_log(await asyncio.get_running_loop().run_in_executor(None, self.scan.update), seconds)
+                await self.note_contents(seconds)
                 self.systemd.tell(f"STATUS={self.status()}")
             if self.settings.metrics:
                 write_metrics(self.settings.metrics, self.current_health().prometheus())
@@ -357,6 +381,11 @@ class Service:
             say(f"{error.filename or self.settings.log}: {error.strerror}")
         finally:
             self.noted_at = time.monotonic()
+
+    async def note_contents(self, seconds: float = 0.0) -> None:
+        """Counts what the log has, and notes it."""
+        async with self.noting:
+            self.note_log(await asyncio.get_running_loop().run_in_executor(None, self.scan.update), seconds)
 
     def note_log(self, found: Contents, seconds: float) -> None:
         """Notes what the log has, for the next start."""

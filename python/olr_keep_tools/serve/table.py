@@ -5,6 +5,7 @@ row for each change, by position, from 1; the answer of a dropped path is `dropp
 one transaction.
 """
 import contextlib
+import select
 import sqlite3
 import time
 from typing import Any, Dict, Iterable, List, NamedTuple, Protocol, Sequence, Tuple, Type
@@ -13,12 +14,14 @@ from olr_keep_tools.serve.jobs import Change
 
 try:
     import psycopg2
+    import psycopg2.extensions
     import psycopg2.extras
 except ImportError:
     psycopg2 = None
 
 DROPPED = "dropped"
 ROWS = 1000
+ANSWERS = 60.0  # seconds in which a database has to answer
 TABLES = """
 create table if not exists published (name text primary key, answer text not null, changed text not null,
     "user" text not null, position bigint not null);
@@ -87,12 +90,22 @@ class SQLite:
         self.file.close()
 
 
+def wait(connection: Any) -> None:
+    """Waits for the answer of a database, and not for ever: one that was stopped keeps its connections."""
+    while (state := connection.poll()) != psycopg2.extensions.POLL_OK:
+        files, none = [connection.fileno()], []  # type: List[int], List[int]
+        reads = state == psycopg2.extensions.POLL_READ
+        if not any(select.select(files if reads else none, none if reads else files, none, ANSWERS)):
+            raise psycopg2.OperationalError(f"the database hasn't answered for {ANSWERS:.0f} seconds")
+
+
 class PostgreSQL:
     """Tables in the first schema of the search path of a database."""
 
     def __init__(self, url: str) -> None:
         if psycopg2 is None:
             raise TableError("for PostgreSQL install Debian's python3-psycopg2, and run this with /usr/bin/python3")
+        psycopg2.extensions.set_wait_callback(wait)
         self.failures: Tuple[Type[BaseException], ...] = (psycopg2.Error,)
         self.connection = psycopg2.connect(
             url, connect_timeout=10, application_name="olr-keep-serve", keepalives_idle=10, keepalives_interval=5,

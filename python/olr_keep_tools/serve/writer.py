@@ -5,7 +5,7 @@ import pwd
 import socket
 import struct
 from dataclasses import dataclass, field
-from typing import Deque, List, Optional, Set, Union
+from typing import Deque, Optional, Set, Union
 
 from olr_keep_tools.serve.exchange import Exchange
 from olr_keep_tools.serve.faults import ACCEPTED, BATCH_FULL, BATCH_OPEN, COUNT_DIFFERS, Word, fault
@@ -28,6 +28,7 @@ class Limits:
     connections: int
     waiting: int  # bytes of open batches, and of the replies that one connection doesn't read
     open: "Set[Writer]" = field(default_factory=set)
+    refused: "Set[Writer]" = field(default_factory=set)  # connections that get the answer that there are too many
     held: int = 0  # bytes of open batches
     is_stopping: bool = False
 
@@ -36,9 +37,8 @@ class Limits:
 class Batch:
     """The changes of an open batch."""
 
-    texts: List[bytes] = field(default_factory=list)
+    text: bytearray = field(default_factory=bytearray)
     count: int = 0
-    size: int = 0
 
 
 def user_of(connection: socket.socket) -> str:
@@ -73,15 +73,23 @@ class Writer(asyncio.Protocol):
         assert isinstance(transport, asyncio.Transport)
         self.transport = transport
         if len(self.limits.open) >= self.limits.connections or self.limits.is_stopping:
-            why = "the service ends" if self.limits.is_stopping else f"{self.limits.connections} are open, and no more are taken"
-            transport.write(fault(Word.CONNECTIONS, why))
-            self.has_ended = True
-            # What it sends meanwhile is not read; so it isn't kept from reading why.
-            asyncio.get_running_loop().call_later(REFUSED_FOR, transport.close)
+            self._refuse(transport)
             return
         self.user = user_of(transport.get_extra_info("socket"))
         transport.set_write_buffer_limits(high=OUTPUT_HIGH)
         self.limits.open.add(self)
+
+    def _refuse(self, transport: asyncio.Transport) -> None:
+        """Says why this connection is not taken, unless as many are being answered: each has a file descriptor."""
+        self.has_ended = True
+        if len(self.limits.refused) >= self.limits.connections:
+            transport.abort()
+            return
+        self.limits.refused.add(self)
+        why = "the service ends" if self.limits.is_stopping else f"{self.limits.connections} are open, and no more are taken"
+        transport.write(fault(Word.CONNECTIONS, why))
+        # What it sends meanwhile is dropped; so it isn't kept from reading why.
+        asyncio.get_running_loop().call_later(REFUSED_FOR, transport.close)
 
     def data_received(self, data: bytes) -> None:
         if self.has_ended:
@@ -108,6 +116,7 @@ class Writer(asyncio.Protocol):
         # What was sent to the program is carried out; what was not, is not.
         self.has_ended = self.is_lost = True
         self.limits.open.discard(self)
+        self.limits.refused.discard(self)
         self._end_batch()
         for job in self.unsent:
             self.due.remove(job)
@@ -161,7 +170,7 @@ class Writer(asyncio.Protocol):
         elif piece.sort is Sort.COMMIT:
             self._commit(held, int(piece.text[7:]))
         elif piece.text.rstrip(b"\n") == b"preview":
-            self._offer(preview(self, b"".join(held.texts), held.count))
+            self._offer(preview(self, bytes(held.text), held.count))
         else:
             self._offer(Job(self, Kind.QUESTION, piece.text, 1))
 
@@ -174,8 +183,7 @@ class Writer(asyncio.Protocol):
             return
         if count < piece.count:
             text = b"".join(text.splitlines(True)[:count])
-        held.texts.append(text)
-        held.size += len(text)
+        held.text += text
         self.limits.held += len(text)
         replies = b"".join(b"held,%d\n" % it for it in range(held.count + 1, held.count + count + 1))
         held.count += count
@@ -187,12 +195,12 @@ class Writer(asyncio.Protocol):
         if count != held.count:
             self._say(COUNT_DIFFERS + b"\n")
         else:
-            self._offer(batch(self, b"".join(held.texts), held.count))
+            self._offer(batch(self, bytes(held.text), held.count))
 
     def _end_batch(self) -> None:
         """No batch is open any more."""
         if self.batch:
-            self.limits.held -= self.batch.size
+            self.limits.held -= len(self.batch.text)
         self.batch = None
 
     def _offer(self, job: Job) -> None:
@@ -217,12 +225,13 @@ class Writer(asyncio.Protocol):
             self.reply(text)
 
     def reply(self, text: bytes) -> None:
-        """Writes replies. A connection that doesn't read them is ended at the limit."""
+        """Writes replies. A connection that has not read as much as the limit before is ended."""
         if self.transport is None or self.is_lost or self.transport.is_closing():
             return
-        self.transport.write(text)
         if self.transport.get_write_buffer_size() > self.limits.waiting:
             self.transport.abort()
+        else:
+            self.transport.write(text)
 
     def finish(self, job: Job) -> None:
         """A job has all its replies. Of one that was sent in parts, the last part is the job itself."""
