@@ -94,7 +94,9 @@ class Case(Work):
             fail(f"{self.database}: {why}: {name} is {found}, and not over {streets}")
 
     def drop_sources(self):
-        """Removes all tables of streets but the first."""
+        """Compares, and removes all tables of streets but the first."""
+        if not self.verify():
+            fail(f"{self.database}: notes are left")
         self.save("select olr_keep.drop_streets(streets) from olr_keep.source where source > 1")
         self.expect("select count(*) from olr_keep.street where source > 1", 0, "streets of removed tables are there")
 
@@ -200,6 +202,14 @@ def one_save(server):
         if len(rounds) != 1 or rounds[0][1]:
             fail(f"one_save: the rounds are {rounds}")
         case.be("a", ">1 >2", False, "the street is split in three commits")
+        before = case.ask("select max(round) from olr_keep.round")[0][0]
+        end = time.monotonic() + 20
+        while case.ask(f"select count(*) from olr_keep.round where round > {before}") == [(0,)]:
+            if time.monotonic() > end:
+                fail("one_save: no round is made while saves follow each other")
+            case.do("update streets set class = 7 - class where id = 1")
+            time.sleep(0.05)
+        case.settle()
     print("live: a split saved in three commits is one round, with no refusal")
 
 
@@ -296,7 +306,17 @@ def during_attempt(server):
                 and datname = current_database() and state like 'idle in%'""", 1, "no attempt is under way")
             case.do("select olr_keep.release(hold) from olr_keep.held")
         case.expect("select count(*) from olr_keep.waiting", 0, "a release during an attempt is lost")
-    print("live: an undo and a release while a round is computed are not lost")
+        case.save(*comb(1, FAR))
+        before = case.texts()["p6200000"]
+        with paused(case, False):
+            case.do("update streets set class = 6")
+            case.expect("""select count(*) from pg_stat_activity where application_name = 'olr-keep live'
+                and datname = current_database() and state like 'idle in%'""", 1, "no attempt is under way")
+            case.do("select olr_keep.freeze('p6200000')")
+        case.settle()
+        if case.texts()["p6200000"] != before:
+            fail("during_attempt: a path that is frozen during an attempt has another string than then")
+    print("live: an undo, a release and a freeze while a round is computed are not lost")
 
 
 def frozen(server):
@@ -325,6 +345,83 @@ def frozen(server):
         case.begin()
         case.settle()
     print("live: freeze, restore and thaw; a preview uses up no numbers")
+
+
+def margins(case):
+    """The margins of the strings, by name."""
+    return dict(case.ask("select name, margin from olr_keep.string"))
+
+
+def margin(server):
+    """A margin is a round that has all strings which it changes; one that is frozen, or is published as it was, has its own."""
+    with Case(server, "margin") as case:
+        case.save(*comb(3))
+        first, number = case.texts(), case.ask("select max(round) from olr_keep.round")[0][0]
+        case.save("create role margins", "grant usage on schema olr_keep to margins", "grant update on olr_keep.margin to margins",
+                  "set local role margins", "update olr_keep.margin set classes = 1")
+        second = case.texts()
+        if case.ask(f"select changed, margin from olr_keep.round where round > {number}") != [(3, "0,1")] or not case.verify():
+            fail("margin: the strings are not changed in one round")
+        case.save("select olr_keep.freeze('p6100000')")
+        case.save("update olr_keep.margin set (routes, classes) = (50, 2)")
+        if (set(first.values()) & set(second.values()) or case.texts()["p6100000"] != second["p6100000"]
+                or margins(case) != {"p6100000": "0,1", "p6100001": "50,2", "p6100002": "50,2"}):
+            fail(f"margin: the strings have the margins {margins(case)}")
+        case.save(f"select olr_keep.restore({number}, '{{p6100001}}')")
+        if case.texts()["p6100001"] != first["p6100001"] or margins(case)["p6100001"] != "0,0":
+            fail(f"margin: after restore the strings have the margins {margins(case)}")
+        case.save(*(f"select olr_keep.thaw('p610000{k}')" for k in range(2)))
+        case.save("update olr_keep.margin set routes = 60")
+        if set(margins(case).values()) != {"60,2"} or not case.verify():
+            fail(f"margin: after one that changes no string they have {margins(case)}")
+        at_start(case, first)
+    held_margin(server)
+    print("live: a margin is one round, is previewed, held, released and taken back, and is there after a start")
+
+
+def at_start(case, first):
+    """A margin that is previewed, and then set while no process works: a preview shows it, and the start publishes it."""
+    command = [sys.executable, f"{TOP}/tools/live", "--preview", case.server.url(case.database), PROGRAM]
+    for options in (["--margin", "0,0"], []):
+        before = case.texts(), margins(case), case.ask("select * from olr_keep.counter order by 1")
+        shown = subprocess.run([*command, *options], capture_output=True, text=True, timeout=LIMIT, check=False)
+        if shown.stdout.splitlines() != sorted(f"{name},text,{text}" for name, text in first.items()) or shown.returncode:
+            fail(f"margin: a preview {options} prints {shown.stdout}{shown.stderr}")
+        if (case.texts(), margins(case), case.ask("select * from olr_keep.counter order by 1")) != before:
+            fail(f"margin: a preview {options} changes something")
+        if options:
+            case.stop()
+            case.do("update olr_keep.margin set (routes, classes) = (0, 0)")
+    case.begin()
+    case.settle()
+    if case.texts() != first or set(margins(case).values()) != {"0,0"}:
+        fail("margin: the start doesn't apply it")
+
+
+def held_margin(server):
+    """A margin that changes many strings is held as a whole; what is new has it at once; it is taken back, and released."""
+    with Case(server, "held_margin") as case:
+        case.save(*comb(120))
+        texts = case.texts()
+        case.do("update olr_keep.margin set classes = 1", "update streets set form = 2 where id = 6100007")
+        case.settle(held=True)
+        case.stop()
+        case.begin()
+        case.save(*comb(1, FAR))
+        found = case.ask("select changed, paths, users = array[session_user::text] from olr_keep.held")
+        if found != [(120, 120, True)] or margins(case) != {**dict.fromkeys(texts, "0,0"), "p6200000": "0,1"} or not case.verify():
+            fail(f"held_margin: held is {found}, and {sorted(set(margins(case).values()))} are the margins")
+        case.save("update olr_keep.margin set classes = 0", "update streets set form = 3 where id = 6100007")
+        if case.ask("select count(*) from olr_keep.waiting") != [(0,)] or not texts.items() <= case.texts().items():
+            fail("held_margin: a margin that is taken back still waits")
+        if set(margins(case).values()) != {"0,0"} or not case.verify():
+            fail("held_margin: a margin that is taken back is there")
+        case.do("update olr_keep.margin set classes = 1")
+        case.settle(held=True)
+        case.save("select olr_keep.release(hold) from olr_keep.held")
+        changed = case.ask("select changed from olr_keep.round order by round desc limit 1")
+        if changed != [(121,)] or set(margins(case).values()) != {"0,1"}:
+            fail("held_margin: what is released is not published in one round")
 
 
 EDITS = ("delete from {}.streets where id = 6100000",
@@ -450,8 +547,9 @@ def expressions(server):
         found = {it for (it,) in case.ask("select left(street, 3) from olr_keep.line")}
         if {it for it in found if it[0] != "c"} != {"a%1", "bf1", "d1", "e1"} or len(found) != 5:
             fail(f"expressions: the streets are {found}")
-        if case.ask("select count(*) from olr_keep.problem where street = 'e2' and words like 'invalid input%'") != [(1,)]:
-            fail("expressions: the row that can't be read is not listed")
+        if case.ask("""select count(*) from olr_keep.problem where street = 'e2' and words like 'invalid input%'
+                and geom is not null""") != [(1,)]:
+            fail("expressions: the row that can't be read is not listed with its place")
         case.do("alter table renamed rename id to number")
         case.do(row("renamed", "'2'", 1200))
         case.do(row("mine", "'2'", 1400))
@@ -461,18 +559,23 @@ def expressions(server):
         case.do("alter table renamed rename number to id")
         case.expect("select count(*) from olr_keep.line where street = 'd2'", 2, "what was saved meanwhile is missing")
         case.expect("select count(*) from olr_keep.problem where kind = 'table'", 0, "the table is listed though it can be read")
+        case.save("update casted set class = '4' where class = 'x'")
+        case.expect("select count(*) from olr_keep.problem where street = 'e2'", 0, "a row that can be read is listed")
         case.drop_sources()
     print("live: expressions with percent signs and functions, that fail, and a row that can't be read stop nothing else")
+
+
+LONG_ID = "(select string_agg(md5(k::text), '') from generate_series(1, 31250) as k)"  # of a million characters
 
 
 def tables(server):
     """Tables that are locked, renamed away, without a column, without rights, or with the ids of another one."""
     with Case(server, "tables", "--metrics", f"{server.folder}/tables.prom") as case:
         case.do(table("other"), "select olr_keep.add_streets('other')")
-        case.save(row("other", "'1'", 0), row("other", "''", 100), row("other", "null", 200), ROW +
+        case.save(row("other", "'1'", 0), row("other", "''", 100), row("other", "null", 200), row("other", LONG_ID, 300), ROW +
                   f"(1, 3, 3, 'both', {line(east(500), east(600))}), (2, 3, 3, 'both', {line(east(700), east(800))})")
-        words = sorted(it for (it,) in case.ask("select words from olr_keep.problem where source is not null"))
-        if len(words) != 2 or "2 rows of public.other have no id" not in words[0] or "same id" not in words[1]:
+        words = sorted(it for (it,) in case.ask("select words from olr_keep.problem where source is not null and geom is not null"))
+        if len(words) != 2 or "3 rows of public.other have no id" not in words[0] or "same id" not in words[1]:
             fail(f"tables: the problems are {words}")
         case.save("delete from streets where id = 1")
         if case.ask("select count(*) from olr_keep.line where street = '1'") != [(2,)]:
@@ -483,6 +586,8 @@ def tables(server):
         other.cursor().execute("truncate other")
         case.do("update streets set class = 5 where id = 2")
         case.expect("select class from olr_keep.street where street = '2'", 5, "an open TRUNCATE of one table stops another", 5)
+        case.expect("select count(*) from olr_keep.problem where kind = 'table' and words like '%locked%'", 1, "it is not listed", 25)
+        with_metric(case, "tables_unreadable 1")
         other.rollback()
         other.close()
         case.save(row("other", "'5'", 0))
@@ -522,8 +627,8 @@ def rights(server):
         case.do("create role live_role login", "grant usage on schema olr_keep to live_role",
                 "grant select, insert, update, delete on all tables in schema olr_keep to live_role",
                 "grant execute on function olr_keep.mend_triggers(int) to live_role",
-                table("closed"), "select olr_keep.add_streets('closed')", "grant select on streets, closed to live_role")
-        case.user = "live_role"
+                table("closed"), "select olr_keep.add_streets('closed')", *comb(3), "grant select on streets, closed to live_role")
+        case.do("revoke insert, delete on olr_keep.ambiguity from live_role")
         case.start_as("live_role", "--metrics", f"{server.folder}/rights.prom")
         case.save(row("closed", "'9'", 0), ROW + f"(1, 3, 3, 'both', {line(east(500), east(600))})")
         case.do("revoke select on closed from live_role", "update streets set class = 5", "update closed set class = '5'")
@@ -541,8 +646,53 @@ def rights(server):
         with_metric(case, "tables_without_triggers 1")
         case.do("grant execute on function olr_keep.mend_triggers(int) to live_role")
         with_metric(case, "tables_without_triggers 0")
+        with_metric(case, "restarts_total 0")
         case.drop_sources()
     print("live: rights that are revoked, and triggers that are lost, are listed and mended")
+
+
+def open_editor(server):
+    """Triggers that are lost while an editor's transaction is open: nobody waits for them to be made again."""
+    with Case(server, "open_editor") as case:
+        case.save(*comb(2))
+        other = server.connect("open_editor")
+        other.autocommit = False
+        case.do("drop trigger olr_keep_row on streets")
+        other.cursor().execute("update streets set class = 6 where id = 6100000")
+        longest, end = 0.0, time.monotonic() + 12
+        while time.monotonic() < end:
+            began = time.monotonic()
+            case.do("set local lock_timeout = '5s'", "update streets set class = 5 where id = 6100001")
+            longest = max(longest, time.monotonic() - began)
+            time.sleep(0.02)
+        other.commit()
+        case.expect("select count(*) from pg_trigger where tgrelid = 'streets'::regclass and tgenabled = 'A'", 3, "no triggers", 20)
+        case.expect("select array_agg(class order by street) from olr_keep.street", [6, 5], "what was saved meanwhile is missing", 20)
+        other.close()
+        if longest > 2:
+            fail(f"open_editor: a save waited for {longest:.1f} s")
+    print("live: triggers that are made again while a transaction is open hold up no save")
+
+
+def locked_paths(server):
+    """The table of paths is locked: the rounds wait, the log says so, the metrics are written, and then all is as it has to be."""
+    with Case(server, "locked_paths", "--metrics", f"{server.folder}/locked_paths.prom") as case:
+        case.save(*comb(2))
+        other = server.connect("locked_paths")
+        other.autocommit = False
+        other.cursor().execute("lock table olr_keep.path")
+        case.do("update streets set class = 5 where id = 6100001")
+        with_metric(case, "notes 1")
+        end = time.monotonic() + 20
+        while "olr_keep.path is locked" not in case.said():
+            if time.monotonic() > end:
+                fail("locked_paths: nobody says why the rounds wait")
+            time.sleep(0.2)
+        other.rollback()
+        other.close()
+        case.settle()
+        with_metric(case, "notes 0")
+    print("live: a lock on the table of paths is said, and the rounds go on after it")
 
 
 def parts(server):
@@ -686,8 +836,8 @@ def listens(server):
         fail("docs/LIVE.md: a consumer has to listen before it reads")
 
 
-CASES = (rights, parts, stopped, service_road, drift, two_roads, one_save, held_cluster, limits, during_attempt, frozen, draft, ambiguous,
-         bad_paths, expressions, tables, numbers, upgrade, listens)
+CASES = (rights, parts, stopped, open_editor, locked_paths, service_road, drift, two_roads, one_save, held_cluster, limits,
+         during_attempt, frozen, margin, draft, ambiguous, bad_paths, expressions, tables, numbers, upgrade, listens)
 
 
 def run_cases(server, times, names):

@@ -106,6 +106,11 @@ class Work:
         command = [sys.executable, f"{TOP}/tools/live", *options, url, PROGRAM]
         self.processes.append(subprocess.Popen(command, stderr=self.log, stdout=self.log, env=environment))
 
+    def said(self):
+        """What the processes of all databases have said."""
+        with open(f"{self.server.folder}/live.log", encoding="utf-8") as log:
+            return log.read()
+
     def stop(self):
         """Ends all processes."""
         for it in self.processes:
@@ -185,6 +190,8 @@ def verify_strings(cursor):
         from olr_keep.node
         union all select 'line,' || line || ',' || from_node || ',' || to_node || ',' || fields from olr_keep.line""")
     records = sorted((it for (it,) in cursor.fetchall()), reverse=True)
+    cursor.execute("select 'margin,' || routes || ',' || classes from olr_keep.margin")
+    records += [it for (it,) in cursor.fetchall()]
     cursor.execute("""select name, coalesce(waiting.text, case when waiting.reason is null then string.text end),
             coalesce(waiting.reason, case when waiting.text is null then string.reason end), lines, start_offset, end_offset,
             (select count(*) from olr_keep.path where path.name = string.name)
@@ -205,24 +212,40 @@ def verify_strings(cursor):
     if "fault" in output:
         fail(f"the tables' map is rejected: {output[output.index('fault'):][:60]}")
     found = output.splitlines()[-len(wanted) :] if wanted else []
+    cursor.execute("""select name, string.margin, routes || ',' || classes from olr_keep.string cross join olr_keep.margin
+        where string.margin <> routes || ',' || classes and name not in (select name from olr_keep.waiting)""")
+    if others := cursor.fetchall():
+        fail(f"strings have another margin than is set: {others[:4]}")
     differing = set(found) ^ set(wanted.values())
     if differing:
         fail(f"strings differ from those of a program from nothing: {sorted(differing)[:4]}")
 
 
-def verify_map(cursor):
-    """Fails unless the lines are those of the editors' table, cut at its junctions."""
-    cursor.execute("""select id, class, form, direction, ST_AsText(part, 7) from (
+def rows_of(cursor, prefix, streets, key, frc, fow, direction, geom, path):
+    """The parts of the streets of a table that can be lines: (id, class, form, direction, text of the geometry)."""
+    cursor.execute(f"set local search_path = {path}")
+    cursor.execute(f"""with street as (
+            select ({key})::text as id, ({frc})::text as class, ({fow})::text as form, ({direction})::text as direction, ({geom}) as geom
+            from {streets}
+        )
+        select '{prefix}' || id, class::int, form::int, direction, ST_AsText(part, 7) from (
             select *,
                 (ST_Dump(ST_Force2D(case when ST_SRID(geom) = 4326 then geom else ST_Transform(geom, 4326) end))).geom as part
-            from streets
-            where class between 0 and 7 and form between 0 and 7 and direction in ('both', 'along', 'against')
+            from street
+            where class ~ '^[0-7]$' and form ~ '^[0-7]$' and direction in ('both', 'along', 'against')
                 and ST_SRID(geom) <> 0 and ST_GeometryType(geom) in ('ST_LineString', 'ST_MultiLineString')
-                and not ST_IsEmpty(geom)
-                and id not in (select id from streets group by id having count(*) > 1)
+                and not ST_IsEmpty(geom) and octet_length(id) between 1 and 1000
+                and id not in (select id from street where id is not null group by id having count(*) > 1)
         ) as it""")
+    return cursor.fetchall()
+
+
+def verify_map(cursor):
+    """Fails unless the lines are those of the editors' tables, cut at their junctions."""
+    cursor.execute("select prefix, streets, id, class, form, direction, geom, search_path from olr_keep.source")
+    found = [it for source in cursor.fetchall() for it in rows_of(cursor, *source)]
     rows, wrong, counts = [], set(), collections.Counter()
-    for key, frc, fow, direction, text in cursor.fetchall():
+    for key, frc, fow, direction, text in found:
         points = points_of(text)
         points = [it for k, it in enumerate(points) if k == 0 or it != points[k - 1]]
         if not all(-180 <= lon < 180 and -90 < lat < 90 for lon, lat in points):

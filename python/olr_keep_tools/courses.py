@@ -29,6 +29,7 @@ CELL = 0.002  # degrees of the cells by which the lines near a place are found
 START, END = "start", "end"
 
 Place = Tuple[float, float]
+Box = Tuple[float, float, float, float]
 Label = Union[str, Tuple[int, float]]
 Step = Tuple[Optional[int], float, float]
 
@@ -161,23 +162,35 @@ class Plane:
 
 
 class Strip(Polyline):
-    """A polyline with a grid, by which its segments near a point are found: each cell has those in it and in its neighbours."""
+    """A polyline with a grid, by which its segments near a point are found: each cell has those in it."""
 
     def __init__(self, points: List[Place], cell: float) -> None:
         super().__init__(points)
         self.cell = cell
-        self.cells: Dict[Tuple[int, int], List[int]] = defaultdict(list)
+        self.cells: Dict[Tuple[float, float], List[int]] = defaultdict(list)
         for k, (a, b) in enumerate(zip(points, points[1:])):
-            for it in {(x + i, y + j) for x, y in cells_along(a, b, cell) for i in (-1, 0, 1) for j in (-1, 0, 1)}:
+            for it in cells_along(a, b, cell):
                 self.cells[it].append(k)
 
-    def segments_near(self, point: Place) -> Sequence[int]:
-        """The segments near a point, up to the size of a cell from it."""
-        return self.cells.get((int(point[0] // self.cell), int(point[1] // self.cell)), ())
+    def segments_near(self, point: Place, metres: Optional[float] = None) -> Sequence[int]:
+        """The segments near a point: all up to this distance from it, or, without one, up to the size of a cell."""
+        (x, y), cell, cells = point, self.cell, self.cells
+        far = cell if metres is None else metres
+        low, right, bottom, top = (x - far) // cell, (x + far) // cell, (y - far) // cell, (y + far) // cell
+        if low == right and bottom == top:
+            return cells.get((low, bottom), ())
+        found: Set[int] = set()
+        while low <= right:
+            high = bottom
+            while high <= top:
+                found.update(cells.get((low, high), ()))
+                high += 1
+            low += 1
+        return sorted(found)
 
     def is_near(self, point: Place, metres: float) -> bool:
-        """Whether a point is within this distance, which is at most the size of a cell."""
-        return any(far <= metres for far, _ in self.project(point, self.segments_near(point)))
+        """Whether a point is within this distance."""
+        return any(far <= metres for far, _ in self.project(point, self.segments_near(point, metres)))
 
 
 class Network:
@@ -188,7 +201,8 @@ class Network:
         self.lines: Dict[int, Line] = {}
         self.leaving: Dict[int, List[int]] = defaultdict(list)
         self.nodes: Dict[int, Place] = {}
-        self.cells: Dict[Tuple[int, int], Set[int]] = defaultdict(set)
+        self.boxes: Dict[int, Box] = {}
+        self.cells: Dict[Tuple[float, float], List[int]] = defaultdict(list)
         self.add(lines)
 
     def add(self, lines: Mapping[int, Line]) -> None:
@@ -198,22 +212,23 @@ class Network:
                 self.lines[number], points = line, line.points
                 self.leaving[line.start].append(number)
                 self.nodes[line.start], self.nodes[line.end] = points[0], points[-1]
-                for a, b in zip(points, points[1:]):
-                    for it in cells_along(a, b, CELL):
-                        self.cells[it].add(number)
+                lons, lats = zip(*points)
+                self.boxes[number] = box = min(lons), min(lats), max(lons), max(lats)
+                low, bottom, right, top = box[0] // CELL, box[1] // CELL, box[2] // CELL, box[3] // CELL
+                if low == right and bottom == top:
+                    self.cells[low, bottom].append(number)
+                else:
+                    for it in set().union(*(cells_along(a, b, CELL) for a, b in zip(points, points[1:]))):
+                        self.cells[it].append(number)
 
     def near(self, place: Place, east: float, north: float) -> List[int]:
         """The lines whose boxes are within these degrees of a place on both axes."""
         lon, lat = place
-        low, high, bottom, top = (int(it // CELL) for it in (lon - east, lon + east, lat - north, lat + north))
+        w, s, e, n = lon - east, lat - north, lon + east, lat + north
+        low, high, bottom, top = (int(it // CELL) for it in (w, e, s, n))
         found = set().union(*(self.cells.get((x, y), ()) for x in range(low, high + 1) for y in range(bottom, top + 1)))
-        return sorted(it for it in found if is_in_box(self.lines[it].points, place, east, north))
-
-
-def is_in_box(points: Sequence[Place], place: Place, east: float, north: float) -> bool:
-    """Whether a place is within these degrees of the box of points on both axes."""
-    lons, lats = zip(*points)
-    return bool(min(lons) - east <= place[0] <= max(lons) + east and min(lats) - north <= place[1] <= max(lats) + north)
+        boxes = ((it, self.boxes[it]) for it in found)
+        return sorted(it for it, box in boxes if box[0] <= e and box[2] >= w and box[1] <= n and box[3] >= s)
 
 
 class Ends(NamedTuple):
@@ -274,17 +289,21 @@ class Follower:
 
     def positions_of(self, node: int) -> List[float]:
         """The positions along the course at which it passes a node: of each pass the nearest one, and its end, if that is near."""
-        if node not in self.positions:
+        found = self.positions.get(node)
+        if found is None:
             point = self.node(node)
             found = self.passes(point)
             if math.dist(point, self.course.points[-1]) <= self.tolerance:
                 found = sorted({*found, self.course.length})
             self.positions[node] = found
-        return self.positions[node]
+        return found
 
     def passes(self, point: Place) -> List[float]:
         """The positions along the course at which it passes a point."""
-        near = [(at, far) for far, at in self.course.project(point, self.course.segments_near(point)) if far <= self.tolerance]
+        segments = self.course.segments_near(point, self.tolerance)
+        if not segments:
+            return []
+        near = [(at, far) for far, at in self.course.project(point, segments) if far <= self.tolerance]
         passes: List[Tuple[float, float, float]] = []
         for at, far in sorted(near):
             if passes and at - passes[-1][2] <= 2 * self.tolerance:
@@ -369,6 +388,8 @@ class Follower:
         """The labels that a line leads to from a distance along it, where the course is at this position."""
         node = self.lines[number].end
         for high in self.positions_of(node):
+            if low - high > SNAP:
+                continue
             cost = self.cost(number, begin, self.shape(number).length, low, high)
             if cost is not None:
                 yield cost, (node, high), (number, begin, 0.0)
@@ -404,8 +425,9 @@ class Follower:
             if last <= self.tolerance and self.course.length - low <= 2 * self.tolerance and best[label].step:
                 relax(cost + last * last, END, (None, 0.0, 0.0), label)
             for number in self.network.leaving.get(node, ()):
-                for more, after, step in self.steps(number, 0.0, low):
-                    relax(cost + more, after, step, label)
+                if self.positions_of(self.lines[number].end):
+                    for more, after, step in self.steps(number, 0.0, low):
+                        relax(cost + more, after, step, label)
                 if number in ends[END]:
                     for more, step in self.last_step(number, 0.0, ends[END][number], low):
                         relax(cost + more, END, step, label)

@@ -1,6 +1,7 @@
 """A computation in a process of its own, which shares what this one has in memory, and nothing else."""
 from __future__ import annotations
 
+import gc
 import os
 import pickle
 import select
@@ -26,6 +27,7 @@ class Forked(Generic[Result]):
     def run(self, work: Callable[[], Result], writing: int) -> None:
         """What the child does: it never returns."""
         status = 1
+        gc.disable()
         try:
             for it in (signal.SIGTERM, signal.SIGINT):
                 signal.signal(it, signal.SIG_DFL)

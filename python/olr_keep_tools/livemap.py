@@ -9,7 +9,7 @@ from typing import Any, Collection, Dict, Iterable, List, Mapping, Optional, Seq
 from .geo import METRES
 from .livesession import psycopg2
 from .liveread import Block
-from .pathlines import number_array, text_array
+from .pathlines import number_array, point, text_array
 from .streets import Cut, Made, Old, Parts, Recut, Street, degrees, wkb_hex
 
 FEW = 100  # changed streets up to which each is compared with the paths that are lost
@@ -272,8 +272,8 @@ class MapUpdate:
         """Writes which streets can't be lines."""
         self.cursor.execute("delete from olr_keep.problem where street = any(%s::text[]) and kind = 'street'",
                             (text_array(self.keys),))
-        copy(self.cursor, "problem", "street, source, words",
-             ((key, it.source, it.street.words) for key, it in self.rows.items() if not isinstance(it.street, Street)))
+        unfit = ((key, it.source, it.street) for key, it in self.rows.items() if not isinstance(it.street, Street))
+        copy(self.cursor, "problem", "street, source, words, geom", ((*it, why.words, point(why.place)) for *it, why in unfit))
 
     def write_open_ends(self, cut: Cut) -> None:
         """Writes which ends of streets nearly touch another street: among the nodes of the lines that changed, and those near."""
@@ -284,20 +284,13 @@ class MapUpdate:
         lines.update(((it.street, it.part, it.k), number) for number, (it, _) in cut.changed.items())
         values = {**reach(max(abs(box[1]), abs(box[3]))), "nodes": number_array({*cut.ends, *cut.through, *cut.dropped_nodes}),
                   "lines": number_array(lines.values()), "w": box[0], "s": box[1], "e": box[2], "n": box[3]}
-        write_open_ends(self.cursor, CHANGED_NODES, values)
+        self.cursor.execute(OPEN_ENDS.format(CHANGED_NODES), values)
 
 
 def write_all_open_ends(cursor: Any) -> None:
     """Writes which ends of streets nearly touch another street, of the whole map."""
     cursor.execute("analyze olr_keep.node, olr_keep.line; select max(abs(ST_Y(geom))) from olr_keep.node where is_end")
-    write_open_ends(cursor, ALL_NODES, reach(cursor.fetchone()[0] or 0.0))
-
-
-def write_open_ends(cursor: Any, nodes: str, values: Mapping[str, object]) -> None:
-    """Writes which of the nodes that a query finds are ends that nearly touch another street."""
-    for statement in ("create temporary table if not exists checked (node bigint primary key) on commit delete rows",
-                      "delete from checked", f"insert into checked {nodes} on conflict do nothing", *OPEN_ENDS):
-        cursor.execute(statement, values)
+    cursor.execute(OPEN_ENDS.format(ALL_NODES), reach(cursor.fetchone()[0] or 0.0))
 
 
 def reach(lat: float) -> Dict[str, object]:
@@ -314,9 +307,10 @@ CHANGED_NODES = """select unnest(%(nodes)s::bigint[])
         where line = any(%(lines)s::bigint[])"""
 ALL_NODES = """select node from olr_keep.node where is_end
     union select node from olr_keep.problem where node is not null"""
-OPEN_ENDS = (
-    "delete from olr_keep.problem where node in (select node from checked)",
-    """insert into olr_keep.problem (kind, node, street, words, geom)
+OPEN_ENDS = """with checked(node) as materialized ({}), gone as (
+        delete from olr_keep.problem where node in (select node from checked)
+    )
+    insert into olr_keep.problem (kind, node, street, words, geom)
     select 'open end', node.node, own.street,
         format('an end is %%s m from street %%s, without a common vertex', round(far::numeric, 2), other.street), node.geom
     from checked join olr_keep.node on node.node = checked.node and is_end
@@ -327,8 +321,7 @@ OPEN_ENDS = (
         select street, ST_Distance(node.geom::geography, geom::geography) as far from olr_keep.line
         where geom && ST_Expand(node.geom, %(wide)s, %(high)s) and node.node not in (from_node, to_node)
         order by far limit 1
-    ) as other on far < %(gap)s""",
-)
+    ) as other on far < %(gap)s"""
 
 
 def is_moved(line: Made, old: Old) -> bool:

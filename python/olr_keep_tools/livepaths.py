@@ -5,17 +5,19 @@ import json
 import os
 import struct
 from collections import deque
-from typing import Any, Container, Deque, Dict, List, NamedTuple, Optional, Sequence, Set, Tuple
+from typing import Any, Callable, Container, Deque, Dict, List, NamedTuple, Optional, Sequence, Set, Tuple
 
 from .courses import Ends, Found, Lost, Rival
 from .forked import Forked
 from .livemap import FEW, Affected, copy, update
-from .liveread import Change, cell
+from .liveread import Change
 from .pathlines import (Course, Edited, Finder, Known, PathSearch, Place, Placement, Road, State, Unread, Wanted, coordinates,
-                        course_of, marked_street, number_array, text_array)
+                        course_of, marked_street, number_array, point, text_array)
 
 PART = 500  # paths that are read at once
+LEAST = 50  # paths that are sought in the process itself
 SEARCHING = 2  # processes that search for paths, if there are several parts
+LONG = 50_000  # coordinates of courses
 
 
 class Placed(NamedTuple):
@@ -52,19 +54,20 @@ class PathsUpdate:
         self.gone: Set[str] = set()
         self.records: List[str] = []
 
-    def run(self, change: Change) -> None:
+    def run(self, change: Change, tell: Callable[[int, int], None]) -> None:
         """Finds the paths, and writes the rows of those that were found; those of removed paths are left. While the paths of one
-        part are sought, the next part is read."""
+        part are sought, the next part is read. `tell` gets how many are read, of how many."""
         names = self.ordered(self.names(change))
-        parts = [names[first : first + PART] for first in range(0, len(names), PART)]
-        most = SEARCHING if len(parts) > 1 and len(os.sched_getaffinity(0)) > 1 else 0
+        parts = parts_of(names)
+        most = min(SEARCHING, len(os.sched_getaffinity(0))) if len(parts) > 1 else 0
         searching: Deque[Search] = deque()
         try:
-            for part in parts:
+            for k, part in enumerate(parts):
+                tell(k * len(parts[0]), len(names))
                 search = self.read_search(part)
                 while searching and len(searching) >= most:
                     self.write(searching.popleft())
-                if most:
+                if most or search.is_long():
                     search.fork()
                 searching.append(search)
             while searching:
@@ -78,11 +81,10 @@ class PathsUpdate:
         """The paths in an order in which those near each other are together, if they are many."""
         if len(names) <= PART:
             return list(names)
-        self.cursor.execute("""select name, ST_X(ST_StartPoint(coalesce(string.geom, course))),
-                ST_Y(ST_StartPoint(coalesce(string.geom, course)))
-            from olr_keep.path full join olr_keep.string using (name)""")
-        cells = {name: cell(lon, lat) for name, lon, lat in self.cursor}
-        return sorted(names, key=lambda it: (cells.get(it, -1), it))
+        self.cursor.execute("""select name from olr_keep.path full join olr_keep.string using (name)
+            where name = any(%s::text[]) order by ST_StartPoint(coalesce(string.geom, course)), name""", (text_array(names),))
+        found = [it for (it,) in self.cursor]
+        return [*found, *sorted(set(names).difference(found))]
 
     def names(self, change: Change) -> List[str]:
         """The paths to look at: noted ones, those that the map's change affects, and of those that are not found as said the
@@ -203,6 +205,12 @@ class PathsUpdate:
         return Placing(finder, wanted, last, placement).placed()
 
 
+def parts_of(names: Sequence[str]) -> List[Sequence[str]]:
+    """The paths in parts that are sought at the same time, while the session asks something; a few are one part."""
+    size = min(PART, max(LEAST, -(-len(names) // SEARCHING)))
+    return [names[first : first + size] for first in range(0, len(names), size)]
+
+
 def is_there(before: Optional[Before], finder: Finder) -> bool:
     """Whether the lines of a path are still there, so that it needn't be sought near its course."""
     return before is not None and bool(before[0].lines) and all(it in finder.rows for it in before[0].lines)
@@ -216,6 +224,10 @@ class Search:
         self.update, self.finder, self.edited = update, finder, edited
         self.names, self.wanted, self.known = names, wanted, known
         self.forked: Optional[Forked[Dict[str, Optional[Placed]]]] = None
+
+    def is_long(self) -> bool:
+        """Whether the search may take so long that the session has to be asked something meanwhile."""
+        return sum(len(it.course or ()) for it in self.wanted.values()) > LONG
 
     def fork(self) -> None:
         """Searches in a process of its own."""
@@ -368,8 +380,3 @@ def why_no_string(reason: str, placed: Optional[Placed], start: Optional[Place])
         return placed.why.words, point(placed.why.place or start)
     kind, _, at = reason.partition(",")[2].partition(",")
     return REASONS.get(kind, "no lines follow it").format(at), point(start)
-
-
-def point(place: Optional[Place]) -> Optional[str]:
-    """A place as EWKT, or None."""
-    return None if place is None else "SRID=4326;POINT({:.7f} {:.7f})".format(*place)

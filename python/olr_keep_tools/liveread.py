@@ -4,12 +4,11 @@ from __future__ import annotations
 import enum
 from typing import Any, Container, Dict, Iterable, Iterator, List, Mapping, NamedTuple, Optional, Sequence, Set, Tuple, Union
 
-from .livesession import Readable, Savepoint, Source, Table, first_line, psycopg2, row_query
-from .pathlines import text_array
-from .streets import Street, Unfit, degrees, street_of
+from .livesession import LONGEST_ID, Readable, Savepoint, Source, Table, first_line, margins, psycopg2, row_query
+from .pathlines import point, text_array
+from .streets import Place, Street, Unfit, degrees, first_place, street_of
 
 BLOCK = 4000  # streets that are read and cut at once
-CELL = 0.02  # degrees of the cells by which streets are put into blocks
 NO_SOURCE = -1  # of streets whose table is no source any more
 
 
@@ -53,7 +52,8 @@ class Block(NamedTuple):
 
 
 class Change:
-    """What a round is about: the streets and paths that were noted or differ, by which users, and in which transactions."""
+    """What a round is about: the streets and paths that were noted or differ, by which users, and in which transactions; and the
+    margin, and whether the last round had another one."""
 
     def __init__(self) -> None:
         self.paths: Set[str] = set()
@@ -64,6 +64,7 @@ class Change:
         self.compared: Set[int] = set()
         self.street_group: Dict[str, str] = {}
         self.path_group: Dict[str, str] = {}
+        self.margin, self.is_margin_new = "0,0", False
 
     @property
     def count(self) -> int:
@@ -83,13 +84,14 @@ class Reader:
     def read(self) -> Change:
         """What there is to do."""
         change = self.change
-        for source, key, who, tx in self.notes("source <= 0"):
+        change.margin, before = margins(self.cursor)
+        change.is_margin_new = change.margin != before
+        for source, who, tx, keys in self.notes("source <= 0"):
             change.users.add(who)
-            if key is None:
-                change.every_path = True
-            else:
-                change.paths.add(key)
-                change.path_group.setdefault(key, tx)
+            change.every_path |= source == 0 and None in keys
+            names = {it for it in keys if it is not None}
+            change.paths |= names
+            change.path_group.update(dict.fromkeys(names, tx))
         for source in self.sources.values():
             try:
                 with Savepoint(self.cursor, source.search_path):
@@ -100,11 +102,11 @@ class Reader:
         return change
 
     def notes(self, where: str, *values: object) -> List[Tuple[Any, ...]]:
-        """Takes the notes for which a condition holds: (source, key, who, transaction)."""
-        columns = "source, key, who, tx::text"
-        query = f"select {columns} from olr_keep.note where {where}" if self.is_preview else \
-            f"delete from olr_keep.note where {where} returning {columns}"
-        self.cursor.execute(query, values)
+        """Takes the notes for which a condition holds: (source, who, transaction, keys), one for each user and transaction."""
+        query = f"select * from olr_keep.note where {where}" if self.is_preview else \
+            f"delete from olr_keep.note where {where} returning *"
+        self.cursor.execute(f"""with taken as ({query})
+            select source, who, tx::text, array_agg(distinct key collate "C") from taken group by source, who, tx""", values)
         return list(self.cursor.fetchall())
 
     def fail(self, source: Source, error: Exception) -> None:
@@ -116,22 +118,21 @@ class Reader:
 
     def read_source(self, source: Source) -> None:
         """The streets of a table that were noted, and if it is compared all that differ."""
-        keys, is_whole = set(), source.source in self.stale
-        for _, key, who, tx in self.notes("source = %s", source.source):
+        keys: Set[str] = set()
+        is_whole = source.source in self.stale
+        for _, who, tx, noted in self.notes("source = %s", source.source):
             self.change.users.add(who)
-            if key is None:
-                is_whole = True
-            else:
-                keys.add(key)
-                self.change.street_group.setdefault(source.prefix + key, tx)
+            is_whole |= None in noted
+            keys.update(it for it in noted if it is not None)
+            self.change.street_group.update((source.prefix + it, tx) for it in noted if it is not None)
         if is_whole:
             keys |= self.compared(source)
             self.change.compared.add(source.source)
-        if "" in keys or is_whole:
+        nameless = {it for it in keys if is_nameless(it)}
+        if nameless or is_whole:
             self.nameless(source)
-        keys.discard("")
-        if keys:
-            self.change.keys[source.source] = keys
+        if keys - nameless:
+            self.change.keys[source.source] = keys - nameless
 
     def compared(self, source: Source) -> Set[str]:
         """The ids of rows that differ from what was read last; if a row can't be read, all ids, so that the others are."""
@@ -158,14 +159,29 @@ class Reader:
         return {it[len(source.prefix) :] for (it,) in self.cursor if it is not None}
 
     def nameless(self, source: Source) -> None:
-        """Writes how many rows of a table have no id."""
+        """Writes how many rows of a table have no id, or one that is too long, and where the first of them is."""
         self.cursor.execute("delete from olr_keep.problem where kind = 'no id' and source = %s", (source.source,))
-        self.cursor.execute(f"select count(*) from {source.streets} where coalesce(({source.id})::text, '') = ''")
+        where = f"where coalesce(octet_length(({source.id})::text), 0) not between 1 and {LONGEST_ID}"
+        self.cursor.execute(f"select count(*) from {source.streets} {where}")
         count = self.cursor.fetchone()[0]
         if count:
-            words = f"{count} rows of {source.streets} have no id"
-            self.cursor.execute("insert into olr_keep.problem (kind, source, words) values ('no id', %s, %s)",
-                                (source.source, words))
+            words = f"{count} rows of {source.streets} have no id, or one of more than {LONGEST_ID} bytes"
+            place = self.somewhere(source, where.replace("%", "%%"))
+            self.cursor.execute("insert into olr_keep.problem (kind, source, words, geom) values ('no id', %s, %s, %s)",
+                                (source.source, words, point(place)))
+
+    def somewhere(self, source: Source, where: str, ids: Iterable[str] = ()) -> Optional[Place]:
+        """The place of one of the rows for which a condition holds, or None if none can be read."""
+        query = f"select ST_AsBinary(olr_keep.degrees({source.geom}), 'NDR') from {source.streets}".replace("%", "%%")
+        try:
+            with Savepoint(self.cursor):
+                self.cursor.execute(f"{query} {where} limit %(count)s", {"ids": text_array(ids), "count": 1})
+                shapes = self.cursor.fetchall()
+        except psycopg2.Error:
+            if self.cursor.connection.closed:
+                raise
+            return None
+        return next((first_place(bytes(it)) for (it,) in shapes if it is not None), None)
 
     def removed_sources(self) -> None:
         """The streets of tables that are no sources any more, and their notes."""
@@ -182,10 +198,9 @@ class Reader:
 
     def blocks(self) -> Iterator[Block]:
         """The streets that differ, in blocks of those that are near each other."""
-        ordered = [(source, key) for source, keys in self.change.keys.items() for key in sorted(keys)]
-        if len(ordered) > BLOCK:
-            cells = {source: self.cells(source, keys) for source, keys in self.change.keys.items()}
-            ordered.sort(key=lambda it: (cells[it[0]].get(it[1], -1), it))
+        is_one = self.change.count <= BLOCK
+        ordered = [(source, key) for source, keys in self.change.keys.items()
+                   for key in (sorted(keys) if is_one else self.near_each_other(source, keys))]
         self.change.keys = {}
         for first in range(0, len(ordered), BLOCK):
             by_source: Dict[int, Set[str]] = {}
@@ -193,27 +208,32 @@ class Reader:
                 by_source.setdefault(source, set()).add(key)
             yield self.block(by_source)
 
-    def cells(self, number: int, keys: Iterable[str]) -> Dict[str, int]:
-        """The cell of each street: where its row begins now, or where it was."""
+    def near_each_other(self, number: int, keys: Set[str]) -> List[str]:
+        """The streets of a table in an order in which those near each other are together: by where they are now, on PostGIS's curve
+        through the plane, and then by where they were."""
         source, found = self.sources.get(number), {}
-        prefix = source.prefix if source else ""
-        self.cursor.execute("select street, min(place) from olr_keep.vertex where part = 0 and k = 0 group by street")
-        for street, place in self.cursor:
-            if street.startswith(prefix):
-                found[street[len(prefix) :]] = cell(*degrees(place))
         if source:
-            try:
-                with Savepoint(self.cursor, source.search_path):
-                    self.cursor.execute(
-                        f"""select street, ST_XMin(geom), ST_YMin(geom)
-                        from (select street, olr_keep.degrees(geom) as geom from ({row_query(source)}) as row) as it""",
-                        {"prefix": prefix})
-                    found.update((street[len(prefix) :], cell(lon, lat)) for street, lon, lat in self.cursor if street)
-            except psycopg2.Error as error:
-                if self.cursor.connection.closed:
-                    raise
-                self.change.broken[number] = first_line(error)
-        return {it: found[it] for it in keys if it in found}
+            query = f"select ({source.id})::text from {source.streets}".replace("%", "%%")
+            order = f"order by olr_keep.degrees({source.geom})".replace("%", "%%")
+            found = dict.fromkeys(self.streets_in_order(source, f"{query} {where_ids(source)} {order}", keys))
+        prefix = source.prefix if source else ""
+        left = [prefix + it for it in keys - found.keys()]
+        if left:
+            self.cursor.execute("""select street from olr_keep.vertex where street = any(%s::text[]) and part = 0 and k = 0
+                order by ST_MakePoint(olr_keep.lon(place), olr_keep.lat(place))""", (text_array(left),))
+            found.update(dict.fromkeys(street[len(prefix) :] for (street,) in self.cursor))
+        return [*found, *sorted(keys - found.keys())]
+
+    def streets_in_order(self, source: Source, query: str, keys: Set[str]) -> List[str]:
+        """The ids that a query finds, or none if a row can't be read: which one, is found later."""
+        try:
+            with Savepoint(self.cursor, source.search_path):
+                self.cursor.execute(query, {"ids": text_array(keys)})
+                return [it for (it,) in self.cursor]
+        except psycopg2.Error:
+            if self.cursor.connection.closed:
+                raise
+        return []
 
     def block(self, keys: Mapping[int, Set[str]]) -> Block:
         """The streets of these keys that differ, by source."""
@@ -260,19 +280,18 @@ class Reader:
                 raise
             if len(ids) == 1:
                 self.fetch(source, set())
-                street = source.prefix + next(iter(ids))
-                return {street: [StreetRow(source.source, 0, 0, Unfit(first_line(error)))]}
+                street, place = source.prefix + next(iter(ids)), self.somewhere(source, where_ids(source), ids)
+                return {street: [StreetRow(source.source, 0, 0, Unfit(first_line(error), place))]}
         ordered = sorted(ids)
         half = len(ordered) // 2
         return {**self.rows(source, set(ordered[:half])), **self.rows(source, set(ordered[half:]))}
 
     def fetch(self, source: Source, ids: Set[str]) -> Dict[str, List[StreetRow]]:
         """The rows of these ids, as lists by street."""
-        where = f"where ({source.id})".replace("%", "%%") + f" = any(%(ids)s::text[]::{source.id_type}[])"
         self.cursor.execute(
             f"""select street, digest, shape, class, form, direction, ST_GeometryType(geom), ST_SRID(geom),
                 ST_AsBinary(olr_keep.degrees(geom), 'NDR')
-            from ({row_query(source, where)}) as row""",
+            from ({row_query(source, where_ids(source))}) as row""",
             {"prefix": source.prefix, "ids": text_array(ids)})
         found: Dict[str, List[StreetRow]] = {}
         for street, digest, shape, frc, fow, direction, kind, srid, binary in self.cursor:
@@ -296,7 +315,7 @@ class Reader:
                 block.rows[street] = changed(source.source, rows[street])
                 if is_plain(known.get(street), block.rows[street]):
                     block.plain.add(street)
-        self.write_taken(source, streets, taken)
+        self.write_taken(source, streets, {it: rows[it] for it in taken})
 
     def known(self, streets: Sequence[str], block: Block) -> Dict[str, Known]:
         """What was read of these streets last, or in this block from another table."""
@@ -306,14 +325,14 @@ class Reader:
         found.update((it, Known(block.rows[it].source, 0, 0, False)) for it in streets if it in block.rows)
         return found
 
-    def write_taken(self, source: Source, streets: Sequence[str], taken: Sequence[str]) -> None:
+    def write_taken(self, source: Source, streets: Sequence[str], taken: Mapping[str, Sequence[StreetRow]]) -> None:
         """Writes which streets of a table are left out since another table has their id."""
         self.cursor.execute("delete from olr_keep.problem where kind = 'same id' and source = %s and street = any(%s::text[])",
                             (source.source, text_array(streets)))
-        for street in taken:
-            words = f"another table has a street with the same id: that of {source.streets} is left out; a prefix tells them apart"
-            self.cursor.execute("insert into olr_keep.problem (kind, source, street, words) values ('same id', %s, %s, %s)",
-                                (source.source, street, words))
+        words = f"another table has a street with the same id: that of {source.streets} is left out; a prefix tells them apart"
+        for street, rows in taken.items():
+            self.cursor.execute("insert into olr_keep.problem (kind, source, street, words, geom) values ('same id', %s, %s, %s, %s)",
+                                (source.source, street, words, point(place_in(rows[0]))))
 
 
 def fate_of(source: int, known: Optional[Known], rows: Sequence[StreetRow]) -> Fate:
@@ -330,19 +349,24 @@ def fate_of(source: int, known: Optional[Known], rows: Sequence[StreetRow]) -> F
 
 def changed(source: int, rows: Sequence[StreetRow]) -> StreetRow:
     """The row of a street; with two rows it is unfit."""
-    return rows[0] if len(rows) == 1 else StreetRow(source, 0, 0, Unfit("another street has the same id"))
+    return rows[0] if len(rows) == 1 else StreetRow(source, 0, 0, Unfit("another street has the same id", place_in(rows[0])))
+
+
+def place_in(row: StreetRow) -> Optional[Place]:
+    """Where a street begins, or None if that is nowhere."""
+    return degrees(row.street.parts[0][0]) if isinstance(row.street, Street) else row.street.place
+
+
+def where_ids(source: Source) -> str:
+    """The condition for the rows with these ids. It is to be run with parameters."""
+    return f"where ({source.id})".replace("%", "%%") + f" = any(%(ids)s::text[]::{source.id_type}[])"
+
+
+def is_nameless(key: str) -> bool:
+    """Whether this can't be the id of a street."""
+    return not 1 <= len(key.encode("utf-8", "surrogateescape")) <= LONGEST_ID
 
 
 def is_plain(known: Optional[Known], row: StreetRow) -> bool:
     """Whether only the class or the form of a street is another one."""
     return known is not None and known.is_fit and known.shape == row.shape and isinstance(row.street, Street)
-
-
-def cell(lon: Optional[float], lat: float) -> int:
-    """The number of a cell in the order of a Z curve, so that streets of neighbouring numbers are near each other."""
-    if lon is None or not (abs(lon) <= 180 and abs(lat) <= 90):
-        return -1
-    x, y, code = int((lon + 180) / CELL), int((lat + 90) / CELL), 0
-    for bit in range(16):
-        code |= (x >> bit & 1) << 2 * bit + 1 | (y >> bit & 1) << 2 * bit
-    return code

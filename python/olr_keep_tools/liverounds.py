@@ -212,18 +212,24 @@ class Round:
 
     def publish(self, outcome: Outcome, seconds: float) -> int:
         """Writes the answers, and the round with its history. Returns its number, or 0 if nothing changed."""
+        outcome = outcome._replace(waiting=self.newly_waiting(outcome))
         streets, names = self.affected.keys, {*outcome.published, *outcome.waiting, *outcome.ended}
-        if not (streets or self.paths.gone or names):
+        if not (streets or self.paths.gone or names or self.change.is_margin_new):
             write_path_problems(self.cursor, self.paths, names)
             return 0
         number = self.numbers.take("round", 1)[0]
         self.write_waiting(outcome, number)
+        self.write_margins({*outcome.published, *outcome.ended})
         self.write_strings(outcome.published, number)
         write_path_problems(self.cursor, self.paths, names)
         self.write_round(outcome, number, streets, seconds)
         self.numbers.write()
         self.cursor.execute("select pg_notify('olr_keep_round', %s)", (str(number),))
         return number
+
+    def newly_waiting(self, outcome: Outcome) -> Dict[str, Waiting]:
+        """What waits and didn't before, or is another answer now."""
+        return {name: it for name, it in outcome.waiting.items() if it != self.waited.get(name)}
 
     def write_waiting(self, outcome: Outcome, number: int) -> None:
         """Writes the answers that wait, and the new holds."""
@@ -250,19 +256,33 @@ class Round:
                     then case when string.text is null then last_round else string.round end end
             from (values %s) as it(name, text, reason, round) where string.name = it.name""", answers)
 
+    def write_margins(self, names: Iterable[str]) -> None:
+        """Writes with which margin these strings, and with another margin all that don't wait, are made. One that is published
+        again as it was after a round has the margin of its own."""
+        self.cursor.execute("""update olr_keep.string set margin = %s where margin <> %s and (%s or name = any(%s::text[]))
+            and name not in (select name from olr_keep.waiting)""",
+                            (self.change.margin, self.change.margin, self.change.is_margin_new, text_array(names)))
+        self.cursor.execute("""update olr_keep.string set margin = coalesce((
+                select round.margin from olr_keep.history join olr_keep.round using (round)
+                where history.name = string.name and history.round <= frozen.round order by round desc limit 1), string.margin)
+            from olr_keep.frozen where frozen.name = string.name and string.name = any(%s::text[])
+                and string.name in (select name from olr_keep.waiting)""", (text_array(names),))
+
     def write_round(self, outcome: Outcome, number: int, streets: Set[str], seconds: float) -> None:
         """Writes the row of the round, and its history."""
         self.cursor.execute(
-            """insert into olr_keep.round (round, at, streets, paths, users, changed, refused, dropped, elsewhere, seconds)
-            values (%s, clock_timestamp(), %s::text[], %s::text[], %s::text[], %s, %s, %s, %s, %s)""",
+            """insert into olr_keep.round (round, at, streets, paths, users, changed, refused, dropped, elsewhere, seconds,
+                margin)
+            values (%s, clock_timestamp(), %s::text[], %s::text[], %s::text[], %s, %s, %s, %s, %s, %s)""",
             (number, *(text_array(sorted(it)) for it in (streets, outcome.published, self.change.users)), *outcome.counts,
-             seconds))
+             seconds, self.change.margin))
         copy(self.cursor, "history", "round, name, text, reason",
              ((number, name, *after) for name, (_, after) in sorted(outcome.published.items())))
 
 
 class Clusters:
-    """Which changes belong together: those of one transaction, and those near each other; and which paths they change."""
+    """Which changes belong together: those of one transaction, and those near each other; and which paths they change. With
+    another margin all do."""
 
     def __init__(self, cursor: Any, change: Change, affected: Affected, names: Iterable[str]) -> None:
         self.cursor, self.change, self.affected, self.names = cursor, change, affected, names
@@ -284,7 +304,7 @@ class Clusters:
     def run(self) -> List[Tuple[Set[str], Set[str]]]:
         """The clusters, as the names of their paths and their streets. A path may be in several."""
         keys = self.affected.keys
-        if len(keys) > MOST_CELLS:
+        if len(keys) > MOST_CELLS or self.change.is_margin_new:
             return [(set(self.names), keys)]
         for key in keys:
             group = self.change.street_group.get(key)

@@ -3,10 +3,12 @@ from __future__ import annotations
 
 import collections
 import enum
+import functools
 import os
 import select
 import sys
 import time
+import traceback
 from typing import Any, Dict, List, Mapping, NamedTuple, Optional, Sequence, Set, Tuple
 
 from . import livesession as session
@@ -21,6 +23,7 @@ from .liveread import BLOCK, Change, Reader
 from .liverounds import Limits, Round
 from .livesession import Busy, Readable, Stale, psycopg2
 from .program import ProgramFailed
+from .records import Margin
 
 POLL = 1.0  # seconds without a notification after which the notes are read all the same
 BUSY = 0.05  # seconds until tables that were locked are tried again
@@ -28,7 +31,8 @@ QUIET = 2.0  # seconds after which a round begins though notes still come
 WATCH = 5.0  # seconds between two looks at the tables
 MINUTE = 60.0
 LONGEST_WAIT = 60.0  # seconds between two attempts after failures
-MANY = 1000  # changed streets after which the statistics of the tables are made, and again when they have doubled
+MANY = 1000  # streets after which the statistics of the tables are made, and again when they have doubled
+PATHS = 0  # the number that the table of paths has among the tables
 METRE = 1 / 100_000  # degrees that are more than a metre of latitude
 
 
@@ -47,6 +51,7 @@ class Settings(NamedTuple):
     is_once: bool
     is_preview: bool
     draft: Optional[DraftSettings] = None
+    margin: Optional[Margin] = None  # of a preview
 
     @property
     def schema(self) -> str:
@@ -62,6 +67,20 @@ class Ending(enum.Enum):
     SHOWN = "shown"
 
 
+class Night:
+    """When all is compared: once a day, from an hour on, whatever the clock does; if it starts after that hour, the next day."""
+
+    def __init__(self, hour: int, now: time.struct_time) -> None:
+        self.hour, self.last = hour, now.tm_yday if now.tm_hour >= hour else 0
+
+    def is_due(self, now: time.struct_time) -> bool:
+        """Whether it is time now. It is no longer then."""
+        if now.tm_hour < self.hour or now.tm_yday == self.last:
+            return False
+        self.last = now.tm_yday
+        return True
+
+
 class Attempt:
     """One round, in steps."""
 
@@ -75,8 +94,11 @@ class Attempt:
 
     def run(self) -> Ending:
         """Reads, applies, asks the program, and publishes."""
+        if self.settings.margin:
+            self.cursor.execute("update olr_keep.margin set (routes, classes) = (%s, %s)", self.settings.margin)
         change = self.reader.read()
         change.every_path |= self.every_path or self.live.program is None
+        self.records += [f"margin,{change.margin}"] if change.is_margin_new and self.live.program else []
         self.numbers = Numbers(self.cursor, AHEAD if self.settings.is_preview else 0)
         if self.settings.is_preview:
             self.fresh = self.live.loaded()
@@ -85,14 +107,16 @@ class Attempt:
             self.live.drop_program()
         self.apply_map(change)
         self.paths = PathsUpdate(self.cursor, self.affected, self.settings.tolerance)
-        self.paths.run(change)
+        self.paths.run(change, functools.partial(self.tell, what="paths"))
+        self.live.progress = 0, 0
         self.round = Round(self.cursor, change, self.affected, self.paths, self.numbers)
         self.outcome = self.round.judge(self.answers(), self.settings.limits)
         return self.show() if self.settings.is_preview else self.publish(change)
 
     def apply_map(self, change: Change) -> None:
         """Changes the map, block by block."""
-        count, done, analyzed, self.said = change.count, 0, MANY, time.monotonic()
+        count, done, self.said = change.count, 0, time.monotonic()
+        analyzed, is_cut = max(MANY, session.analyzed_streets(self.cursor)), False
         first = FirstLoad(self.cursor, self.numbers, self.affected) if self.is_first_load(count) else None
         margin = max(30, 2 * self.settings.tolerance) * METRE
         for block in self.reader.blocks():
@@ -101,6 +125,7 @@ class Attempt:
             else:
                 records = MapUpdate(self.cursor, block, self.numbers, self.affected, margin, count <= BLOCK).run()
                 self.records += records if self.live.program else []
+            is_cut |= bool(block.keys() - block.plain)
             done = min(count, done + BLOCK)
             self.tell(done // 2 if first else done, count)
             if done > 2 * analyzed:
@@ -108,21 +133,21 @@ class Attempt:
                 self.cursor.execute("analyze olr_keep.street, olr_keep.vertex, olr_keep.node, olr_keep.line")
         if first:
             first.cut(lambda cut: self.tell((count + cut) // 2, count))
-        if count > BLOCK:
+        if count > BLOCK and is_cut:
             write_all_open_ends(self.cursor)
-        self.live.progress = 0, 0
 
     def is_first_load(self, count: int) -> bool:
         """Whether there are many streets and no map yet, and no program that has to follow. Numbers have to be left."""
         are_left = all(self.numbers.last[it] + 100 * count < LAST for it in ("node", "line"))
         return count > BLOCK and self.live.program is None and are_left and is_first(self.cursor)
 
-    def tell(self, done: int, count: int) -> None:
+    def tell(self, done: int, count: int, what: str = "streets") -> None:
         """Says how far a long round is, every few seconds."""
-        self.live.progress = done, count
+        if what == "streets":
+            self.live.progress = done, count
         if time.monotonic() - self.said > 10:
             self.said = time.monotonic()
-            say(f"{done} of {count} streets")
+            say(f"{done} of {count} {what}")
             self.live.write_metrics(False)
 
     def answers(self) -> Dict[str, str]:
@@ -175,7 +200,7 @@ class Live:
         self.last_round = self.last_seconds = self.written = self.compared = 0.0
         self.changed, self.asked, self.ask_after = time.monotonic(), 0.0, 0.0
         self.counts: Dict[str, float] = {}
-        self.progress, self.failed, self.would_hold = (0, 0), 0, False
+        self.progress, self.failed, self.would_hold, self.unwritten = (0, 0), 0, False, ""
         self.forget()
 
     def forget(self) -> None:
@@ -230,7 +255,7 @@ class Live:
     def lock(self) -> None:
         """Waits until no other process works on the database."""
         waited = False
-        while not session.try_lock(self.cursor):
+        while not self.stopping and not session.try_lock(self.cursor):
             if not waited:
                 say("another process works on this database; waiting")
             waited = True
@@ -246,6 +271,15 @@ class Live:
         came = bool(self.connection.notifies)
         self.connection.notifies.clear()
         return came
+
+    def wait_unlocked(self, why: str) -> None:
+        """Waits a moment for a table without which no round can be made, and says so if that lasts."""
+        now = time.monotonic()
+        if now - self.locked_since.setdefault(PATHS, now) > 2 * WATCH and (PATHS, why) not in self.words:
+            say(why)
+            self.words.add((PATHS, why))
+        self.write_metrics(False)
+        self.wait(BUSY)
 
     def wait_quiet(self) -> None:
         """Waits until no note has come for a while, since one save of a person may be several commits."""
@@ -296,7 +330,7 @@ class Live:
     def report(self, tables: Sequence[session.Table], broken: Mapping[int, str]) -> None:
         """Writes which tables can't be read, or have no triggers, and says what is new."""
         now, problems = time.monotonic(), set(self.without_triggers.items())
-        names = {it.source.source: it.source.streets for it in tables}
+        names = {PATHS: "olr_keep.path", **{it.source.source: it.source.streets for it in tables}}
         locked = {it.source.source for it in tables if it.state is Readable.LOCKED}
         self.locked_since = {it: self.locked_since.get(it, now) for it in locked}
         problems |= {(it, f"{names[it]} can't be read, and its streets stay as they were: {broken[it]}") for it in broken}
@@ -345,7 +379,12 @@ class Live:
         takes seconds: at most a twentieth of the time is spent on it."""
         now = time.monotonic()
         if self.program and self.changed > self.asked and now > max(self.changed + WATCH, self.ask_after):
-            write_ambiguities(self.cursor, self.program)
+            try:
+                write_ambiguities(self.cursor, self.program)
+            except psycopg2.Error as error:
+                if self.connection.closed:
+                    raise
+                say(f"which strings are ambiguous can't be written: {session.first_line(error)}")
             self.asked, self.ask_after = now, now + 20 * (time.monotonic() - now)
 
     def start(self) -> None:
@@ -360,7 +399,7 @@ class Live:
     def serve(self) -> int:
         """Rounds, until something fails; returns the exit status."""
         self.start()
-        every_path, looked, tried, day = True, 0.0, 0.0, time.localtime().tm_yday
+        every_path, looked, tried, night = True, 0.0, 0.0, Night(self.settings.compare_at, time.localtime())
         while not self.stopping:
             ending = Ending.NOTHING
             try:
@@ -368,10 +407,9 @@ class Live:
                     if not every_path:
                         self.wait_quiet()
                     ending, every_path, tried = self.attempt(every_path), False, time.monotonic()
-            except Busy:
-                self.wait(BUSY)
+            except Busy as why:
+                self.wait_unlocked(str(why))
                 continue
-            self.failed = 0
             self.write_metrics(ending is Ending.DONE)
             if self.settings.is_preview or self.settings.is_once and ending is Ending.NOTHING:
                 return int(self.would_hold or self.settings.is_once and session.is_held(self.cursor))
@@ -379,14 +417,14 @@ class Live:
                 continue
             self.wait(POLL)
             self.unread = {it: state for it, state in self.unread.items() if state is not Readable.LOCKED}
-            now = time.localtime()
-            if now.tm_hour >= self.settings.compare_at and now.tm_yday != day:
-                every_path, day = True, now.tm_yday
+            if night.is_due(time.localtime()):
+                every_path = True
                 self.stale = {it.source for it in session.sources_of(self.cursor)}
             if time.monotonic() - looked > WATCH:
                 looked = time.monotonic()
                 self.look()
                 self.ask_ambiguous()
+                self.failed = 0
         return 128 + self.stopping[0]
 
     def run(self) -> int:
@@ -394,8 +432,10 @@ class Live:
         while True:
             try:
                 return self.serve()
-            except (psycopg2.Error, ProgramFailed, Stale, OSError, MemoryError) as error:
-                words = str(error).strip() or type(error).__name__
+            except Exception as error:  # of a round: whatever it is, the next start reads the tables, and tries again
+                if isinstance(error, Failure) and not isinstance(error, ProgramFailed):
+                    raise
+                words = words_of(error)
                 if (self.settings.is_once or self.settings.is_preview) and not isinstance(error, Stale) and self.failed > 3:
                     say(words)
                     return 3
@@ -430,8 +470,12 @@ class Live:
             with open(self.settings.metrics + ".new", "w", encoding="utf-8") as file:
                 file.write(text)
             os.replace(self.settings.metrics + ".new", self.settings.metrics)
+            self.unwritten = ""
         except OSError as error:
-            say(f"{self.settings.metrics}: {error.strerror}")
+            words = f"{self.settings.metrics}: {error.strerror}"
+            if words != self.unwritten:
+                say(words)
+            self.unwritten = words
 
 
 def end(program: LiveProgram) -> None:
@@ -440,6 +484,14 @@ def end(program: LiveProgram) -> None:
     for stream in (program.process.stdin, program.process.stdout):
         if stream:
             stream.close()
+
+
+def words_of(error: Exception) -> str:
+    """What is said of an error; of one that isn't expected also where it came from."""
+    if isinstance(error, (psycopg2.Error, ProgramFailed, Stale, OSError, MemoryError)):
+        return str(error).strip() or type(error).__name__
+    at = traceback.extract_tb(error.__traceback__)[-1]
+    return f"{type(error).__name__}: {error} ({os.path.basename(at.filename)}, line {at.lineno})"
 
 
 def kind_of(name: str) -> str:

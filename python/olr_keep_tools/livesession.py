@@ -14,6 +14,7 @@ except ImportError:
 __all__ = ["psycopg2"]
 
 LOCK = 7165_0029  # of pg_try_advisory_lock
+LONGEST_ID = 1000  # bytes of the id of a street: an index takes 2,700
 TRIGGERS = "'olr_keep_row', 'olr_keep_statement', 'olr_keep_truncate'"
 
 
@@ -84,7 +85,7 @@ def connect(database: str, idle: int) -> Any:
 
 def check_schema(cursor: Any) -> None:
     """Fails if the schema is missing, or that of another version."""
-    cursor.execute("select to_regclass('olr_keep.ambiguity') is null")
+    cursor.execute("select to_regclass('olr_keep.margin') is null")
     if cursor.fetchone()[0]:
         raise psycopg2.ProgrammingError("the database has no schema olr_keep, or that of another version: run tools/live.sql")
 
@@ -155,9 +156,9 @@ class Transaction:
             if sources_of(self.cursor, self.draft) != sources:
                 raise Stale("the tables of streets changed")
             self.tables = [self.probed(it) if it.state is Readable.READY else it for it in tables]
-        except psycopg2.errors.LockNotAvailable as error:
+        except psycopg2.errors.LockNotAvailable:
             self.__exit__()
-            raise Busy(str(error).strip()) from None
+            raise Busy("olr_keep.path is locked by another transaction: no round is made") from None
         except BaseException:
             self.__exit__()
             raise
@@ -219,7 +220,7 @@ def row_query(source: Source, where: str = "") -> str:
     columns = f"({source.id}) as id, ({source.frc})::text as class, ({source.fow})::text as form"
     columns += f", ({source.direction})::text as direction, ({source.geom}) as geom"
     inner = f"select {columns} from {source.streets}".replace("%", "%%")
-    return f"""select %(prefix)s || id::text as street, class, form, direction, geom, shape,
+    return f"""select case when octet_length(id::text) <= {LONGEST_ID} then %(prefix)s || id::text end as street, class, form, direction, geom, shape,
             hashtextextended(concat_ws('|', coalesce(class, '?'), coalesce(form, '?'), shape), 0) as digest
         from (select *, hashtextextended(concat_ws('|', coalesce(direction, '?'), geom::text), 0) as shape
             from ({inner} {where}) as it offset 0) as it"""
@@ -233,6 +234,20 @@ def has_work(cursor: Any, unread: Iterable[int]) -> bool:
     cursor.execute("""select exists (select from olr_keep.note where source <> all(%s::int[]))
         or exists (select from olr_keep.waiting join olr_keep.release using (hold))""", (list(unread),))
     return bool(cursor.fetchone()[0])
+
+
+def margins(cursor: Any) -> Tuple[str, str]:
+    """The margin that is set, and that of the last round, each as the fields of its record."""
+    cursor.execute("""select coalesce((select format('%s,%s', routes, classes) from olr_keep.margin), '0,0'),
+        coalesce((select margin from olr_keep.round order by round desc limit 1), '0,0')""")
+    now, before = cursor.fetchone()
+    return now, before
+
+
+def analyzed_streets(cursor: Any) -> int:
+    """How many streets the map had when the statistics of its tables were made."""
+    cursor.execute("select greatest(reltuples, 0)::bigint from pg_class where oid = 'olr_keep.street'::regclass")
+    return int(cursor.fetchone()[0])
 
 
 def is_held(cursor: Any) -> bool:

@@ -6,6 +6,7 @@ import bisect
 import enum
 import itertools
 import math
+import struct
 from collections import defaultdict
 from typing import Any, Container, Dict, FrozenSet, Iterable, Iterator, List, Mapping, NamedTuple, Optional, Sequence, Set, Tuple
 from typing import Union
@@ -13,13 +14,14 @@ from typing import Union
 from .courses import CELL, DRAWN, Ends, Found, Line, Lost, Network, Plane, Polyline, Strip, Wish, follow
 from .geo import METRES, between
 from .routes import Waiting
-from .streets import is_inside, wkb_parts
+from .streets import is_inside
 
 AGAINST = 1e6  # the cost of a street against its geometry where its direction isn't given
 STRAY = 10.0  # the cost of a metre between an end of the path and that of its lines
 SAME_ROAD = 5.0  # metres from where a path was, within which a line of the same kind is the same road
 RUN = 8  # cells of a row that are read at once
 FAR = 100_000.0  # metres between two coordinates of a course
+COUNT = struct.Struct("<I")
 
 
 Place = Tuple[float, float]
@@ -140,14 +142,25 @@ class Edited(NamedTuple):
     fresh: Set[str]
 
 
-COLUMNS = """line.line, from_node, to_node, split_part(fields, ',', 1), split_part(fields, ',', 2), length, line.street,
-    street.direction, part, k, along, ST_AsBinary(geom, 'NDR')"""
+FIELDS = """line.line, from_node, to_node, split_part(fields, ',', 1), split_part(fields, ',', 2), length, line.street,
+    street.direction, part, k, along"""
+COLUMNS = f"{FIELDS}, ST_AsBinary(geom, 'NDR')"
+ONE_WAY = f"{FIELDS}, case when along or street.direction <> 'both' then ST_AsBinary(geom, 'NDR') end"
 LINES = "olr_keep.line join olr_keep.street on street.street = line.street"
 
 
 def coordinates(shape: Optional[bytes]) -> Optional[Course]:
     """The coordinates of a little-endian WKB LineString, or None."""
-    return None if shape is None else tuple(next(wkb_parts(bytes(shape))))
+    if shape is None:
+        return None
+    (count,) = COUNT.unpack_from(shape, 5)
+    numbers = struct.unpack_from(f"<{2 * count}d", shape, 9)
+    return tuple(zip(numbers[::2], numbers[1::2]))
+
+
+def point(place: Optional[Place]) -> Optional[str]:
+    """A place as EWKT, or None."""
+    return None if place is None else "SRID=4326;POINT({:.7f} {:.7f})".format(*place)
 
 
 def text_array(items: Iterable[object]) -> str:
@@ -216,8 +229,11 @@ class Finder:
         self.cursor.execute(query, values)
 
     def take(self, found: Iterable[Tuple[Any, ...]]) -> List[Row]:
-        """The lines that a query found."""
-        rows = [self.rows.get(it[0]) or Row(*(*it[:11], coordinates(it[11]) or ())) for it in found]
+        """The lines that a query found. A line without coordinates has those of its stretch's other direction, which is there."""
+        rows = [self.rows.get(it[0]) or Row._make((*it[:11], coordinates(it[11]) or ())) for it in found]
+        if not all(it.points for it in rows):
+            there = {it[6:10]: it.points for it in rows if it.points}
+            rows = [it if it.points else it._replace(points=there[it[6:10]][::-1]) for it in rows]
         new = {it.number: it for it in rows}
         self.rows.update(new)
         self.network.add(new)
@@ -236,7 +252,7 @@ class Finder:
             return
         sides = [number_array(f"{it:.7f}" for it in side) for side in zip(*boxes_of(cells))]
         self.ask(
-            f"""select {COLUMNS} from (
+            f"""select {ONE_WAY} from (
                 select distinct other.line
                 from unnest(%s::float8[], %s::float8[], %s::float8[], %s::float8[]) as box(w, s, e, n) cross join lateral (
                     select line from olr_keep.line where geom && ST_MakeEnvelope(w, s, e, n, 4326) offset 0

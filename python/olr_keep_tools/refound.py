@@ -201,7 +201,8 @@ class Shake(NamedTuple):
 
     def title(self) -> str:
         over = f" over {self.reach:g} m" if self.reach else ""
-        return f"{self.metres:g} m{over}, {self.split:g} % split, {self.missing:g} % missing, {self.classes:g} % classes"
+        shares = ((self.split, "split"), (self.missing, "missing"), (self.classes, "classes"))
+        return ", ".join((f"{self.metres:g} m{over}", *(f"{share:g} % {word}" for share, word in shares if share)))
 
 
 class Shaken:

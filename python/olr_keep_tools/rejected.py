@@ -182,4 +182,5 @@ def shown(record: str) -> str:
 def advice(record: str, head: str, nodes: Optional[Container[int]] = None) -> str:
     """The fault, the record, and what is wrong with it; `nodes` are the numbers of the nodes in the map, if known."""
     _, number, *rest = head.split(",")
-    return f"{head}: {shown(record)}: {reason(record, int(number), ','.join(rest[1:]), nodes)}"
+    why = reason(record, int(number), ",".join(rest[1:]), nodes)
+    return f"{head}: {shown(record)}" + (f": {why}" if why else "")

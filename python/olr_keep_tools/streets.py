@@ -22,8 +22,12 @@ LOW = (1 << 31) - 1
 METRES = AXIS * RADIAN / UNITS  # of a unit of longitude at the equator
 LONGEST = 14_900.0  # metres; between two location reference points are 15 km at most
 WIDEST = 3_200_000  # units; between two location reference points is a third of a degree at most
+SHORT = 1_300_000  # units east or west and north or south up to which no course is too long for a line
 MOST_SHAPE = 990  # shape points of a line; the program takes 1,000
 DIRECTIONS = ("both", "along", "against")
+MOST_SHOWN = 40  # characters of a wrong value
+COLLECTION = 7  # of WKB, as are these: where the coordinates of points, lines, arcs, polygons and triangles begin
+BEGIN = {1: 5, 2: 9, 8: 9, 3: 13, 17: 13}
 ALIKE = 100  # units within which vertices of a street that has another id are the same
 NEAR = 20.0  # metres within which a line between the same nodes is the same stretch of road
 
@@ -100,9 +104,10 @@ def ends_of(line: Union[Made, Old]) -> Tuple[int, int, Optional[bool]]:
 
 
 class Unfit(NamedTuple):
-    """Why a street can't be lines."""
+    """Why a street can't be lines, and where it is, as far as that is known."""
 
     words: str
+    place: Optional[Place] = None
 
 
 # ---- reading
@@ -111,14 +116,21 @@ class Unfit(NamedTuple):
 def street_of(frc: Optional[str], fow: Optional[str], direction: Optional[str], kind: Optional[str], srid: Optional[int],
               shape: Optional[bytes]) -> Union[Street, Unfit]:
     """The street of these texts and this shape (little-endian WKB in degrees), or why it can't be lines: `Unfit`."""
+    found = read_street(frc, fow, direction, kind, srid, shape)
+    return found if isinstance(found, Street) or shape is None else found._replace(place=first_place(shape))
+
+
+def read_street(frc: Optional[str], fow: Optional[str], direction: Optional[str], kind: Optional[str], srid: Optional[int],
+                shape: Optional[bytes]) -> Union[Street, Unfit]:
+    """The same, but without its place."""
     missing = [name for name, it in (("class", frc), ("form", fow), ("direction", direction), ("geometry", kind)) if it is None]
     if frc is None or fow is None or direction is None or kind is None:
         return Unfit(f"{' and '.join(missing)} {'is' if len(missing) == 1 else 'are'} NULL")
     for name, text in (("class", frc), ("form", fow)):
         if text not in ("0", "1", "2", "3", "4", "5", "6", "7"):
-            return Unfit(f"{name} is {text}, and has to be 0 to 7")
+            return Unfit(f"{name} is {text[:MOST_SHOWN]}, and has to be 0 to 7")
     if direction not in DIRECTIONS:
-        return Unfit(f"direction is {direction}, and has to be both, along or against")
+        return Unfit(f"direction is {direction[:MOST_SHOWN]}, and has to be both, along or against")
     if kind not in ("ST_LineString", "ST_MultiLineString"):
         return Unfit(f"the geometry is of type {kind[3:]}, and has to be a LineString or a MultiLineString")
     if srid == 0:
@@ -129,8 +141,8 @@ def street_of(frc: Optional[str], fow: Optional[str], direction: Optional[str], 
     for points in wkb_parts(shape):
         if not all(map(is_inside, points)):
             return Unfit("the geometry is beyond the longitudes -180 to 179.9999 or the latitudes -89.9999 to 89.9999")
-        places = [place_of(round(lon * UNITS), round(lat * UNITS)) for lon, lat in points]
-        found.append(tuple(subdivided([place for place, _ in itertools.groupby(places)])))
+        places = [round(lon * UNITS) + EAST << 31 | round(lat * UNITS) + NORTH for lon, lat in points]
+        found.append(tuple(subdivided([it for k, it in enumerate(places) if k == 0 or it != places[k - 1]])))
     parts = tuple(it for it in found if len(it) > 1)
     return Street(int(frc), int(fow), direction, parts) if parts else Unfit("the geometry has no two different vertices")
 
@@ -138,6 +150,18 @@ def street_of(frc: Optional[str], fow: Optional[str], direction: Optional[str], 
 def is_inside(point: Place) -> bool:
     """Whether a map can have a node at a coordinate in degrees; NaN is nowhere."""
     return -180 <= point[0] <= 179.9999 and -89.9999 <= point[1] <= 89.9999
+
+
+def first_place(shape: bytes) -> Optional[Place]:
+    """The first coordinate of a little-endian WKB geometry of any type, or None if it has none, or a map can't have it."""
+    at, kind = 0, COLLECTION
+    while kind not in BEGIN and len(shape) >= at + 5:
+        (kind,) = struct.unpack_from("<I", shape, at + 1)
+        at += BEGIN.get(kind, 9)
+    if len(shape) < at + 16 or kind not in BEGIN:
+        return None
+    lon, lat = struct.unpack_from("<dd", shape, at)
+    return (lon, lat) if is_inside((lon, lat)) else None
 
 
 def wkb_parts(shape: bytes) -> Iterator[List[Place]]:
@@ -157,7 +181,7 @@ def wkb_parts(shape: bytes) -> Iterator[List[Place]]:
 
 def wkb_hex(places: Sequence[int]) -> str:
     """The LineString of these places, as hexadecimal EWKB in degrees."""
-    numbers = [it for place in places for it in degrees(place)]
+    numbers = [it / UNITS for place in places for it in ((place >> 31) - EAST, (place & LOW) - NORTH)]
     return struct.pack(f"<BIII{len(numbers)}d", 1, 0x20000002, 4326, len(places), *numbers).hex()
 
 
@@ -165,6 +189,8 @@ def subdivided(places: Sequence[int]) -> Iterator[int]:
     """The places, with further ones on segments that are too long for a line."""
     for a, b in zip(places, places[1:]):
         yield a
+        if is_short((a, b)):
+            continue
         (lon, lat), (east, north) = units(a), units(b)
         wide = max(abs(east - lon), abs(north - lat))
         count = int(max(distances((a, b))[1] / LONGEST, wide / WIDEST)) + 1
@@ -173,12 +199,18 @@ def subdivided(places: Sequence[int]) -> Iterator[int]:
     yield from places[-1:]
 
 
+def is_short(places: Sequence[int]) -> bool:
+    """Whether a course is surely not too long for a line."""
+    ways = zip(places, places[1:])
+    return sum(abs((b >> 31) - (a >> 31)) + abs((b & LOW) - (a & LOW)) for a, b in ways) <= SHORT
+
+
 def distances(places: Sequence[int]) -> List[float]:
     """The metres from the first place to each, on the spheroid, with its two radii at the middle of each segment."""
     found, far = [0.0], 0.0
     lon, lat = units(places[0])
     for place in places[1:]:
-        east, north = units(place)
+        east, north = (place >> 31) - EAST, (place & LOW) - NORTH
         sine = math.sin(math.radians((lat + north) / 2 / UNITS))
         bend = 1 - 0.00669437999014 * sine * sine
         across, up = east - lon, north - lat
@@ -200,9 +232,10 @@ def meeting_places(streets: Iterable[Street], others: Container[int]) -> Set[int
 
 def stretches(part: Part, meeting: Container[int]) -> Iterator[Tuple[int, int]]:
     """The pairs of indices between which a part is one stretch."""
-    far, begin, last = distances(part), 0, len(part) - 1
+    begin, last = 0, len(part) - 1
+    far = None if last <= MOST_SHAPE and is_short(part) else distances(part)
     for k in range(1, last + 1):
-        if k == last or part[k] in meeting or is_too_long(part, far, begin, k + 1):
+        if k == last or part[k] in meeting or far and is_too_long(part, far, begin, k + 1):
             yield begin, k
             begin = k
 
@@ -246,16 +279,16 @@ def fields_of(street: Street, places: Sequence[int]) -> Tuple[int, str, str]:
 def lines_of(key: str, street: Street, found: Stretches, node_at: Mapping[int, int]) -> Iterator[Made]:
     """The lines of a street with these stretches."""
     counts: Dict[Hashable, int] = Counter()
+    ways = [it for it in (True, False) if street.direction in ("both", "along" if it else "against")]
     for index, (part, pairs) in enumerate(zip(street.parts, found)):
         for k, (begin, end) in enumerate(pairs):
-            places = part[begin : end + 1]
+            places, first, last = part[begin : end + 1], node_at[part[begin]], node_at[part[end]]
             length, *fields = fields_of(street, places)
-            for along in (True, False):
-                if street.direction in ("both", "along" if along else "against"):
-                    a, b = node_at[places[0 if along else -1]], node_at[places[-1 if along else 0]]
-                    line = Made(key, index, k, along, a, b, 0, length, fields[not along], places[:: 1 if along else -1])
-                    counts[ends_of(line)] += 1
-                    yield line._replace(nth=counts[ends_of(line)])
+            for along in ways:
+                a, b = (first, last) if along else (last, first)
+                ends = a, b, along if a == b else None
+                counts[ends] += 1
+                yield Made(key, index, k, along, a, b, counts[ends], length, fields[not along], places if along else places[::-1])
 
 
 # ---- numbers that stay

@@ -3,11 +3,13 @@ import argparse
 import functools
 import os
 import signal
+import struct
 import tempfile
 import time
 import unittest
+import unittest.mock
 from collections import Counter
-from typing import Any, Dict, Iterator, List, Mapping, Optional, Sequence, Tuple
+from typing import Any, Dict, Iterator, List, Mapping, Optional, Sequence, Set, Tuple
 
 from olr_keep_tools.courses import CELL, DRAWN, Ends, Found, Ground, Lost, Network, Strip, Wish, cells_along, follow
 from olr_keep_tools.forked import Forked
@@ -16,16 +18,17 @@ from olr_keep_tools.livedraft import Was, verdict
 from olr_keep_tools.livefirst import FirstLoad, Writer
 from olr_keep_tools.liveprogram import LiveProgram, Sent
 from olr_keep_tools.livemap import LAST, Affected, Numbers, cell_of, copy_line
-from olr_keep_tools.livepaths import PathsUpdate, Search, is_there, places_hex
-from olr_keep_tools.liveread import Change, Fate, Known, Reader, StreetRow, cell, changed, fate_of, is_plain
+from olr_keep_tools.livepaths import PathsUpdate, Search, is_there, parts_of, places_hex
+from olr_keep_tools.liveread import Block, Change, Fate, Known, Reader, StreetRow, changed, fate_of, is_nameless, is_plain
 from olr_keep_tools.liverounds import DROPPED, Answer, Clusters, Counts, Effect, Limits, Round, Waiting
-from olr_keep_tools.liveservice import Attempt
-from olr_keep_tools.livesession import Source, psycopg2, row_query
+from olr_keep_tools.liveservice import Attempt, Live, Night, words_of
+from olr_keep_tools.livesession import Readable, Source, Table, psycopg2, row_query
 from olr_keep_tools.pathlines import Known as KnownPath
 from olr_keep_tools.pathlines import (Edited, Finder, PathSearch, Road, Row, State, Wanted, WhereItWas, boxes_of, cells_near,
                                       marked_street, text_array)
 from olr_keep_tools.program import ProgramFailed
-from olr_keep_tools.streets import Old, Recut, Street, Unfit, place_of, street_of, wkb_hex
+from olr_keep_tools.streets import (LONGEST, SHORT, Old, Recut, Street, Unfit, distances, first_place, is_short, place_of, street_of,
+                                    subdivided, wkb_hex)
 
 
 def place(east: int, north: int = 0) -> int:
@@ -121,6 +124,31 @@ class Cutting(unittest.TestCase):
         cut = recut({"a": ends, "b": ()}, {"b": ends}, old, dict(zip((1, 2), ends))).run()
         self.assertEqual((list(cut.changed), cut.dropped, cut.added), ([7], [], {}))
 
+    def test_what_is_short_is_not_too_long(self) -> None:
+        for lon, lat in ((0, 0), (0, 500_000_000), (1_700_000_000, 899_000_000)):
+            for east, north in ((SHORT, 0), (0, SHORT), (SHORT // 2, SHORT // 2), (SHORT // 3, -(SHORT // 3))):
+                ends = place_of(lon, lat - SHORT), place_of(lon + east, lat - SHORT + north)
+                self.assertTrue(is_short(ends))
+                self.assertLess(distances(ends)[1], LONGEST)
+                self.assertEqual(list(subdivided(ends)), list(ends))
+        self.assertFalse(is_short((place_of(0, 0), place_of(SHORT, 1))))
+
+    def test_first_place(self) -> None:
+        point, two = struct.pack("<BIdd", 1, 1, 6.1, 49.6), struct.pack("<dddd", 6.1, 49.6, 6.2, 49.7)
+        line = struct.pack("<BII", 1, 2, 2) + two
+        shapes = {"POINT": point, "LINE": line, "POLYGON": struct.pack("<BIII", 1, 3, 1, 2) + two,
+                  "MULTILINE": struct.pack("<BII", 1, 5, 1) + line,
+                  "NESTED": struct.pack("<BII", 1, 7, 2) + struct.pack("<BII", 1, 4, 1) + point + line}
+        for name, shape in shapes.items():
+            self.assertEqual((name, first_place(shape)), (name, (6.1, 49.6)))
+            self.assertIsNone(first_place(shape[:20]))
+        nowhere = (b"", struct.pack("<BII", 1, 2, 0), struct.pack("<BII", 1, 7, 0), struct.pack("<BIdd", 1, 1, 6.1, float("nan")),
+                   struct.pack("<BIdd", 1, 1, 600, 49.6))
+        for shape in nowhere:
+            self.assertIsNone(first_place(shape))
+        self.assertEqual(street_of("9" * 90, "3", "both", "ST_LineString", 4326, line),
+                         Unfit(f"class is {'9' * 40}, and has to be 0 to 7", (6.1, 49.6)))
+
     def test_unfit(self) -> None:
         self.assertEqual(street_of("9", "3", "both", "ST_LineString", 4326, b""), Unfit("class is 9, and has to be 0 to 7"))
         self.assertEqual(street_of("3", None, None, "ST_LineString", 4326, b""), Unfit("form and direction are NULL"))
@@ -190,7 +218,7 @@ class Reading(unittest.TestCase):
         self.assertIs(fate_of(1, mine, [self.row(), self.row()]), Fate.CHANGED)
 
     def test_two_rows_are_unfit(self) -> None:
-        self.assertEqual(changed(1, [self.row(), self.row()]).street, Unfit("another street has the same id"))
+        self.assertEqual(changed(1, [self.row(), self.row()]).street, Unfit("another street has the same id", degrees(0)))
 
     def test_plain(self) -> None:
         self.assertTrue(is_plain(Known(1, 4, 6, True), self.row()))
@@ -202,11 +230,6 @@ class Reading(unittest.TestCase):
         query = row_query(SOURCE) % {"prefix": "''"}
         self.assertIn("('%' || id) as id", query)
         self.assertIn('from public."100%"', query)
-
-    def test_cells(self) -> None:
-        self.assertEqual(cell(float("nan"), 0), -1)
-        self.assertEqual(cell(6.1, 49.6), cell(6.1001, 49.6001))
-        self.assertNotEqual(cell(6.1, 49.6), cell(16.1, 49.6))
 
 
 class Failing(FakeCursor):
@@ -220,7 +243,7 @@ class Failing(FakeCursor):
         ids = values["ids"] if isinstance(values, dict) and "ids" in values else ""
         if '"3"' in ids:
             raise psycopg2.DataError("invalid input")
-        if ids:
+        if len(ids) > 2 and not self.found:
             shape = bytes.fromhex(wkb_hex((place(0), place(9)))[:2] + "02000000" + wkb_hex((place(0), place(9)))[18:])
             self.found = [(it.strip('"'), 1, 2, "3", "3", "both", "ST_LineString", 4326, shape)
                           for it in ids[1:-1].split(",") if it]
@@ -231,14 +254,36 @@ class ReadingRows(unittest.TestCase):
     """The steps of reading: notes, and rows of which one can't be read."""
 
     def test_notes(self) -> None:
-        cursor = Failing({"source <= 0": [(0, "p", "me", "9"), (0, None, "you", "8")]})
+        cursor = Failing({"source <= 0": [(0, "me", "9", ["p"]), (0, "you", "8", [None])], "olr_keep.margin": [("0,0", "0,0")]})
         change = Reader(cursor, [], set()).read()
         self.assertEqual((change.paths, change.users, change.every_path, change.path_group), ({"p"}, {"me", "you"}, True, {"p": "9"}))
+
+    def test_ids_that_no_index_takes_are_none(self) -> None:
+        cursor = Failing({"source = %s": [(1, "me", "9", ["a", "", "b" * 1001, "é" * 501])], "count(*)": [(3,)]})
+        reader = Reader(cursor, [Table(SOURCE, Readable.READY)], set())
+        reader.read_source(SOURCE)
+        self.assertEqual(reader.change.keys, {1: {"a"}})
+        self.assertEqual(sum("'no id'" in it for it in cursor.queries), 2)
+        self.assertEqual([is_nameless(it) for it in ("a", "", "b" * 1000, "b" * 1001)], [False, True, False, True])
 
     def test_a_preview_leaves_the_notes(self) -> None:
         cursor = Failing()
         Reader(cursor, [], set(), True).notes("true")
-        self.assertTrue(cursor.queries[0].startswith("select"))
+        self.assertNotIn("delete", cursor.queries[0])
+
+    def test_a_place_of_rows(self) -> None:
+        shape = bytes.fromhex("0102000000" + wkb_hex((place(0), place(9)))[18:])
+        reader = Reader(Failing({"limit": [(None,), (memoryview(shape),)]}), [], set())
+        self.assertEqual(reader.somewhere(SOURCE, "where true"), degrees(0))
+        self.assertIn("100%%", reader.cursor.queries[1])
+        self.assertIsNone(reader.somewhere(SOURCE, "where true", ["3"]))
+
+    def test_streets_near_each_other_are_together(self) -> None:
+        cursor = Failing({"order by olr_keep.degrees": [("b",), ("a",), ("b",)], "olr_keep.vertex": [("c",)]})
+        reader = Reader(cursor, [Table(SOURCE, Readable.READY)], set())
+        self.assertEqual(reader.near_each_other(1, {"a", "b", "c", "d"}), ["b", "a", "c", "d"])
+        self.assertEqual(reader.near_each_other(-1, {"c", "d"}), ["c", "d"])
+        self.assertEqual(reader.near_each_other(1, {"3", "2", "c"}), ["c", "2", "3"])
 
     def test_a_bad_row_is_found(self) -> None:
         rows = Reader(Failing(), [], set()).rows(SOURCE, {str(k) for k in range(8)})
@@ -252,7 +297,7 @@ class Attempts(unittest.TestCase):
 
     def attempt(self, program: Any) -> Attempt:
         """An attempt without a database."""
-        live: Any = argparse.Namespace(cursor=FakeCursor(), settings=argparse.Namespace(is_preview=False), stale=set(),
+        live: Any = argparse.Namespace(cursor=FakeCursor(), settings=argparse.Namespace(is_preview=False, tolerance=20.0), stale=set(),
                                        program=program, loaded=lambda: {"a": "loaded"})
         work: Any = argparse.Namespace(tables=[])
         return Attempt(live, work, False)
@@ -264,6 +309,76 @@ class Attempts(unittest.TestCase):
         attempt.records, attempt.paths.records, attempt.fresh = ["map"], ["path"], {"map": "old", "other": "old"}
         self.assertEqual(attempt.answers(), {"map": "new", "path": "new", "other": "old"})
         self.assertEqual(self.attempt(None).answers(), {"a": "loaded"})
+
+    def test_open_ends_are_sought_if_streets_are_cut(self) -> None:
+        rows = {"a": StreetRow(1, 5, 6, Street(3, 3, "both", ((place(0), place(1)),)))}
+        cases: List[Tuple[Set[str], int]] = [({"a"}, 0), (set(), 1)]
+        for plain, wanted in cases:
+            attempt: Any = self.attempt(argparse.Namespace())
+            attempt.numbers, change = Numbers(FakeCursor({"select kind, last": [("node", 0), ("line", 0)]})), Change()
+            attempt.reader = argparse.Namespace(blocks=functools.partial(iter, [Block(rows, set(), plain)]))
+            change.keys = {1: {str(k) for k in range(5000)}}
+            with unittest.mock.patch("olr_keep_tools.liveservice.write_all_open_ends") as ends, \
+                    unittest.mock.patch("olr_keep_tools.liveservice.MapUpdate.run", lambda _: []):
+                attempt.apply_map(change)
+            self.assertEqual(ends.call_count, wanted)
+
+    def test_progress_is_said_every_few_seconds(self) -> None:
+        attempt: Any = self.attempt(None)
+        written: List[bool] = []
+        said: List[str] = []
+        attempt.live.write_metrics = written.append
+        attempt.said = time.monotonic() - 11
+        with unittest.mock.patch("olr_keep_tools.liveservice.say", said.append):
+            attempt.tell(5, 10)
+            attempt.tell(6, 10)
+            attempt.said -= 11
+            attempt.tell(500, 900, "paths")
+        self.assertEqual((said, len(written), attempt.live.progress), (["5 of 10 streets", "500 of 900 paths"], 2, (6, 10)))
+
+    @unittest.skipIf(psycopg2 is None, "psycopg2 is not installed")
+    def test_words_of_an_error(self) -> None:
+        self.assertEqual(words_of(ProgramFailed("no reply")), "no reply")
+        self.assertEqual(words_of(MemoryError()), "MemoryError")
+        nothing: Dict[str, int] = {}
+        try:
+            nothing["a"] += 1
+        except KeyError as error:
+            self.assertRegex(words_of(error), r"^KeyError: 'a' \(test_live.py, line \d+\)$")
+
+    def test_a_locked_table_of_paths_is_said_once(self) -> None:
+        settings: Any = argparse.Namespace(metrics=None, is_preview=False)
+        live: Any = Live(settings, [])
+        said: List[str] = []
+        live.wait = lambda _: False
+        with unittest.mock.patch("olr_keep_tools.liveservice.say", said.append):
+            live.wait_unlocked("locked")
+            self.assertEqual(said, [])
+            live.locked_since[0] -= 60
+            live.wait_unlocked("locked")
+            live.wait_unlocked("locked")
+            self.assertEqual(said, ["locked"])
+            live.cursor = FakeCursor()
+            live.report([], {})
+        self.assertEqual((said[1:], live.locked_since), (["olr_keep.path is as it should be again"], {}))
+
+    def test_night(self) -> None:
+        def at(day: int, hour: int) -> time.struct_time:
+            return time.struct_time((2026, 1, 1, hour, 0, 0, 0, day, 0))
+
+        for began, wanted in ((1, [True, False, False, True, False, True]), (5, [False, False, False, True, False, True])):
+            night = Night(3, at(10, began))
+            times = (at(10, 3), at(10, 23), at(11, 2), at(11, 3), at(11, 4), at(10, 4))
+            self.assertEqual([night.is_due(it) for it in times], wanted)
+
+    def test_metrics_that_cannot_be_written_are_said_once(self) -> None:
+        settings: Any = argparse.Namespace(metrics="/nowhere/live.prom")
+        live = Live(settings, [])
+        said: List[str] = []
+        with unittest.mock.patch("olr_keep_tools.liveservice.say", said.append):
+            live.write_metrics()
+            live.write_metrics()
+        self.assertEqual(said, ["/nowhere/live.prom: No such file or directory"])
 
     def test_only_an_empty_map_is_loaded_first(self) -> None:
         attempt = self.attempt(None)
@@ -351,11 +466,24 @@ class Grids(unittest.TestCase):
                 at = [x + (y - x) * k / 100 for x, y in zip(a, b)]
                 self.assertIn(tuple(int(it // 1) for it in at), cells)
 
+    def test_strip_has_all_segments_within_a_distance(self) -> None:
+        strip = Strip([(0.0, 0.0), (90.0, 30.0), (130.0, -280.0), (-170.0, -110.0), (0.0, 10.0)], 50.0)
+        for x in range(-200, 200, 9):
+            for y in range(-300, 100, 11):
+                within = [k for k, (far, _) in enumerate(strip.project((x, y))) if far <= 20]
+                self.assertLessEqual(set(within), set(strip.segments_near((x, y), 20.0)))
+                self.assertEqual(strip.is_near((x, y), 20.0), bool(within))
+
     def test_strip(self) -> None:
         strip = Strip([(0.0, 0.0), (100.0, 0.0), (100.0, 300.0)], 50.0)
         self.assertEqual(list(strip.segments_near((30.0, 40.0))), [0])
         self.assertEqual(list(strip.segments_near((90.0, 10.0))), [0, 1])
         self.assertEqual(list(strip.segments_near((500.0, 500.0))), [])
+
+    def test_long_lines_are_near(self) -> None:
+        network = Network({1: ground(1, 2, "a", degrees(0), degrees(3000, 2500))})
+        self.assertEqual(network.near(degrees(1500, 1250), 1e-4, 1e-4), [1])
+        self.assertEqual(network.near(degrees(2500, 0), 1e-4, 1e-4), [])
 
     def test_network_near(self) -> None:
         network = Network({1: ground(1, 2, "a", degrees(0), degrees(100)), 2: ground(3, 4, "b", degrees(0, 40), degrees(100, 40))})
@@ -483,6 +611,16 @@ class Searches(unittest.TestCase):
         found = search.result()
         self.assertEqual([(name, it and it.lines) for name, it in found.items()], [("p", [1]), ("q", [1]), ("gone", None)])
 
+    def test_long_courses_are_sought_beside_the_session(self) -> None:
+        wanted = self.COURSE._replace(course=tuple((6.1, 49.6 + 1e-7 * k) for k in range(50_001)))
+        for course, is_long in ((self.COURSE, False), (wanted, True)):
+            update = PathsUpdate(FakeCursor(), Affected(), 20.0)
+            self.assertEqual(Search(update, ["p"], FakeFinder(), self.NOTHING, {"p": course}, {}).is_long(), is_long)
+
+    def test_parts(self) -> None:
+        sizes = {count: [len(it) for it in parts_of([str(k) for k in range(count)])] for count in (0, 50, 51, 300, 1100)}
+        self.assertEqual(sizes, {0: [], 50: [50], 51: [50, 1], 300: [150, 150], 1100: [500, 500, 100]})
+
     def test_a_killed_search_is_made_again(self) -> None:
         search = Search(PathsUpdate(FakeCursor(), Affected(), 20.0), ["p"], FakeFinder(row(1, "a")), self.NOTHING,
                         {"p": self.COURSE}, {})
@@ -497,6 +635,12 @@ class Searches(unittest.TestCase):
                         {"p": self.COURSE}, {})
         search.fork()
         self.assertEqual(search.forked and search.forked.result(search.update.tick), {})
+
+    def test_both_directions_have_one_shape(self) -> None:
+        shape = bytes.fromhex("0102000000" + wkb_hex((place(0), place(9)))[18:])
+        along = (1, 5, 6, "3", "3", 100, "a", "both", 0, 0, True, shape)
+        rows = Finder(FakeCursor(), 20.0).take([(2, 6, 5, "3", "3", 100, "a", "both", 0, 0, False, None), along])
+        self.assertEqual([it.points for it in rows], [(degrees(9), degrees(0)), (degrees(0), degrees(9))])
 
     def test_is_there(self) -> None:
         finder = FakeFinder(row(1, "a"))
@@ -579,6 +723,18 @@ class Holding(unittest.TestCase):
         self.assertEqual((set(outcome.waiting), outcome.ended, outcome.published), (set("abc"), set(), {}))
         outcome = self.round("", rows).judge({"a": "text,old-a", "b": "text,new"}, self.LIMITS)
         self.assertEqual((outcome.waiting, outcome.ended, set(outcome.published)), ({}, set("abc"), set("bc")))
+
+    def test_what_waits_as_before_is_not_written(self) -> None:
+        waiting = [(name, 1, None, "refused,1,5", "refused", False) for name in "abc"]
+        it = self.round("", {"where round > 0": self.PUBLISHED, "from olr_keep.waiting": waiting})
+        cursor: Any = it.cursor
+        it.numbers.last["round"] = it.numbers.before["round"] = 7
+        outcome = it.judge({"a": "refused,1,6"}, self.LIMITS)
+        self.assertEqual(it.publish(outcome, 0.1), 8)
+        written = [text for query, _, text in cursor.copied if "olr_keep.waiting" in query]
+        self.assertEqual(written, ["a\t1\t\\N\trefused,1,6\trefused\n"])
+        outcome = it.judge({"a": "refused,1,5"}, self.LIMITS)
+        self.assertEqual((it.publish(outcome, 0.1), set(outcome.waiting)), (0, set("abc")))
 
     def test_released(self) -> None:
         waiting = [(name, 1, None, "refused,1,5", "refused", True) for name in "abc"]
