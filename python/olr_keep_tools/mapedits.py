@@ -11,7 +11,7 @@ from typing import Callable, Deque, Dict, Iterable, Iterator, List, NamedTuple, 
 
 from .command import Failure
 from .geo import METRES, Degrees, between, degrees, distance
-from .records import UNITS, Line, Path, Place, State, decimal
+from .records import UNITS, Line, Margin, Path, Place, State, decimal
 
 REFUSED = 4
 ROUTES = 8  # the number of routes to one node, of one length, that a search follows
@@ -229,3 +229,5 @@ def edits(old: State, new: State, limits: Limits, lost: Dict[str, Lines]) -> Ite
             yield f"set-line,{it},{line_fields(new.lines[it])}"
     yield from repaths(old, new, dropped, limits, lost)
     yield from (f"drop-node,{it}" for it in old.nodes if it not in new.nodes)
+    if new.margin not in (Margin(), old.margin):
+        yield new.margin.record()

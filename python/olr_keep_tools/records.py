@@ -1,4 +1,4 @@
-"""Reads files of records: the map and the paths after the accepted records, and what is published of the paths.
+"""Reads files of records: the map, the paths and their margin after the accepted records, and what is published of the paths.
 
     state = read_state(["map.csv", "paths.csv"])
     for name, path in state.paths.items():
@@ -9,6 +9,7 @@ lengths and offsets decimetres, as in records. A file may be the reply to `dump`
 have to follow it. `Batch` follows `begin`, `commit` and `abort` for all tools that read accepted records, and `is_open_after` for
 those that don't know yet which ones are accepted.
 """
+import argparse
 import re
 import tempfile
 from typing import IO, Callable, Dict, Generic, Iterable, Iterator, List, Mapping, NamedTuple, Optional, Sequence, Tuple
@@ -57,6 +58,25 @@ class Path(NamedTuple):
     positive: int
     negative: int
     lines: Tuple[int, ...]
+
+
+class Margin(NamedTuple):
+    """The margin of all paths: the thousandths by which their own lines count longer, and classes."""
+
+    routes: int = 0
+    classes: int = 0
+
+    def record(self) -> str:
+        """The record that sets it."""
+        return f"margin,{self.routes},{self.classes}"
+
+
+def margin_of(text: str) -> Margin:
+    """A margin, as an argument."""
+    routes, _, classes = text.partition(",")
+    if not (routes.isdecimal() and classes.isdecimal() and int(routes) <= 1000 and int(classes) <= 7):
+        raise argparse.ArgumentTypeError(f"{text}: not ROUTES,CLASSES, 0 to 1000 thousandths and 0 to 7 classes")
+    return Margin(int(routes), int(classes))
 
 
 class RecordsError(Failure):
@@ -129,9 +149,10 @@ class Rejected(NamedTuple):
 
 
 class State:
-    """Nodes as (lon, lat) and lines by number, paths by name, what is published by name, and the rejected records."""
+    """Nodes as (lon, lat) and lines by number, paths by name, their margin, what is published by name, and the rejected records."""
 
     def __init__(self) -> None:
+        self.margin = Margin()
         self.nodes, self.lines = Table(coordinate_of), Table(line_of)
         self.paths: Dict[str, Path] = {}
         self.published: Dict[str, List[str]] = {}
@@ -146,6 +167,8 @@ class State:
                 roads[int(name)] = rest
             elif word == "node":
                 nodes[int(name)] = rest
+            elif word == "margin":
+                self.margin = Margin(int(name), int(rest))
             else:
                 positive, negative, *numbers = map(int, rest.split(","))
                 self.paths[name] = Path(positive, negative, tuple(numbers))

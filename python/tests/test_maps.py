@@ -146,6 +146,9 @@ class Edits(unittest.TestCase):
         self.assertEqual((found, lost), (["drop-line,1", "move,1,6,49.5"], {"a": (1,)}))
         self.assertEqual(self.edits(*self.OLD), ([], {}))
 
+    def test_margin(self) -> None:
+        self.assertEqual(self.edits("margin,50,1", *self.OLD), (["margin,50,1"], {}))
+
     def test_refused(self) -> None:
         for new in (("node,1,6,49",), ("node,2,6.002,49", "node,3,6.002,49.001", "line,2,2,3,3,3,1112")):
             with self.assertRaises(MapRefused):

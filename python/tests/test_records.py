@@ -133,10 +133,12 @@ class Files(unittest.TestCase):
 
     def test_state(self) -> None:
         state = State()
-        state.read_dump(["node,1,6,49", "node,2,6.1,49", "line,5,1,2,3,3,700", "path,a.b,10,0,5"])
+        self.assertEqual(state.margin, (0, 0))
+        state.read_dump(["margin,50,1", "node,1,6,49", "node,2,6.1,49", "line,5,1,2,3,3,700", "path,a.b,10,0,5"])
         state.read_report(["a.b,refused,2,0"])
         self.assertEqual((state.nodes[2], state.lines[5].length, state.ends(5)), ((61000000, 490000000), 700, (1, 2)))
         self.assertEqual((state.paths["a.b"], state.published), ((10, 0, (5,)), {"a.b": ["refused", "2", "0"]}))
+        self.assertEqual((state.margin, state.margin.record()), ((50, 1), "margin,50,1"))
 
 
 class Advice(unittest.TestCase):

@@ -5,7 +5,7 @@ from typing import Iterable, Iterator
 
 from ..command import USAGE, Failure
 from ..files import FileFailure
-from ..records import Path, State
+from ..records import Margin, Path, State
 
 
 def path_record(name: str, path: Path) -> str:
@@ -15,6 +15,8 @@ def path_record(name: str, path: Path) -> str:
 
 def dump(state: State) -> Iterator[str]:
     """The records of a map with its paths."""
+    if state.margin != Margin():
+        yield state.margin.record()
     yield from (f"node,{it},{text}" for it, text in state.nodes.text.items())
     yield from (f"line,{it},{text}" for it, text in state.lines.text.items())
     yield from (path_record(*it) for it in state.paths.items())
