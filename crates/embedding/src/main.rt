@@ -8,7 +8,7 @@ use olr_coords::Coord;
 use olr_map::{Edit, Line, LineId, MapRead, NodeId, NodeLines, RoadMap};
 use olr_refs::{Answer, Path, refer};
 use olr_register::Register;
-use olr_search::Work;
+use olr_route::Work;
 use std::alloc::Global;
 use std::io;
 

@@ -1,6 +1,8 @@
 -- The nodes of a range of cells, and of a window.
-use Rattle.olr_spec.proofs.Common.{◌≡◌, ℕ, ◌+◌, ◌-◌, ◌<◌, ◌≤◌, inl, inr, ℤ, Bool, true, false, nat_lt, nat_le, List, length, take, drop, get_or, Contains, IsTrue, IsFalse, arith, ap, ◌∙◌, subst, cases_lt}
-use Rattle.olr_spec.proofs.Common.{ltb-true, leb-false, get_or-drop, get_or-take, length-drop, length-take-le, Map, coord_at, has_node, Coord}
+use Rattle.olr_spec.proofs.Common.{◌≡◌, ℕ, ◌+◌, ◌-◌, ◌<◌, ◌≤◌, inl, inr, ℤ, Bool, true, false, nat_lt, nat_le, List}
+use Rattle.olr_spec.proofs.Common.{length, take, drop, get_or, Contains, IsTrue, IsFalse, arith, ap, ◌∙◌, subst}
+use Rattle.olr_spec.proofs.Common.{cases_lt, ltb-true, leb-false, get_or-drop, get_or-take, length-drop, length-take-le}
+use Rattle.olr_spec.proofs.Common.{Map, coord_at, has_node, Coord}
 use Rattle.olr_spec.specs.Ambiguity.{is_farther, usual_slack}
 use Rattle.olr_ambiguity.specs.declared.grid.Placed.{Placed}
 use Rattle.olr_ambiguity.specs.declared.rivals.Window.{Window}

@@ -1,6 +1,9 @@
 -- Tests of a list's elements, one after another, and what is noted of them.
-use Rattle.olr_spec.proofs.Common.{◌≡◌, ◌≢◌, ℕ, suc, ◌+◌, ◌<◌, ◌⊎◌, inl, inr, Bool, true, false, not, ◌||◌, ◌&&◌, ◌==◌, List, [], ◌∷◌, ◌++◌, filter, take, length, get_or, Contains, IsTrue, IsFalse, arith, sym, ap, ◌∙◌, subst, refl, ◌↔◌}
-use Rattle.olr_spec.proofs.Common.{eq-eqb, ne_eqb, cases_Bool, or_left, or_right, and_from, and_parts, both_ways, take_more, has, IsStrictlyIncreasing, Map, IsMap, has_line, has_node, coord_at, start, leg, Side, node_on, coordinate_on, ℤ}
+use Rattle.olr_spec.proofs.Common.{◌≡◌, ◌≢◌, ℕ, suc, ◌+◌, ◌<◌, ◌⊎◌, inl, inr, Bool, true, false, not, ◌||◌, ◌&&◌, ◌==◌}
+use Rattle.olr_spec.proofs.Common.{List, [], ◌∷◌, ◌++◌, filter, take, length, get_or, Contains, IsTrue, IsFalse, arith}
+use Rattle.olr_spec.proofs.Common.{sym, ap, ◌∙◌, subst, refl, ◌↔◌, eq-eqb, ne_eqb, cases_Bool, or_left, or_right}
+use Rattle.olr_spec.proofs.Common.{and_from, and_parts, both_ways, take_more, has, IsStrictlyIncreasing, Map, IsMap}
+use Rattle.olr_spec.proofs.Common.{has_line, has_node, coord_at, start, leg, Side, node_on, coordinate_on, ℤ}
 use Rattle.std.specs.List.{list_any}
 use Rattle.std.proofs.lemmas.List.Elements.{Contains-push_cases, Contains-get_or}
 use Rattle.std.proofs.lemmas.List.Folds.{Any-from_list_any}

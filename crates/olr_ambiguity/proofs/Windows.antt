@@ -1,6 +1,7 @@
 -- Each node that isn't farther by more than the slack is in the window.
-use Rattle.olr_spec.proofs.Common.{◌≡◌, ℕ, ◌+◌, ◌-◌, ◌*◌, ◌/◌, ◌<◌, ◌≤◌, ℤ, pos, negsuc, ◌+ℤ◌, ◌-ℤ◌, ◌≤ℤ◌, nat_abs, nat_lt, min, max, false, IsFalse, arith, ints, ◌∙◌, ltb-false, or_parts, mul-le, Coord}
-use Rattle.olr_spec.proofs.Common.{w128, to_z, to_z-of_z, ◌^◌}
+use Rattle.olr_spec.proofs.Common.{◌≡◌, ℕ, ◌+◌, ◌-◌, ◌*◌, ◌/◌, ◌<◌, ◌≤◌, ℤ, pos, negsuc, ◌+ℤ◌, ◌-ℤ◌, ◌≤ℤ◌, nat_abs}
+use Rattle.olr_spec.proofs.Common.{nat_lt, min, max, false, IsFalse, arith, ints, ◌∙◌, ltb-false, or_parts, mul-le}
+use Rattle.olr_spec.proofs.Common.{Coord, w128, to_z, to_z-of_z, ◌^◌}
 use Rattle.olr_bearing.proofs.Scaling.{held}
 use Rattle.std.proofs.Math.Nat.{div-mul-le_self, le-div_iff_mul-le, mul-le-mul_left, mul-le-mul_right, min-le_right}
 use Rattle.olr_spec.specs.Recovery.{lon_apart, lat_apart}

@@ -15,7 +15,7 @@ use crate::grid::Grid;
 use crate::own_line::{OwnLine, Side, is_twin_of, is_unclear, lines_on, own_line};
 use crate::rivals::rivals;
 use olr_binary::Reference as PublishedReference;
-use olr_roads::{LineId, MapRead, NodeId};
+use olr_model::{LineId, MapRead, NodeId};
 use std::alloc::{AllocError, Global};
 
 /// What stands in the way at an LRP.

@@ -6,7 +6,7 @@ ghost use Rattle.olr_ambiguity.specs.Grids.{Ends, IsGrid, IsPlacing, Starts, cel
 
 use crate::own_line::coord_of;
 use olr_coords::Coord;
-use olr_roads::{MapRead, NodeId};
+use olr_model::{MapRead, NodeId};
 use std::alloc::{AllocError, Global};
 
 /// The width of a cell, in units: 23 m of latitude.

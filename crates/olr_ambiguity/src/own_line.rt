@@ -17,7 +17,7 @@ use olr_bearing::{
     is_direction,
 };
 use olr_coords::Coord;
-use olr_roads::{Line, LineId, MapRead, NodeId};
+use olr_model::{Line, LineId, MapRead, NodeId};
 
 /// Which lines are the candidates of an LRP.
 #[derive(Clone, Copy, Debug, PartialEq, Eq)]

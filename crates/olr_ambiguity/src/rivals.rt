@@ -14,7 +14,7 @@ use crate::grid::{Grid, LAST_CELL, Placed, cell_at, column_of, row_of};
 use crate::measures::{ONE, SLACK, cosine_up_to, is_farther, lat_apart, lon_apart};
 use crate::own_line::{OwnLine, is_outdone, lines_on};
 use olr_coords::Coord;
-use olr_roads::{Footprint, LineId, MapRead, NodeId};
+use olr_model::{Footprint, LineId, MapRead, NodeId};
 use std::alloc::{AllocError, Global};
 
 /// A part of the grid, by its first and last rows and columns.

@@ -1,7 +1,7 @@
 //! The answer of a path on a map: a reference, or the reason why the path is not encodable.
 
 use olr_binary::Reference;
-use olr_roads::LineId;
+use olr_model::LineId;
 
 /// Why a path is not encodable. The reasons are tested in this order.
 #[derive(Clone, Copy, Debug, PartialEq, Eq)]

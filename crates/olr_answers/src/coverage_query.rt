@@ -1,7 +1,7 @@
 //! Coverage queries.
 ghost use Rattle.olr_spec.specs.Queries as queries;
 
-use olr_roads::NodeId;
+use olr_model::NodeId;
 use std::marker::Model;
 
 /// A coverage query: a search of an encoding, which finds how far the lines after an LRP are the unique shortest path.

@@ -2,7 +2,7 @@
 ghost use Rattle.std.specs.Prelude.{◌≡◌, ◌<◌, IsTrue, IsFalse, IfOk, OnOk, IsErrOf, not, length, ◌⊎◌};
 ghost use Rattle.olr_spec.specs.Extension.{Path as Record, is_path, none_twice};
 
-use olr_roads::LineId;
+use olr_model::LineId;
 use std::alloc::{AllocError, Global};
 use std::marker::Model;
 use thiserror::Error;

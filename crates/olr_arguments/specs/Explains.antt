@@ -11,9 +11,9 @@ use Rattle.clap.specs.declared.error.kind.ErrorKind.{ErrorKind}
 use Rattle.olr_arguments.specs.Options.{is_asked_for}
 use Rattle.olr_arguments.specs.declared.arguments.OptionsFault.{OptionsFault}
 use Rattle.olr_arguments.specs.declared.arguments.OptionsFault.TheVariants as opts
-use Rattle.olr_sessions.specs.Sessions.{Known}
-use Rattle.olr_sessions.specs.declared.ends.RunFault.{RunFault}
-use Rattle.olr_sessions.specs.declared.ends.RunFault.TheVariants as fault
+use Rattle.olr_input.specs.Sessions.{Known}
+use Rattle.olr_input.specs.declared.ends.RunFault.{RunFault}
+use Rattle.olr_input.specs.declared.ends.RunFault.TheVariants as fault
 
 -- a text was written: exactly this one if it is known
 abbrev pub Adds : Known → Known → Known → Type 0

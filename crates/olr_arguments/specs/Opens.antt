@@ -4,7 +4,7 @@ use Rattle.std.specs.Prelude.{◌≡◌, ℕ, List, [], Option, Some, None, opti
 use Rattle.std.specs.Result.{result_ok}
 use Rattle.std.specs.Borrow.{Bor}
 use Rattle.std.specs.Fn.{Once, FnOnceReturnsAt}
-use Rattle.olr_sessions.specs.Sessions.{Known}
+use Rattle.olr_input.specs.Sessions.{Known}
 
 -- the bytes of the file if they are known, or None if it can't be opened
 abbrev pub Opens : {O F E : Type 0} → Once O (Bor (List ℕ) × Unit {0}) (Result F E) → (F → Known) → O → List ℕ →

@@ -4,8 +4,8 @@
 --     IsSize text n      a text names this number of bytes, from 1 on and of 64 bits at most: a decimal number, perhaps behind a
 --         plus sign, of such units
 --     IsLength asked length      the least length of a log that is compacted, if what was asked for is a size
-use Rattle.std.specs.Prelude.{◌≡◌, ◌*◌, ◌-◌, ◌^◌, ◌<◌, ◌==◌, ℕ, List, Option, Some, None, take, length, slice_index, if◌then◌else◌}
-use Rattle.std.specs.Prelude.{MatchOption}
+use Rattle.std.specs.Prelude.{◌≡◌, ◌*◌, ◌-◌, ◌^◌, ◌<◌, ◌==◌, ℕ, List, Option, Some, None, take, length, slice_index}
+use Rattle.std.specs.Prelude.{if◌then◌else◌, MatchOption}
 use Rattle.std.specs.Str.Parse.{IsNumeral, digits_value, without_leading_plus}
 
 abbrev pub last_byte : List ℕ → ℕ

@@ -1,11 +1,11 @@
 //! Why the arguments gave no options: help, the version or a fault is written.
 
 ghost use Rattle.std.specs.Prelude.{◌≡◌, ◌≤◌, [], OnOk};
-ghost use Rattle.olr_sessions.specs.Buffers.{held, written};
+ghost use Rattle.olr_input.specs.Buffers.{held, written};
 ghost use Rattle.olr_arguments.specs.Explains.{ExplainsFault, Shows};
 
 use crate::arguments::OptionsFault;
-use olr_sessions::{Buffered, RunFault, report_fault, write_all};
+use olr_input::{Buffered, RunFault, report_fault, write_all};
 use std::alloc::Global;
 use std::fmt::Display;
 use std::io::Write;

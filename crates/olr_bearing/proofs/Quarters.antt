@@ -1,6 +1,7 @@
 -- The margins of the sectors of one quarter determine those of the others.
-use Rattle.olr_spec.proofs.Common.{◌≡◌, ℕ, zero, suc, ◌+◌, ◌<◌, ◌/◌, ◌%◌, List, map, length, get_or, refl, sym, ap, ◌∙◌, arith, cases_lt, inl, inr}
-use Rattle.olr_spec.proofs.Common.{get_or-map, get_or_append_left, get_or-append-add, length-append, Vector, up_to, [], ◌∷◌, ◌++◌}
+use Rattle.olr_spec.proofs.Common.{◌≡◌, ℕ, zero, suc, ◌+◌, ◌<◌, ◌/◌, ◌%◌, List, map, length, get_or, refl, sym, ap, ◌∙◌}
+use Rattle.olr_spec.proofs.Common.{arith, cases_lt, inl, inr, get_or-map, get_or_append_left, get_or-append-add}
+use Rattle.olr_spec.proofs.Common.{length-append, Vector, up_to, [], ◌∷◌, ◌++◌}
 use Rattle.std.specs.Prelude.{slice_index_or}
 use Rattle.olr_spec.specs.Directions.{first_after, first_before, margin_start, margin_end}
 use Rattle.olr_spec.specs.Bearings.{quarters}

@@ -1,6 +1,7 @@
 -- The ranges of coordinates, and of coordinates between two others.
 use Rattle.olr_spec.proofs.Common.{◌≡◌, ℕ, ◌+◌, ◌-◌, ◌*◌, ◌≤◌, ℤ, pos, negsuc, ◌+ℤ◌, ◌-ℤ◌, ◌*ℤ◌, IsTrue, to_z, of_z, ap}
-use Rattle.olr_spec.proofs.Common.{arith, Width, w64, w128, FitsSigned, to_z-of_z, subst, sym, ints, and_parts, Coord, is_coord, thousandths}
+use Rattle.olr_spec.proofs.Common.{arith, Width, w64, w128, FitsSigned, to_z-of_z, subst, sym, ints, and_parts, Coord}
+use Rattle.olr_spec.proofs.Common.{is_coord, thousandths}
 use Rattle.olr_spec.proofs.BytesLemmas.{bounds}
 use Rattle.olr_bearing.specs.Ranges.{IsWithin, IsPart, IsBoundary, degree_units}
 use Rattle.olr_bearing.proofs.Products.{natural_product_within, times_sum, sum_times}

@@ -1,7 +1,7 @@
 -- A quarter turn of a direction turns its sector, so the sectors of one quarter determine those of the others.
-use Rattle.olr_spec.proofs.Common.{◌≡◌, ℕ, suc, ◌+◌, ◌<◌, ℤ, pos, ◌-ℤ◌, ◌*ℤ◌, ◌<ℤ◌, map, take, drop, get_or}
-use Rattle.olr_spec.proofs.Common.{IsTrue, refl, sym, ap, ◌∙◌, subst, arith, ints, get_or-drop, get_or-take, get_or-map}
-use Rattle.olr_spec.proofs.Common.{Vector, vector, boundary, boundaries, quarter_turn, beyond, lies_between, IsSector, sector}
+use Rattle.olr_spec.proofs.Common.{◌≡◌, ℕ, suc, ◌+◌, ◌<◌, ℤ, pos, ◌-ℤ◌, ◌*ℤ◌, ◌<ℤ◌, map, take, drop, get_or, IsTrue}
+use Rattle.olr_spec.proofs.Common.{refl, sym, ap, ◌∙◌, subst, arith, ints, get_or-drop, get_or-take, get_or-map, Vector}
+use Rattle.olr_spec.proofs.Common.{vector, boundary, boundaries, quarter_turn, beyond, lies_between, IsSector, sector}
 use Rattle.std.proofs.Common.{neg_ℤ}
 use Rattle.olr_spec.proofs.SectorLemmas.{one_sector, sector_is, neg_right, neg_left}
 

@@ -9,7 +9,7 @@ ghost use Rattle.olr_bearing.specs.Ranges.{HasParts, IsFactor, IsInRange, IsPart
 use crate::places::{Ends, Scaled, place};
 use crate::sectors::sector;
 use olr_coords::Coord;
-use olr_roads::Line;
+use olr_model::Line;
 use std::marker::Model;
 
 /// BEARDIST, the length of a line over which its bearing is taken, in decimetres.

@@ -6,7 +6,7 @@ ghost use Rattle.olr_bearing.specs.Ranges.{IsInRange};
 ghost use Rattle.olr_bearing.specs.Legs.{leg_between};
 
 use olr_coords::Coord;
-use olr_roads::{Line, Shape};
+use olr_model::{Line, Shape};
 use std::marker::Model;
 
 /// The coordinates of a line's two ends.

@@ -1,8 +1,9 @@
 -- The changes that a content is written as build it from an empty one.
 use Rattle.olr_commands.proofs.Common.{cases_eq, AllByRecursion, Map, IsMap, Line, is_good, got_other, got_same, Margin}
 use Rattle.olr_commands.proofs.Common.{no_margin}
-use Rattle.std.proofs.Common.{arith, ◌≡◌, ◌≢◌, ℕ, Bool, true, false, T, if◌then◌else◌, List, [], ◌∷◌, ◌++◌, map, Option, Some, None, is_some}
-use Rattle.std.proofs.Common.{Ok, refl, sym, ap, ◌∙◌, append_assoc, nat_cmp, Ordering, is_lt, is_eq}
+use Rattle.std.proofs.Common.{arith, ◌≡◌, ◌≢◌, ℕ, Bool, true, false, T, if◌then◌else◌, List, [], ◌∷◌, ◌++◌, map, Option}
+use Rattle.std.proofs.Common.{Some, None, is_some, Ok, refl, sym, ap, ◌∙◌, append_assoc, nat_cmp, Ordering, is_lt}
+use Rattle.std.proofs.Common.{is_eq}
 use Rattle.std.proofs.lemmas.Bool.{eq-eqb, ne_eqb}
 use Rattle.std.proofs.lemmas.List.{append-nil}
 use Rattle.std.specs.Cmp.{nat_cmp_total}
@@ -12,9 +13,8 @@ use Rattle.std.specs.FinMap.Entries.{below_all, find, is_sorted}
 use Rattle.olr_spec.specs.Coordinates.{Coord}
 use Rattle.olr_commands.specs.State.{Named, Content, no_content, path_named, Change, with_change, next, Make, ArePaths}
 use Rattle.olr_commands.specs.State.{NamesDiffer, Set_margin}
-use Rattle.olr_commands.specs.Dump.{node_change, line_change, path_change, dump_changes, adds_nothing, margin_changes, Leads}
-use Rattle.olr_commands.specs.Dump.{steps, DumpsLead}
-use Rattle.olr_commands.specs.Dump.{DumpsRun}
+use Rattle.olr_commands.specs.Dump.{node_change, line_change, path_change, dump_changes, adds_nothing, margin_changes}
+use Rattle.olr_commands.specs.Dump.{Leads, steps, DumpsLead, DumpsRun}
 use Rattle.olr_commands.proofs.StateLemmas.{next_ok}
 use Rattle.olr_commands.proofs.NameLemmas.{named_push, not_named, flipped}
 

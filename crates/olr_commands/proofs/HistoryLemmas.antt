@@ -10,8 +10,9 @@ use Rattle.olr_spec.proofs.UndoLemmas.{empty_sound}
 use Rattle.olr_spec.specs.Joins.{JoinedWith}
 use Rattle.olr_spec.proofs.JoinedAnswers.{joined_with}
 use Rattle.olr_commands.specs.State.{Named, Content, path_named, same_name, ArePaths, NamesDiffer, IsContent, Fault}
-use Rattle.olr_commands.specs.State.{Change, after, Command, Make, Compact, Begin, Commit, Abort, State, start_state, step}
-use Rattle.olr_commands.specs.State.{changes_made, changes_made_in, IsState, Dump, Show_node, Show_line, Show_margin}
+use Rattle.olr_commands.specs.State.{Change, after, Command, Make, Compact, Begin, Commit, Abort, State, start_state}
+use Rattle.olr_commands.specs.State.{step, changes_made, changes_made_in, IsState, Dump, Show_node, Show_line}
+use Rattle.olr_commands.specs.State.{Show_margin}
 use Rattle.olr_commands.specs.Reply.{Entry, entry, Paths, HasAnswer, Published, ChangedOf, Differences, IsReply}
 use Rattle.olr_commands.specs.Reply.{Outcome, IsOutcome, Dumped, Reply}
 use Rattle.olr_commands.specs.History.{Run, brought_by, next_state, all_changes_made, OneOf, IsPublished, names}

@@ -3,10 +3,11 @@ use Rattle.olr_commands.proofs.Common.{nat_le, IfSome, IfOk, result_unwrap_or, n
 use Rattle.olr_commands.proofs.Common.{MapFault, edited, edits_keep}
 use Rattle.std.proofs.Common.{◌≡◌, ℕ, ◌+◌, ◌≤◌, arith, Bool, true, false, List, [], ◌∷◌, ◌++◌, length, Option, Some}
 use Rattle.std.proofs.Common.{None, Result, Ok, Err, refl, ap, subst}
-use Rattle.olr_commands.specs.State.{Content, Fault, when, Change, On_map, Add_path, Set_path, Drop_path, Set_margin, with_map}
-use Rattle.olr_commands.specs.State.{with_change, next, after, Command, Make, Show, Report, Explain, Begin, Commit}
-use Rattle.olr_commands.specs.State.{Abort, State, full, step, step_in, IsContent, AllAccepted, IsBatch, IsState}
-use Rattle.olr_commands.specs.State.{HasCoords, Dump, Compact, Preview, Ambiguous, Show_node, Show_line, Show_margin, Depends}
+use Rattle.olr_commands.specs.State.{Content, Fault, when, Change, On_map, Add_path, Set_path, Drop_path, Set_margin}
+use Rattle.olr_commands.specs.State.{with_map, with_change, next, after, Command, Make, Show, Report, Explain, Begin}
+use Rattle.olr_commands.specs.State.{Commit, Abort, State, full, step, step_in, IsContent, AllAccepted, IsBatch}
+use Rattle.olr_commands.specs.State.{IsState, HasCoords, Dump, Compact, Preview, Ambiguous, Show_node, Show_line}
+use Rattle.olr_commands.specs.State.{Show_margin, Depends}
 use Rattle.olr_commands.proofs.NameLemmas.{differ_push, differ_set, differ_filter, paths_push, paths_set, paths_filter}
 use Rattle.std.proofs.lemmas.List.{length_push}
 use Rattle.std.proofs.lemmas.Result.{IfOk-at_ok}

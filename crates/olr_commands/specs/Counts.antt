@@ -8,8 +8,8 @@ use Rattle.std.specs.Prelude.{◌≡◌, ℕ, suc, Bool, true, false, List, [], 
 use Rattle.std.specs.List.{list_any}
 use Rattle.olr_spec.specs.Map.{Map, touched_nodes, touched_lines, has}
 use Rattle.olr_spec.specs.Footprint.{FootWith}
-use Rattle.olr_commands.specs.State.{Named, Content, same_name, Change, On_map, Add_path, Set_path, Set_margin, next, State}
-use Rattle.olr_commands.specs.State.{Command, changes_made}
+use Rattle.olr_commands.specs.State.{Named, Content, same_name, Change, On_map, Add_path, Set_path, Set_margin, next}
+use Rattle.olr_commands.specs.State.{State, Command, changes_made}
 
 -- the nodes and the lines that a change touches
 abbrev pub nodes_of_change : Map → Change → List ℕ

@@ -10,8 +10,8 @@ use Rattle.std.specs.FinMap.{entries}
 use Rattle.olr_spec.specs.Map.{Map, Line, Add_node, Add_line, coord_at, line_at, start, end}
 use Rattle.olr_spec.specs.Coordinates.{Coord}
 use Rattle.olr_spec.specs.Margins.{Margin}
-use Rattle.olr_commands.specs.State.{Named, Content, no_content, Fault, Change, On_map, Add_path, Set_margin, after, Command, Make}
-use Rattle.olr_commands.specs.State.{State, start_state, step, IsContent, AllAccepted}
+use Rattle.olr_commands.specs.State.{Named, Content, no_content, Fault, Change, On_map, Add_path, Set_margin, after}
+use Rattle.olr_commands.specs.State.{Command, Make, State, start_state, step, IsContent, AllAccepted}
 use Rattle.olr_commands.specs.RecordText.{record_line}
 
 abbrev pub node_change : ℕ × Coord → Change

@@ -7,8 +7,8 @@
 --         command or for none
 --     IsPublished, IsJoined, IsNamed, IsRefused, IsDumped      the five claims.
 --     Headline      all of them, of one run
-use Rattle.std.specs.Prelude.{◌≡◌, ℕ, Bool, true, false, List, [], ◌∷◌, ◌++◌, map, length, Option, Some, None, IfSome, Ok}
-use Rattle.std.specs.Prelude.{Err, IsTrue, ◌↔◌}
+use Rattle.std.specs.Prelude.{◌≡◌, ℕ, Bool, true, false, List, [], ◌∷◌, ◌++◌, map, length, Option, Some, None, IfSome}
+use Rattle.std.specs.Prelude.{Ok, Err, IsTrue, ◌↔◌}
 use Rattle.std.specs.Result.{result_unwrap_or}
 use Rattle.std.specs.List.{list_any, AllByRecursion, concat}
 use Rattle.olr_spec.specs.Map.{Map}

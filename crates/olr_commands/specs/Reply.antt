@@ -15,14 +15,13 @@ use Rattle.olr_spec.specs.Extension.{Path}
 use Rattle.olr_spec.specs.Reference.{Reference}
 use Rattle.olr_spec.specs.Encoding.{Answer, Points, Refused, Refusal, EncodesWith}
 use Rattle.olr_spec.specs.Bytes.{HasBytes}
-use Rattle.olr_roads.specs.Edits.{allocates}
+use Rattle.olr_model.specs.Edits.{allocates}
 use Rattle.olr_binary.specs.Text.{text_of}
 use Rattle.olr_commands.specs.State.{Named, Content, path_named, Fault, Syntax, Range, Map_fault, Path_exists, No_path}
 use Rattle.olr_commands.specs.State.{Bad_path, Not_a_reference, Memory, Batch_open, No_batch, Count_differs, Batch_full}
-use Rattle.olr_commands.specs.State.{Not_a_record, Dump}
-use Rattle.olr_commands.specs.State.{Change, On_map, Drop_path, State, Command, Make, Show, Report, Explain, Begin}
-use Rattle.olr_commands.specs.State.{Preview, Commit, Abort, Show_node, Show_line, Show_margin, Depends, Compact, Ambiguous}
-use Rattle.olr_commands.specs.State.{Set_margin, step, with_held}
+use Rattle.olr_commands.specs.State.{Not_a_record, Dump, Change, On_map, Drop_path, State, Command, Make, Show, Report}
+use Rattle.olr_commands.specs.State.{Explain, Begin, Preview, Commit, Abort, Show_node, Show_line, Show_margin, Depends}
+use Rattle.olr_commands.specs.State.{Compact, Ambiguous, Set_margin, step, with_held}
 use Rattle.olr_commands.specs.RecordText.{record_line}
 use Rattle.olr_commands.specs.Dump.{dump_lines, node_changes, line_changes}
 use Rattle.olr_commands.specs.Dependents.{Dependents}

@@ -5,9 +5,9 @@ use Rattle.std.specs.Result.{result_map_both}
 use Rattle.olr_spec.specs.Bytes.{Length, Status, Flags, Reserved}
 use Rattle.olr_spec.specs.Extension.{Path}
 use Rattle.olr_spec.specs.Map as map_faults
-use Rattle.olr_roads.specs.Edits.{edit_of}
-use Rattle.olr_roads.specs.declared.edit.EditFault.{EditFault}
-use Rattle.olr_roads.specs.declared.edit.EditFault.TheVariants as edit
+use Rattle.olr_model.specs.Edits.{edit_of}
+use Rattle.olr_model.specs.declared.edit.EditFault.{EditFault}
+use Rattle.olr_model.specs.declared.edit.EditFault.TheVariants as edit
 use Rattle.olr_binary.specs.declared.faults.V3Fault.TheVariants as bytes
 use Rattle.olr_binary.specs.declared.faults.TextFault.{TextFault}
 use Rattle.olr_binary.specs.declared.faults.TextFault.TheVariants as text

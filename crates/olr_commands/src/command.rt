@@ -1,7 +1,7 @@
 //! Commands to a register of named paths.
 
 use olr_answers::Margin;
-use olr_roads::{Edit, LineId, NodeId};
+use olr_model::{Edit, LineId, NodeId};
 
 /// A command. In records a name has 1 to 64 bytes; here it may be any text.
 #[derive(Drop, Debug)]

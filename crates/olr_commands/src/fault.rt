@@ -4,7 +4,7 @@ ghost use Rattle.std.specs.Prelude.{◌≡◌};
 ghost use Rattle.olr_commands.specs.declared.fault.CommandFault.TheVariants.{Memory};
 
 use olr_binary::{TextFault, V3Fault};
-use olr_roads::EditFault;
+use olr_model::EditFault;
 use std::alloc::AllocError;
 use thiserror::Error;
 

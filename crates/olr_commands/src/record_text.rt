@@ -10,7 +10,7 @@ ghost use Rattle.olr_commands.specs.State.{On_map, Add_path, Set_margin};
 use itoa::{Buffer, Integer};
 use olr_answers::{Margin, Path};
 use olr_coords::{Coord, push_degrees};
-use olr_roads::{Line, LineId, NodeId, Shape};
+use olr_model::{Line, LineId, NodeId, Shape};
 use std::alloc::AllocError;
 
 /// Appends a comma and a field.

@@ -4,7 +4,7 @@ ghost use Rattle.std.specs.List.{list_all};
 ghost use Rattle.olr_commands.specs.Recordable as recordable;
 
 use olr_coords::{Coord, has_degrees_text};
-use olr_roads::{Line, Shape};
+use olr_model::{Line, Shape};
 
 /// The greatest length of a name in a record, in bytes.
 const LONGEST_NAME: usize = 64;

@@ -4,7 +4,7 @@
 #![tactic(auto)]
 
 use olr_arguments::{Options, OptionsFault, WRONG_ARGUMENTS, compaction_length, options};
-use olr_journal::{
+use olr_log::{
     HostDisk, LogFile, LogFolder, OpenError, Unknown, open_place, open_records, set_aside,
 };
 use olr_run::{Buffered, RunFault, report_fault, run_program, run_program_with_log};
@@ -37,7 +37,7 @@ fn open_log<'a>(
     let bytes = log.left_over();
     if let Some(aside) = set_aside(&mut log)? {
         let _ = eprintln!(rt;
-            "olr-keep: moved the last {bytes} bytes of {name}, no whole record or batch, to {aside}"
+            "olr-keep: moved the last {bytes} bytes of {name}, from a record or batch that isn't whole on, to {aside}"
         );
     }
     Ok(log)

@@ -1,7 +1,9 @@
 -- The angle from the middle of a sector, for directions in the sector and beyond its margin.
-use Rattle.olr_spec.proofs.Common.{◌≡◌, ℕ, zero, suc, ◌+◌, ◌*◌, ◌/◌, ◌%◌, ◌<◌, ◌≤◌, ℤ, pos, negsuc, ◌-ℤ◌, ◌*ℤ◌, ◌≤ℤ◌, ◌<ℤ◌, Bool, true, false}
-use Rattle.olr_spec.proofs.Common.{not, nat_lt, nat_abs, int_le, List, [], ◌∷◌, map, arith, ints, refl, sym, ap, ◌∙◌, subst, inl, inr}
-use Rattle.olr_spec.proofs.Common.{and_parts, and_from, leb-true, le-leb, cases_Bool, has, Vector, vector, boundary, beyond, quarter_turn, lies_between, IsSector, up_to}
+use Rattle.olr_spec.proofs.Common.{◌≡◌, ℕ, zero, suc, ◌+◌, ◌*◌, ◌/◌, ◌%◌, ◌<◌, ◌≤◌, ℤ, pos, negsuc, ◌-ℤ◌, ◌*ℤ◌, ◌≤ℤ◌}
+use Rattle.olr_spec.proofs.Common.{◌<ℤ◌, Bool, true, false, not, nat_lt, nat_abs, int_le, List, [], ◌∷◌, map, arith}
+use Rattle.olr_spec.proofs.Common.{ints, refl, sym, ap, ◌∙◌, subst, inl, inr, and_parts, and_from, leb-true, le-leb}
+use Rattle.olr_spec.proofs.Common.{cases_Bool, has, Vector, vector, boundary, beyond, quarter_turn, lies_between}
+use Rattle.olr_spec.proofs.Common.{IsSector, up_to}
 use Rattle.olr_spec.proofs.SectorLemmas.{has_below, same_at, turned, turns_into, le_yes, le_test, neg_right, neg_left}
 use Rattle.std.proofs.Common.{neg_ℤ, int_lt}
 use Rattle.std.proofs.Math.Nat.{mul-le-mul_right}

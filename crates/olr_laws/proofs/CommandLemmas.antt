@@ -1,14 +1,15 @@
 -- An accepted command has one reply, apart from out of memory a command has one outcome, counts are determined, and the
 -- claims hold of runs from the start.
-use Rattle.olr_commands.proofs.Common.{Map, IsMap, Path, Reference, Answer, EncodesWith, Margin, one_answer_with, one_decoding}
-use Rattle.olr_commands.proofs.Common.{both_ways, concat, cases_Bool, cases_eq, bytes_decides, is_path, Refused}
-use Rattle.olr_commands.proofs.Common.{Refusal, some_answer_with}
+use Rattle.olr_commands.proofs.Common.{Map, IsMap, Path, Reference, Answer, EncodesWith, Margin, one_answer_with}
+use Rattle.olr_commands.proofs.Common.{one_decoding, both_ways, concat, cases_Bool, cases_eq, bytes_decides, is_path}
+use Rattle.olr_commands.proofs.Common.{Refused, Refusal, some_answer_with}
 use Rattle.std.proofs.Common.{arith, ◌≡◌, ℕ, List, [], ◌∷◌, Option, Some, None, sym, ap, ◌∙◌, subst, Result, Ok, Err}
 use Rattle.std.specs.Prelude.{IfSome, ◌↔◌, ◌==◌}
 use Rattle.std.proofs.Common.{map, IsFalse, inl, inr, ◌⊎◌, ◌≢◌, suc, true, false, not, length, is_some, IsTrue, refl}
 use Rattle.olr_commands.specs.State.{Named, Content, ArePaths, IsContent, Change, State, Command, Make, Show, Report}
-use Rattle.olr_commands.specs.State.{Explain, Begin, Commit, Abort, IsState, Dump, Fault, HasCoords, step, step_in, path_named}
-use Rattle.olr_commands.specs.State.{Show_node, Show_line, Show_margin, Set_margin, Depends, Compact, Preview, Ambiguous}
+use Rattle.olr_commands.specs.State.{Explain, Begin, Commit, Abort, IsState, Dump, Fault, HasCoords, step, step_in}
+use Rattle.olr_commands.specs.State.{path_named, Show_node, Show_line, Show_margin, Set_margin, Depends, Compact}
+use Rattle.olr_commands.specs.State.{Preview, Ambiguous}
 use Rattle.olr_commands.specs.RecordText.{record_line}
 use Rattle.olr_commands.specs.State.{same_name, has_path, No_path, changes_made, changes_made_in, start_state}
 use Rattle.olr_commands.specs.Reply.{Entry, entry, Reply, Fields, HasAnswer, AllOf, ChangedOf, Differences, Shown}

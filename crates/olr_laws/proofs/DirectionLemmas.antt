@@ -1,8 +1,10 @@
 -- Every receiver that compares directions recovers the legs between the remaining LRPs.
 use Rattle.olr_spec.specs.Margins.{Margin}
-use Rattle.olr_spec.proofs.Common.{◌*◌, lt-ltb, le-ltb, ◌≡◌, ◌≢◌, ℕ, ◌+◌, ◌≤◌, ◌<◌, ◌⊎◌, nat_lt, nat_le, ℤ, pos, Bool, true, false, ◌↔◌, IsTrue, IsFalse, arith, eqb-true, ltb-true, leb-true}
-use Rattle.olr_spec.proofs.Common.{cases_eq, cases_Bool, or_cases, and_parts, nat_abs, ap, sym, ◌∙◌, subst, refl, inl, inr, ◌&&◌, ◌||◌, not, ◌==◌}
-use Rattle.olr_spec.proofs.Common.{Map, has_line, line_at, leg, Leg, candidates, Side, IsSector, sector, Vector}
+use Rattle.olr_spec.proofs.Common.{◌*◌, lt-ltb, le-ltb, ◌≡◌, ◌≢◌, ℕ, ◌+◌, ◌≤◌, ◌<◌, ◌⊎◌, nat_lt, nat_le, ℤ, pos, Bool}
+use Rattle.olr_spec.proofs.Common.{true, false, ◌↔◌, IsTrue, IsFalse, arith, eqb-true, ltb-true, leb-true, cases_eq}
+use Rattle.olr_spec.proofs.Common.{cases_Bool, or_cases, and_parts, nat_abs, ap, sym, ◌∙◌, subst, refl, inl, inr, ◌&&◌}
+use Rattle.olr_spec.proofs.Common.{◌||◌, not, ◌==◌, Map, has_line, line_at, leg, Leg, candidates, Side, IsSector}
+use Rattle.olr_spec.proofs.Common.{sector, Vector}
 use Rattle.olr_spec.proofs.SectorLemmas.{sector_is}
 use Rattle.olr_spec.proofs.ReceiverLemmas.{Describes, recovered_by, passes}
 use Rattle.olr_spec.specs.Receiver.{Lrp, Rating, NowhereWorse, SomewhereBetter, Outgoing, Incoming, sector_on, coordinate_on}

@@ -1,7 +1,7 @@
 -- Two lines in one sector, of other classes.
-use Rattle.olr_spec.proofs.Common.{ℤ, pos, ◌-ℤ◌, ◌*◌, nat_abs, nat_lt, ints, not, not-true, ◌≡◌, ℕ, ◌≤◌, true, false, [], ◌∷◌, refl, ap, ◌∙◌, subst, IsTrue, arith}
-use Rattle.olr_spec.proofs.Common.{Map, IsMap, has_line, start, end, dm, passing, Candidate, To_end}
-use Rattle.olr_spec.proofs.Common.{Points, Encodes, reference, Leg, leg, fit16, candidates}
+use Rattle.olr_spec.proofs.Common.{ℤ, pos, ◌-ℤ◌, ◌*◌, nat_abs, nat_lt, ints, not, not-true, ◌≡◌, ℕ, ◌≤◌, true, false}
+use Rattle.olr_spec.proofs.Common.{[], ◌∷◌, refl, ap, ◌∙◌, subst, IsTrue, arith, Map, IsMap, has_line, start, end, dm}
+use Rattle.olr_spec.proofs.Common.{passing, Candidate, To_end, Points, Encodes, reference, Leg, leg, fit16, candidates}
 use Rattle.olr_spec.specs.Receiver.{Outgoing, Incoming, decoded_coord, Lrp, lrp_at}
 use Rattle.olr_spec.specs.Recovery.{Distinct, DistinctAt}
 use Rattle.olr_laws.specs.Rows.{axes_sum}

@@ -5,26 +5,26 @@ use Rattle.csv.specs.declared.parser.State.TheVariants as st
 use Rattle.olr_records.specs.Records.{HoldsList}
 use Rattle.olr_records.specs.ReplyText.{outcome_text}
 use Rattle.olr_run.specs.Output.{records_of, CommandOutcome}
-use Rattle.olr_sessions.proofs.CsvRecords.{only_records}
-use Rattle.olr_sessions.specs.Lines.{is_line_end}
-use Rattle.olr_sessions.specs.SingleLines.{most_in_line, start, line_start, next_place, Place, one_a_line, one_a_line_from}
-use Rattle.olr_sessions.specs.SingleLines.{EachIs, HasNoEnd, lines_of}
-use Rattle.olr_sessions.proofs.LineLemmas.{from_end, from_byte}
-use Rattle.olr_sessions.proofs.LineRecords.{From, after, line_gives_one, line_end, single_same}
-use Rattle.olr_sessions.proofs.LinesRead.{alone, yields, first_mark}
+use Rattle.olr_input.proofs.CsvRecords.{only_records}
+use Rattle.olr_input.specs.Lines.{is_line_end}
+use Rattle.olr_input.specs.SingleLines.{most_in_line, start, line_start, next_place, Place, one_a_line, one_a_line_from}
+use Rattle.olr_input.specs.SingleLines.{EachIs, HasNoEnd, lines_of}
+use Rattle.olr_input.proofs.LineLemmas.{from_end, from_byte}
+use Rattle.olr_input.proofs.LineRecords.{From, after, line_gives_one, line_end, single_same}
+use Rattle.olr_input.proofs.LinesRead.{alone, yields, first_mark}
 use Rattle.olr_laws.specs.LineLaws.{LineGivesOne, SingleStay, FirstLine, IsRecordOf, LinesGiveRecords, FormlessRejected}
 use Rattle.std.proofs.Common.{◌≡◌, ◌∙◌, ℕ, List, [], ◌∷◌, ◌++◌, Ok, Err, refl, sym, ap, subst, codes, inl, inr}
 use Rattle.std.specs.Prelude.{if◌then◌else◌, Bool, true, false, length, Some, ⊤, IsOkAnd}
-use Rattle.olr_commands.specs.State.{Command, same_name, Make, Add_path, Set_path, Drop_path, Explain, Begin, Commit, Abort}
-use Rattle.olr_commands.specs.State.{Show, Show_node, Show_line, Show_margin, Depends, Report, Dump, Compact, Preview, Ambiguous}
+use Rattle.olr_commands.specs.State.{Command, same_name, Make, Add_path, Set_path, Drop_path, Explain, Begin, Commit}
+use Rattle.olr_commands.specs.State.{Abort, Show, Show_node, Show_line, Show_margin, Depends, Report, Dump, Compact}
+use Rattle.olr_commands.specs.State.{Preview, Ambiguous}
 use Rattle.olr_spec.specs.Coordinates.{Coord}
 use Rattle.olr_spec.specs.Extension.{Path}
 use Rattle.olr_spec.specs.Map.{ShapePoint, Line, Edit, Add_node, Move_node, Drop_node, Add_line, Set_line, Drop_line}
-use Rattle.olr_records.specs.Records.{line_between, longitude}
-use Rattle.olr_records.specs.Records.{Field, Read, Bad_form, Out_of_range, ◌⊛◌, number, name, numbers, amount, class}
-use Rattle.olr_records.specs.Records.{digits, place, point, shape, one, none, edit, node_fields, node_record, attributes}
-use Rattle.olr_records.specs.Records.{whole_line, line_record, set_line_record, path_fields, few_nodes}
-use Rattle.olr_records.specs.Records.{depends_record, ambiguous_record, margin_record, forms, read_by, read}
+use Rattle.olr_records.specs.Records.{line_between, longitude, Field, Read, Bad_form, Out_of_range, ◌⊛◌, number, name}
+use Rattle.olr_records.specs.Records.{numbers, amount, class, digits, place, point, shape, one, none, edit, node_fields}
+use Rattle.olr_records.specs.Records.{node_record, attributes, whole_line, line_record, set_line_record, path_fields}
+use Rattle.olr_records.specs.Records.{few_nodes, depends_record, ambiguous_record, margin_record, forms, read_by, read}
 
 abbrev pub bang : Field
 bang = codes "!"

@@ -1,6 +1,6 @@
 -- A run that is cut off, and the next one from what is left of its log.
-use Rattle.std.proofs.Common.{◌≡◌, ◌∙◌, ℕ, Bool, true, false, List, [], ◌∷◌, ◌++◌, take, length, map, Option, Some, None, Ok, Err}
-use Rattle.std.proofs.Common.{inl, refl, sym, ap, subst, suc, Result, length-append, ◌+◌}
+use Rattle.std.proofs.Common.{◌≡◌, ◌∙◌, ℕ, Bool, true, false, List, [], ◌∷◌, ◌++◌, take, length, map, Option, Some}
+use Rattle.std.proofs.Common.{None, Ok, Err, inl, refl, sym, ap, subst, suc, Result, length-append, ◌+◌}
 use Rattle.std.proofs.lemmas.List.{append-nil, append_assoc}
 use Rattle.std.specs.Io.KnownBytes.{Appends}
 use Rattle.sqlite_disk.specs.declared.Disk as disk
@@ -9,26 +9,26 @@ use Rattle.olr_commands.specs.Reply.{Outcome}
 use Rattle.olr_commands.specs.State.{Change, Command, Content, Fault, IsContent, IsState, State, start_state, step}
 use Rattle.olr_commands.proofs.HistoryLemmas.{run_join, start_sound}
 use Rattle.olr_commands.proofs.StateLemmas.{steps_keep}
-use Rattle.olr_journal.specs.Logs.{kept_of, left_of, is_own_of}
-use Rattle.olr_journal.specs.declared.folder.Folder as folder
-use Rattle.olr_journal.specs.declared.log_file.LogFile.{LogFile}
+use Rattle.olr_log.specs.Logs.{kept_of, left_of, is_own_of}
+use Rattle.olr_log.specs.declared.folder.Folder as folder
+use Rattle.olr_log.specs.declared.log_file.LogFile.{LogFile}
 use Rattle.olr_records.specs.Records.{Field, read}
 use Rattle.olr_records.proofs.ReadLemmas.{coords_read}
 use Rattle.olr_run.specs.LogEnds.{BeginsWith, LastsOn}
 use Rattle.olr_run.specs.Logged.{closed, Leads, UpTo}
-use Rattle.olr_run.specs.Output.{Claims, SoundOutcome, SoundOutcomes, texts, CutOff, Before_next, No_text, In_last, Not_sent}
-use Rattle.olr_run.specs.Output.{records_of}
+use Rattle.olr_run.specs.Output.{Claims, SoundOutcome, SoundOutcomes, texts, CutOff, Before_next, No_text, In_last}
+use Rattle.olr_run.specs.Output.{Not_sent, records_of}
 use Rattle.olr_records.specs.ReplyText.{outcome_text}
 use Rattle.olr_commands.specs.State.{Abort}
 use Rattle.olr_commands.specs.History.{Run}
 use Rattle.std.proofs.lemmas.List.Concat.{flat_map-append}
 use Rattle.olr_run.specs.ProgramEnds.{FromLog, Not_begun, Ran, Cut_off}
 use Rattle.olr_run.proofs.RunLemmas.{claims_of, sound_after}
-use Rattle.olr_sessions.specs.Buffers.{held, written}
-use Rattle.olr_sessions.specs.Journals.{Only}
-use Rattle.olr_sessions.specs.Sessions.{Known}
-use Rattle.olr_sessions.specs.declared.buffered.Buffered.{Buffered}
-use Rattle.olr_sessions.specs.declared.ends.RunFault.{RunFault}
+use Rattle.olr_input.specs.Buffers.{held, written}
+use Rattle.olr_input.specs.Journals.{Only}
+use Rattle.olr_input.specs.Sessions.{Known}
+use Rattle.olr_input.specs.declared.buffered.Buffered.{Buffered}
+use Rattle.olr_input.specs.declared.ends.RunFault.{RunFault}
 use Rattle.olr_laws.specs.LogLaws.{dropping, dropped, NextContinues, HasBegun, IsHonest, TwoRuns}
 
 -- ---- one run

@@ -1,7 +1,7 @@
 -- The worked rows on margins.
-use Rattle.olr_spec.proofs.Common.{inl, inr, ◌≡◌, ◌≢◌, ℕ, ◌<◌, ◌≤◌, List, [], ◌∷◌, refl, sym, ap, ◌∙◌, IsTrue, arith, ◌||◌, ◌==◌, not}
-use Rattle.olr_spec.proofs.Common.{Map, IsMap, has_line, line_at, start, end, dm, dm_of, IsRoute, UniqueShortest, Line}
-use Rattle.olr_spec.proofs.Common.{or_cases, eqb-true, not-true, eq-eqb}
+use Rattle.olr_spec.proofs.Common.{inl, inr, ◌≡◌, ◌≢◌, ℕ, ◌<◌, ◌≤◌, List, [], ◌∷◌, refl, sym, ap, ◌∙◌, IsTrue, arith}
+use Rattle.olr_spec.proofs.Common.{◌||◌, ◌==◌, not, Map, IsMap, has_line, line_at, start, end, dm, dm_of, IsRoute}
+use Rattle.olr_spec.proofs.Common.{UniqueShortest, Line, or_cases, eqb-true, not-true, eq-eqb}
 use Rattle.olr_spec.specs.Margins.{counted}
 use Rattle.olr_spec.specs.Points.{CoveredWith}
 use Rattle.olr_spec.proofs.RouteLemmas.{positive}

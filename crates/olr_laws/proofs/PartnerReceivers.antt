@@ -1,7 +1,8 @@
 -- A receiver on a partner's map that takes the path's own line at each LRP recovers the legs, and nothing else.
-use Rattle.olr_spec.proofs.Common.{◌≡◌, ℕ, suc, ◌+◌, ◌-◌, List, [], ◌∷◌, length, map, Some, None, slice_get, slice_index, refl, sym, ap, ◌∙◌, arith, IsTrue, ◌↔◌, ⊤}
-use Rattle.olr_spec.proofs.Common.{Map, IsMap, Path, is_path, path_fault, Reference, Points, EncodingWith, Middle, middle_points_with, attrs_with, legs, stretch}
-use Rattle.olr_spec.proofs.Common.{extended_path, reference_by_kept_with}
+use Rattle.olr_spec.proofs.Common.{◌≡◌, ℕ, suc, ◌+◌, ◌-◌, List, [], ◌∷◌, length, map, Some, None, slice_get}
+use Rattle.olr_spec.proofs.Common.{slice_index, refl, sym, ap, ◌∙◌, arith, IsTrue, ◌↔◌, ⊤, Map, IsMap, Path, is_path}
+use Rattle.olr_spec.proofs.Common.{path_fault, Reference, Points, EncodingWith, Middle, middle_points_with, attrs_with}
+use Rattle.olr_spec.proofs.Common.{legs, stretch, extended_path, reference_by_kept_with}
 use Rattle.olr_spec.proofs.DecodedLemmas.{Kept, Front, Back, form}
 use Rattle.olr_spec.proofs.Facts.{path_also, path_at}
 use Rattle.olr_spec.proofs.FitLemmas.{by_answer}

@@ -11,30 +11,31 @@ use Rattle.olr_spec.specs.Recovery.{are_cosines}
 use Rattle.olr_spec.proofs.Common.{decoded_bound, IsWeighted, is_spaced, IsCut, IsClose, SomeReceiver, SomeWeighted}
 use Rattle.olr_spec.proofs.Common.{map, sym, inl, inr, Bool, pos, Option, unwrap_or, cond, AllZip, get_or}
 use Rattle.olr_spec.proofs.Common.{AllPass-from_list_all, cases_lt, or_left, or_right, start, end, extended_path, first}
-use Rattle.olr_spec.proofs.Common.{last, AreJoined, stretch, Leg, leg, legs, attrs_with, first_kept, last_kept, kept_points}
-use Rattle.olr_spec.proofs.Common.{Middle, middle_points_with, last_two, reference_by_kept_with, Side, is_nearest, coordinate_on}
-use Rattle.olr_spec.proofs.Common.{dm_of, concat, list_all-from_AllPass, cond-false}
-use Rattle.olr_spec.proofs.Common.{has, has_line, candidates, list_all, and_parts, up_to, lines_where}
-use Rattle.olr_spec.proofs.Common.{◌&&◌, get_or_default, list_all-map}
+use Rattle.olr_spec.proofs.Common.{last, AreJoined, stretch, Leg, leg, legs, attrs_with, first_kept, last_kept}
+use Rattle.olr_spec.proofs.Common.{kept_points, Middle, middle_points_with, last_two, reference_by_kept_with, Side}
+use Rattle.olr_spec.proofs.Common.{is_nearest, coordinate_on, dm_of, concat, list_all-from_AllPass, cond-false, has}
+use Rattle.olr_spec.proofs.Common.{has_line, candidates, list_all, and_parts, up_to, lines_where, ◌&&◌, get_or_default}
+use Rattle.olr_spec.proofs.Common.{list_all-map}
 use Rattle.std.specs.List.{AllPass}
-use Rattle.olr_spec.proofs.Facts.{path_also, path_at, Each, has_index, at_index, has-lines_where, has_last, last_index, Known, LinkedWith}
-use Rattle.olr_spec.proofs.Facts.{follow_linked_with, kept_linked_with, empty_stretch, stretch_first, positive, next_start}
+use Rattle.olr_spec.proofs.Facts.{path_also, path_at, Each, has_index, at_index, has-lines_where, has_last, last_index}
+use Rattle.olr_spec.proofs.Facts.{Known, LinkedWith, follow_linked_with, kept_linked_with, empty_stretch, stretch_first}
+use Rattle.olr_spec.proofs.Facts.{positive, next_start}
 use Rattle.olr_spec.proofs.FieldLemmas.{position_is, linked_above, dm_same, last_two_linked}
 use Rattle.olr_spec.proofs.FitLemmas.{extended_sound, by_answer}
 use Rattle.olr_spec.proofs.DecodedLemmas.{Kept, answer_decodes, Back, Form, Front, form}
 use Rattle.std.proofs.Math.Nat.{mul-le-mul_left, mul-le-mul_right, mul-lt-mul_of_pos_left, le_of_mul-le-mul_left}
 use Rattle.std.proofs.Math.Nat.{mul-add, mul_comm, div-mul-le_self, lt-div-mul-add}
 use Rattle.olr_spec.specs.Receiver.{Rating, IsDifference, Outgoing, Incoming, last_number, decoded_coord, attributes}
-use Rattle.olr_spec.specs.Recovery.{lon_apart, lat_apart, line_by, IsLineAtWith, stretches, IsStretchesWith, IsLeftWith, IsStep}
-use Rattle.olr_spec.specs.Recovery.{are_spaced, Weighted, is_cosine}
+use Rattle.olr_spec.specs.Recovery.{lon_apart, lat_apart, line_by, IsLineAtWith, stretches, IsStretchesWith, IsLeftWith}
+use Rattle.olr_spec.specs.Recovery.{IsStep, are_spaced, Weighted, is_cosine}
 use Rattle.olr_spec.proofs.SectorLemmas.{has_below}
 use Rattle.olr_spec.proofs.JoinedLemmas.{extended_joined}
 use Rattle.olr_spec.proofs.Common.{◌⊎◌, ◌||◌, and_from, le-leb, node_on}
 use Rattle.olr_spec.specs.Receiver.{sector_on}
 use Rattle.olr_spec.specs.Directions.{is_direction, is_beyond, direction_on}
 use Rattle.olr_laws.specs.Directions.{is_spaced_by, is_outdone, is_clear, stands_out}
-use Rattle.olr_laws.specs.DirectionLaws.{ClearStandsOut, DecodedNearWith, DecodedPointsWith, StretchesJoinWith, OffsetsWith, DistancesWith}
-use Rattle.olr_laws.specs.DirectionLaws.{NearestWith}
+use Rattle.olr_laws.specs.DirectionLaws.{ClearStandsOut, DecodedNearWith, DecodedPointsWith, StretchesJoinWith}
+use Rattle.olr_laws.specs.DirectionLaws.{OffsetsWith, DistancesWith, NearestWith}
 use Rattle.olr_spec.proofs.QueryLemmas.{stretch_parts}
 use Rattle.olr_spec.proofs.ReceiverLemmas.{same_path, passes}
 

@@ -1,6 +1,6 @@
 -- The records that show a node, or a line with its ends, are records of a dump.
-use Rattle.std.proofs.Common.{arith, ◌≡◌, inl, inr, ℕ, true, false, Bool, List, [], ◌∷◌, map, Some, Contains, sym, ◌∙◌, subst}
-use Rattle.std.proofs.Common.{nat_cmp, ◌==◌}
+use Rattle.std.proofs.Common.{arith, ◌≡◌, inl, inr, ℕ, true, false, Bool, List, [], ◌∷◌, map, Some, Contains, sym, ◌∙◌}
+use Rattle.std.proofs.Common.{subst, nat_cmp, ◌==◌}
 use Rattle.std.specs.Prelude.{if◌then◌else◌}
 use Rattle.std.specs.FinMap.{get, entries, get-entries}
 use Rattle.std.specs.FinMap.Entries.{find}

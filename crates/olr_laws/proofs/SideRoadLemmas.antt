@@ -1,7 +1,9 @@
 -- A path over lines 10, 20 and 30 with three LRPs: a side road, another line from the start of line 20 to its end, is shorter.
-use Rattle.olr_spec.proofs.Common.{◌≡◌, ◌≢◌, ℕ, zero, suc, ◌+◌, ◌<◌, ◌≤◌, true, false, List, [], ◌∷◌, map, refl, sym, ap, ◌∙◌, subst, IsTrue, T, arith, None, is_some, nat_cmp, nat_le, leb-true, cases_Bool}
-use Rattle.olr_spec.proofs.Common.{Map, IsMap, has_line, start, end, dm, passing, path_fault, Candidate, Follow, To_end, To_valid, UniqueShortest, IsRoute}
-use Rattle.olr_spec.proofs.Common.{Points, reference, legs, Leg, leg, fit16, candidates, Line, Coord}
+use Rattle.olr_spec.proofs.Common.{◌≡◌, ◌≢◌, ℕ, zero, suc, ◌+◌, ◌<◌, ◌≤◌, true, false, List, [], ◌∷◌, map, refl, sym}
+use Rattle.olr_spec.proofs.Common.{ap, ◌∙◌, subst, IsTrue, T, arith, None, is_some, nat_cmp, nat_le, leb-true}
+use Rattle.olr_spec.proofs.Common.{cases_Bool, Map, IsMap, has_line, start, end, dm, passing, path_fault, Candidate}
+use Rattle.olr_spec.proofs.Common.{Follow, To_end, To_valid, UniqueShortest, IsRoute, Points, reference, legs, Leg, leg}
+use Rattle.olr_spec.proofs.Common.{fit16, candidates, Line, Coord}
 use Rattle.olr_spec.proofs.Facts.{empty_unique}
 use Rattle.std.specs.FinMap.Entries.{find, is_sorted}
 use Rattle.olr_laws.specs.MapRows.{map_of}

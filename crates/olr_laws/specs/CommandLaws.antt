@@ -8,8 +8,9 @@ use Rattle.olr_spec.specs.Margins.{Margin}
 use Rattle.olr_spec.specs.Receiver.{Lrp, Outgoing, Incoming, RecoversBy, attributes, last_lrp, last_number, lrp_at}
 use Rattle.olr_spec.specs.Recovery.{IsLineAtWith, IsStretchesWith}
 use Rattle.olr_spec.specs.Reference.{Attrs, Reference}
-use Rattle.olr_commands.specs.State.{Content, IsContent, Add_path, Set_path, Set_margin, Make, State, Command, Explain, Begin, Preview, Commit, Abort}
-use Rattle.olr_commands.specs.State.{HasCoords, IsState, step, changes_made, Named, Change, On_map}
+use Rattle.olr_commands.specs.State.{Content, IsContent, Add_path, Set_path, Set_margin, Make, State, Command, Explain}
+use Rattle.olr_commands.specs.State.{Begin, Preview, Commit, Abort, HasCoords, IsState, step, changes_made, Named}
+use Rattle.olr_commands.specs.State.{Change, On_map}
 use Rattle.olr_commands.specs.Dump.{dump_changes, node_changes, line_changes}
 use Rattle.olr_commands.specs.Dependents.{DependsOn}
 use Rattle.olr_commands.specs.Reply.{Reply, IsReply, Outcome, IsOutcome, lacks_memory}

@@ -7,8 +7,8 @@
 --     DistinctByDirection far slack M P r, DistinctByDirectionWith g      the path's own line at each LRP has a direction,
 --         and stands out; with a margin of routes and classes
 --     is_clear n d e k s x g cs      the same by the map alone, without the decoded coordinate
-use Rattle.std.specs.Prelude.{ℕ, ◌+◌, ◌*◌, ◌+ℤ◌, ◌-ℤ◌, ◌*ℤ◌, int_lt, if◌then◌else◌, ◌<◌, ◌≤◌, ℤ, pos, nat_abs, Bool, not, ◌&&◌, ◌||◌, ◌==◌, nat_le, nat_lt}
-use Rattle.std.specs.Prelude.{List, [], ◌∷◌, slice_index_or, IsTrue, IsFalse}
+use Rattle.std.specs.Prelude.{ℕ, ◌+◌, ◌*◌, ◌+ℤ◌, ◌-ℤ◌, ◌*ℤ◌, int_lt, if◌then◌else◌, ◌<◌, ◌≤◌, ℤ, pos, nat_abs, Bool}
+use Rattle.std.specs.Prelude.{not, ◌&&◌, ◌||◌, ◌==◌, nat_le, nat_lt, List, [], ◌∷◌, slice_index_or, IsTrue, IsFalse}
 use Rattle.std.specs.List.{list_all}
 use Rattle.olr_spec.specs.Coordinates.{Coord}
 use Rattle.olr_spec.specs.Map.{Map, has_line}
@@ -18,8 +18,8 @@ use Rattle.olr_spec.specs.Bearings.{Leg, Vector, vector, beyond, quarters, IsSec
 use Rattle.olr_spec.specs.Directions.{direction_on, is_direction, is_beyond}
 use Rattle.olr_spec.specs.Reference.{Reference, leg}
 use Rattle.olr_spec.specs.Decoded.{decoded_bound}
-use Rattle.olr_spec.specs.Receiver.{Side, Outgoing, Incoming, node_on, coordinate_on, sector_on, Lrp, Measure, Rating, NowhereWorse}
-use Rattle.olr_spec.specs.Receiver.{SomewhereBetter, candidates, decoded_coord, last_number}
+use Rattle.olr_spec.specs.Receiver.{Side, Outgoing, Incoming, node_on, coordinate_on, sector_on, Lrp, Measure, Rating}
+use Rattle.olr_spec.specs.Receiver.{NowhereWorse, SomewhereBetter, candidates, decoded_coord, last_number}
 use Rattle.olr_spec.specs.Recovery.{IsLineAtWith}
 
 -- ---- the angle from the middle of a sector

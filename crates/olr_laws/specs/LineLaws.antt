@@ -8,9 +8,10 @@ use Rattle.olr_commands.specs.Reply.{Outcome}
 use Rattle.olr_commands.specs.State.{State as Held, Syntax}
 use Rattle.olr_records.specs.ReplyText.{outcome_text, fault_text}
 use Rattle.olr_run.specs.Output.{records_of, RecordOutcome}
-use Rattle.olr_sessions.specs.Lines.{BetweenRecords}
-use Rattle.olr_sessions.specs.SingleLines.{line_start, most_in_line, one_a_line, one_a_line_from, are_single, are_single_from}
-use Rattle.olr_sessions.specs.SingleLines.{HasNoEnd, EachIs, lines_of}
+use Rattle.olr_input.specs.Lines.{BetweenRecords}
+use Rattle.olr_input.specs.SingleLines.{line_start, most_in_line, one_a_line, one_a_line_from, are_single}
+use Rattle.olr_input.specs.SingleLines.{are_single_from}
+use Rattle.olr_input.specs.SingleLines.{HasNoEnd, EachIs, lines_of}
 
 -- an input of which no line ends with an open quote or is longer than 16 MB is read as it is
 abbrev pub SingleStay : Type 0

@@ -6,18 +6,18 @@ use Rattle.std.specs.Io.KnownBytes.{Appends}
 use Rattle.sqlite_disk.specs.declared.Disk as disk
 use Rattle.olr_commands.specs.Reply.{Outcome, Paths}
 use Rattle.olr_commands.specs.State.{Change, Content, IsContent, State}
-use Rattle.olr_journal.specs.Logs.{kept_of, left_of, is_own_of, is_clean}
-use Rattle.olr_journal.specs.declared.folder.Folder as folder
-use Rattle.olr_journal.specs.declared.log_file.LogFile.{LogFile}
+use Rattle.olr_log.specs.Logs.{kept_of, left_of, is_own_of, is_clean}
+use Rattle.olr_log.specs.declared.folder.Folder as folder
+use Rattle.olr_log.specs.declared.log_file.LogFile.{LogFile}
 use Rattle.olr_records.specs.Records.{Field}
 use Rattle.olr_run.specs.LogEnds.{BeginsWith}
 use Rattle.olr_run.specs.Logged.{closed, UpTo}
 use Rattle.olr_run.specs.Output.{Claims, SoundOutcomes, texts}
 use Rattle.olr_run.specs.ProgramEnds.{FromLog, Not_begun, Ran, Cut_off}
-use Rattle.olr_sessions.specs.Buffers.{held, written}
-use Rattle.olr_sessions.specs.Journals.{Only}
-use Rattle.olr_sessions.specs.Sessions.{Known}
-use Rattle.olr_sessions.specs.declared.buffered.Buffered.{Buffered}
+use Rattle.olr_input.specs.Buffers.{held, written}
+use Rattle.olr_input.specs.Journals.{Only}
+use Rattle.olr_input.specs.Sessions.{Known}
+use Rattle.olr_input.specs.declared.buffered.Buffered.{Buffered}
 
 -- the record that drops an open batch, and its outcome
 abbrev pub dropping : Option (List Change) → List (List Field)

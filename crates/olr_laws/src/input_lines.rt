@@ -1,6 +1,6 @@
 //! The laws of inputs that are read one record a line, and worked rows.
 ghost use Rattle.std.specs.Prelude.{◌≡◌, codes, true};
-ghost use Rattle.olr_sessions.specs.SingleLines.{one_a_line};
+ghost use Rattle.olr_input.specs.SingleLines.{one_a_line};
 ghost use Rattle.olr_laws.specs.LineLaws as Laws;
 
 /// Whole and short lines are read as they are. Each line that isn't empty gives one record, and so the records of an input are
@@ -15,7 +15,7 @@ pub fn laws_of_lines()
 {}
 
 /// Inputs, as they are read.
-#[tactic(auto, unfolding(olr_sessions::specs::SingleLines::one_a_line_from))]
+#[tactic(auto, unfolding(olr_input::specs::SingleLines::one_a_line_from))]
 pub fn rows_of_lines()
     ensures whole { one_a_line (codes "node,1,0,0\nreport\n") ≡ codes "node,1,0,0\nreport\n" }
     ensures quoted { one_a_line (codes "show,\"a\"\n") ≡ codes "show,\"a\"\n" }

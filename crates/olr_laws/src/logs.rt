@@ -1,7 +1,7 @@
 //! The laws of runs with a log, one after another.
 ghost use Rattle.olr_laws.specs.LogLaws as Laws;
 
-use olr_journal::Folder;
+use olr_log::Folder;
 use sqlite_disk::Disk;
 use std::io::Write;
 

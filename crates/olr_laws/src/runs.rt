@@ -8,7 +8,7 @@ ghost use Rattle.olr_arguments.specs.Options.{keep_app, options};
 ghost use Rattle.olr_arguments.specs.Sizes.{IsSize, NoSize};
 ghost use Rattle.olr_run.specs.Output.{records_of, greater, Outcomes, Ran, Faulted, Some_refused, Stopped};
 ghost use Rattle.olr_run.specs.Output.{All_accepted};
-ghost use Rattle.olr_sessions.specs.declared.ends.RunFault.TheVariants as fault;
+ghost use Rattle.olr_input.specs.declared.ends.RunFault.TheVariants as fault;
 ghost use Rattle.olr_laws.specs.RunLaws as Laws;
 ghost use Rattle.olr_laws.specs.RecordRows.{text_of_lines};
 ghost use Rattle.olr_laws.specs.CommandRows.{with_fifty};
@@ -18,7 +18,7 @@ ghost use Rattle.olr_laws.specs.RunRows.{input20, output20, state20, margin_inpu
 /// read determine what is written, the status and the state at the end. Records that are taken one after another are
 /// the first ones. Out of memory is reported only for a command that holds a list, or may run out of memory when it is
 /// carried out. A run over the text of a dump leads to what was dumped.
-#[tactic(auto, using(crate::proofs::RunLemmas::outcomes_keep, olr_sessions::proofs::CsvRecords::first_records, crate::proofs::RunLemmas::memory_lacks))]
+#[tactic(auto, using(crate::proofs::RunLemmas::outcomes_keep, olr_input::proofs::CsvRecords::first_records, crate::proofs::RunLemmas::memory_lacks))]
 pub fn laws_of_runs()
     ensures kept { Laws.OutcomesKeep }
     ensures one { Laws.OneRun }

@@ -1,9 +1,9 @@
 -- Slots in blocks: after another slot is stored in a block, and as a list.
-use Rattle.olr_map.proofs.Common.{IsDistinct-head, IsDistinct-tail, AllByRecursion, common_steps, cases_eq}
-use Rattle.olr_map.proofs.Common.{get_or_past, slice_index, option_or, pairs_of, keys_of, slot_by, slot_in, SlotIndex, Err}
-use Rattle.olr_map.proofs.Common.{Option, Result, all_in, eq-eqb, length, lookup, ne_eqb, arith, false, Bool, IsOk}
-use Rattle.olr_map.proofs.Common.{List, None, Some, cond, refl, true, zero, ◌++◌, ◌==◌, suc, ◌%◌, ◌+◌, ◌-◌, ◌/◌, ℕ}
-use Rattle.olr_map.proofs.Common.{◌<◌, ◌≤◌, ◌∙◌, ◌∷◌, ◌≡◌, Ok, [], ap, sym}
+use Rattle.olr_map.proofs.Common.{IsDistinct-head, IsDistinct-tail, AllByRecursion, common_steps, cases_eq, get_or_past}
+use Rattle.olr_map.proofs.Common.{slice_index, option_or, pairs_of, keys_of, slot_by, slot_in, SlotIndex, Err, Option}
+use Rattle.olr_map.proofs.Common.{Result, all_in, eq-eqb, length, lookup, ne_eqb, arith, false, Bool, IsOk, List, None}
+use Rattle.olr_map.proofs.Common.{Some, cond, refl, true, zero, ◌++◌, ◌==◌, suc, ◌%◌, ◌+◌, ◌-◌, ◌/◌, ℕ, ◌<◌, ◌≤◌, ◌∙◌}
+use Rattle.olr_map.proofs.Common.{◌∷◌, ◌≡◌, Ok, [], ap, sym}
 use Rattle.std.proofs.Common.{◌*◌, nat_eq, eqb-true, OnOk, slice_set}
 use Rattle.std.proofs.lemmas.List.{get_or-set_same, get_or-set_other}
 use Rattle.std.specs.List.{IsDistinct}

@@ -1,9 +1,9 @@
 -- Empty tables, and tables with more capacity.
 use Rattle.olr_map.proofs.Common.{map, option_map, option_map_or, IsRelinked, spare_numbers, IsRoomWithin, common_steps}
 use Rattle.olr_map.proofs.Common.{◌≡◌, unwrap_or, cond-true, node_slots, links_room, HasRoomFor, tables_map, IsReserved}
-use Rattle.olr_map.proofs.Common.{◌==◌, ◌&&◌, true, cond, Some, None, refl, subst, arith, Coord, IsMap, SlotIndex, Links}
-use Rattle.olr_map.proofs.Common.{ℕ, ◌<◌, ◌≤◌, [], sym, ap, ◌∙◌, Map, Line, at, held, Room, Side, Out, In}
-use Rattle.olr_map.proofs.Common.{false, pairs_of, spare_of, all_held, links_at, lines_on, lines_at, links_in, map_from}
+use Rattle.olr_map.proofs.Common.{◌==◌, ◌&&◌, true, cond, Some, None, refl, subst, arith, Coord, IsMap, SlotIndex}
+use Rattle.olr_map.proofs.Common.{Links, ℕ, ◌<◌, ◌≤◌, [], sym, ap, ◌∙◌, Map, Line, at, held, Room, Side, Out, In, false}
+use Rattle.olr_map.proofs.Common.{pairs_of, spare_of, all_held, links_at, lines_on, lines_at, links_in, map_from}
 use Rattle.olr_map.proofs.Common.{length, FinMap, lookup, eq-eqb, slot_by, in_slot, IsListed, room_of, room_at, RoadMap}
 use Rattle.olr_map.proofs.Common.{eqb-true, same_Some, node_room, node_slot, IsIndexed, AreTables, NodeSlots, LineTable}
 use Rattle.std.specs.Ordering.{nat_cmp}

@@ -5,7 +5,7 @@ pub use Rattle.olr_map.specs.Changes.{change_edit, changed_at, line_puts, map_af
 pub use Rattle.olr_map.specs.Changes.{room_of, tables_map}
 pub use Rattle.olr_map.specs.Columns.{node_room, node_slots, rows}
 pub use Rattle.olr_map.specs.EditPlans.{AreSlots}
-pub use Rattle.olr_roads.specs.Edits.{edit_of}
+pub use Rattle.olr_model.specs.Edits.{edit_of}
 pub use Rattle.olr_map.specs.LineTables.{all_held, held, spare_numbers}
 pub use Rattle.olr_map.specs.Linked.{IsPut, ends_on, lines_on, links_room, room_kept}
 pub use Rattle.olr_map.specs.NodeLinks.{IsRelinked, links_at, with_links}
@@ -21,7 +21,7 @@ pub use Rattle.olr_map.specs.declared.change.TableChange.TheVariants.{MoveNode, 
 pub use Rattle.olr_map.specs.declared.change.TableChange.TheVariants.{TakeNode}
 pub use Rattle.olr_map.specs.declared.line_table.LineTable.{LineTable}
 pub use Rattle.olr_map.specs.declared.links.Links.{Links}
-pub use Rattle.olr_roads.specs.declared.read.LineEnd.{LineEnd}
+pub use Rattle.olr_model.specs.declared.read.LineEnd.{LineEnd}
 pub use Rattle.olr_map.specs.declared.road_map.RoadMap.{RoadMap}
 pub use Rattle.olr_map.specs.declared.slots.NodeEntry.{NodeEntry}
 pub use Rattle.olr_map.specs.declared.slots.NodeSlots.{NodeSlots}

@@ -6,8 +6,9 @@ use Rattle.olr_map.proofs.Common.{no_coord, has-lines_where, passed_line, slot_b
 use Rattle.olr_map.proofs.Common.{IsRemoved, IsReplaced, all_held, node_slots, node_room, links_at, lines_on, ends_on}
 use Rattle.olr_map.proofs.Common.{links_room, room_kept, sides, near, far, node_in, links_in, map_from, node_slot}
 use Rattle.olr_map.proofs.Common.{lines_at, end_at, IsListed, IsIndexed, AreTables, tables_map, room_of, room_at}
-use Rattle.olr_map.proofs.Common.{changed_at, CanMake, IsRoomWithin, map_after, IsChangeMade, SlotIndex, Links, NodeEntry}
-use Rattle.olr_map.proofs.Common.{NodeSlots, Side, Out, In, RoadMap, PutNode, MoveNode, TakeNode, common_steps}
+use Rattle.olr_map.proofs.Common.{changed_at, CanMake, IsRoomWithin, map_after, IsChangeMade, SlotIndex, Links}
+use Rattle.olr_map.proofs.Common.{NodeEntry, NodeSlots, Side, Out, In, RoadMap, PutNode, MoveNode, TakeNode}
+use Rattle.olr_map.proofs.Common.{common_steps}
 use Rattle.std.proofs.Common.{length-take-le}
 use Rattle.std.specs.Ordering.{nat_cmp}
 use Rattle.olr_spec.specs.Map.{coord_at}

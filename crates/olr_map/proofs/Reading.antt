@@ -9,7 +9,7 @@ use Rattle.std.proofs.Common.{IsTrue, SomeIff}
 use Rattle.std.proofs.lemmas.Map.Made.{lookup-map_values}
 use Rattle.std.specs.Ordering.{nat_cmp}
 use Rattle.olr_map.specs.Tables.{coord_in}
-use Rattle.olr_roads.specs.Ends.{HaveSlotsApart}
+use Rattle.olr_model.specs.Ends.{HaveSlotsApart}
 use Rattle.olr_map.proofs.Lookups.{all_get}
 use Rattle.olr_map.proofs.Blocking.{listed_found}
 use Rattle.olr_map.proofs.SlotLemmas.{holds_within}

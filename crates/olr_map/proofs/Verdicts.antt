@@ -1,15 +1,15 @@
 -- The slots of an edit's nodes: of an accepted edit, and where no node's slot changes. The faults of a map as returned.
-use Rattle.olr_map.proofs.Common.{common_steps, TableChange, change_edit, IsReserved, tables_map, AreSlots}
-use Rattle.olr_map.proofs.Common.{node_slot, eqb-true, has_node, RoadMap, slot_by, SlotIndex, Option, Result, eq-eqb, IsOk}
-use Rattle.olr_map.proofs.Common.{arith, start, subst, List, Some, refl, true, ◌==◌, ◌||◌, Err, Map, end, has, map, sym}
-use Rattle.olr_map.proofs.Common.{◌∙◌, ◌∷◌, ◌≡◌, Ok, [], ap, ℕ}
+use Rattle.olr_map.proofs.Common.{common_steps, TableChange, change_edit, IsReserved, tables_map, AreSlots, node_slot}
+use Rattle.olr_map.proofs.Common.{eqb-true, has_node, RoadMap, slot_by, SlotIndex, Option, Result, eq-eqb, IsOk, arith}
+use Rattle.olr_map.proofs.Common.{start, subst, List, Some, refl, true, ◌==◌, ◌||◌, Err, Map, end, has, map, sym, ◌∙◌}
+use Rattle.olr_map.proofs.Common.{◌∷◌, ◌≡◌, Ok, [], ap, ℕ}
 use Rattle.std.proofs.Common.{MatchResult}
 use Rattle.std.specs.Option.{option_to_list}
 use Rattle.olr_spec.specs.Map.{MapFault}
 use Rattle.olr_spec.specs.Detours.{ChangedLine, changes_of}
-use Rattle.olr_roads.specs.Edits.{edit_fault_of}
+use Rattle.olr_model.specs.Edits.{edit_fault_of}
 use Rattle.olr_map.specs.EditPlans.{IsEditPlan}
-use Rattle.olr_roads.specs.declared.edit.EditFault.{EditFault}
+use Rattle.olr_model.specs.declared.edit.EditFault.{EditFault}
 use Rattle.olr_map.specs.declared.judging.EditPlan.{EditPlan}
 use Rattle.olr_map.proofs.Making.{made_from}
 use Rattle.olr_map.proofs.Reading.{slot_is}

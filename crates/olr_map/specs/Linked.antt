@@ -14,7 +14,7 @@ use Rattle.olr_spec.specs.Map.{has}
 use Rattle.olr_map.specs.declared.links.Links.{Links}
 use Rattle.olr_map.specs.declared.links.Links.TheVariants.{Inline, Spilled}
 use Rattle.olr_map.specs.declared.links.Spilled.{Spilled as Vectors}
-use Rattle.olr_roads.specs.declared.read.LineEnd.{LineEnd}
+use Rattle.olr_model.specs.declared.read.LineEnd.{LineEnd}
 
 abbrev pub lines_on : Links → List ℕ
 lines_on (Inline f) = take f.count f.lines

@@ -14,12 +14,12 @@ use Rattle.olr_spec.specs.Coordinates.{Coord}
 use Rattle.olr_spec.specs.Map.{Map, Line, IsMap, lines_where, line_at, dm, no_coord}
 use Rattle.olr_map.specs.Linked.{lines_on, ends_on}
 use Rattle.olr_map.specs.SlotIndexes.{pairs_of, slot_by}
-use Rattle.olr_roads.specs.Ends.{HaveSlotsApart}
+use Rattle.olr_model.specs.Ends.{HaveSlotsApart}
 use Rattle.olr_map.specs.Slotted.{at, in_slot}
 use Rattle.olr_map.specs.NodeLinks.{links_at}
 use Rattle.olr_map.specs.declared.slot_index.SlotIndex.{SlotIndex}
 use Rattle.olr_map.specs.declared.links.Links.{Links}
-use Rattle.olr_roads.specs.declared.read.LineEnd.{LineEnd}
+use Rattle.olr_model.specs.declared.read.LineEnd.{LineEnd}
 use Rattle.olr_map.specs.declared.slots.NodeEntry.{NodeEntry}
 use Rattle.olr_map.specs.declared.slots.Side.{Side}
 use Rattle.olr_map.specs.declared.slots.Side.TheVariants.{Out, In}

@@ -6,7 +6,7 @@ ghost use Rattle.olr_map.specs.Blocked.{found_in, AreUsed, AreUsed-prop};
 ghost use Rattle.olr_map.specs.SetAt.{IsSetAt};
 
 use crate::block::{BLOCK_LEN, Block};
-use olr_roads::NumberHasher;
+use olr_model::NumberHasher;
 use std::alloc::{AllocError, Global};
 use std::collections::HashMap;
 use std::hash::BuildHasherDefault;

@@ -2,7 +2,7 @@
 
 use crate::links::EmptyLinks;
 use olr_coords::Coord;
-use olr_roads::{Line, LineId, NodeId};
+use olr_model::{Line, LineId, NodeId};
 
 /// A change of the tables.
 #[derive(Drop)]

@@ -5,7 +5,7 @@ use crate::judging::{EditPlan, judge};
 use crate::road_map::RoadMap;
 use crate::slots::Side;
 use crate::undo::{Undo, UndoLog};
-use olr_roads::{Edit, EditFault, Line, NodeId};
+use olr_model::{Edit, EditFault, Line, NodeId};
 use std::alloc::AllocError;
 
 impl RoadMap {
@@ -13,7 +13,7 @@ impl RoadMap {
     ghost use Rattle.olr_spec.specs.Map.{MapFault, edited};
     ghost use Rattle.olr_map.specs.RoadMaps.{map_of, slot_of, CanUndo, map_undone, CanUndoAll, map_before};
     ghost use Rattle.olr_map.specs.EditPlans.{IsEditPlan, AreEnds, AreSlots};
-    ghost use Rattle.olr_roads.specs.Edits.{edit_of, edit_fault_of, allocates};
+    ghost use Rattle.olr_model.specs.Edits.{edit_of, edit_fault_of, allocates};
     ghost use Rattle.olr_map.specs.Changes.{tables_map, room_of, change_edit, node_puts, line_puts, node_numbers};
     ghost use Rattle.olr_map.specs.Changes.{line_numbers, HasRoomFor, HasNumbers, IsWhole, CanMake, IsReserved};
     ghost use Rattle.olr_map.specs.Changes.{IsChanged, IsChangeMade, KeepsSlots, AddsNoNode};

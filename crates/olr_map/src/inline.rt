@@ -3,7 +3,7 @@ ghost use Rattle.std.specs.Prelude.{◌≡◌, ◌+◌, ◌-◌, ◌<◌, ◌≤
 ghost use Rattle.std.specs.Prelude.{slice_range};
 ghost use Rattle.std.specs.List.{remove_range};
 
-use olr_roads::{LineEnd, LineId, NodeLines};
+use olr_model::{LineEnd, LineId, NodeLines};
 
 /// How many lines fit in the value.
 pub const INLINE: usize = 4;

@@ -2,11 +2,11 @@
 ghost use Rattle.std.specs.Prelude.{◌≡◌, Some, None, Err, IsOk, IfOk, MatchResult};
 ghost use Rattle.std.specs.FinMap.{get};
 ghost use Rattle.olr_spec.specs.Map.{edited, Add_node, Move_node, Drop_node, Add_line, Set_line, Drop_line};
-ghost use Rattle.olr_roads.specs.Edits.{edit_of, edit_fault_of};
+ghost use Rattle.olr_model.specs.Edits.{edit_of, edit_fault_of};
 ghost use Rattle.olr_map.specs.EditPlans.{IsEditPlan};
 
 use olr_coords::Coord;
-use olr_roads::{Edit, EditFault, Line, LineId, MapRead, NodeId, Shape, has_good_fields};
+use olr_model::{Edit, EditFault, Line, LineId, MapRead, NodeId, Shape, has_good_fields};
 
 /// What an edit touches on a map that accepts it.
 #[derive(Clone, Copy)]

@@ -1,5 +1,5 @@
 //! The road map: the read interface `MapRead`, whether a map accepts an edit, and edits that can be undone. What a map is made
-//! of (`olr_roads`) is exported under the same names.
+//! of (`olr_model`) is exported under the same names.
 #![tactic(auto)]
 
 mod block;
@@ -18,7 +18,7 @@ mod tables;
 pub mod undo;
 
 pub use judging::{EditPlan, judge};
-pub use olr_roads::{
+pub use olr_model::{
     Edit, EditFault, Footprint, Line, LineEnd, LineId, MapRead, NodeId, NodeLines, NumberHasher,
     Shape,
 };

@@ -4,7 +4,7 @@ ghost use Rattle.std.specs.HashMap.{get};
 ghost use Rattle.std.specs.Option.{option_copied};
 ghost use Rattle.olr_map.specs.SetAt.{IsSetAt};
 
-use olr_roads::{Line, NumberHasher};
+use olr_model::{Line, NumberHasher};
 use std::alloc::{AllocError, Global};
 use std::collections::HashMap;
 use std::hash::BuildHasherDefault;

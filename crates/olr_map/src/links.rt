@@ -6,7 +6,7 @@ ghost use Rattle.std.specs.Vec.{vec_capacity};
 ghost use Rattle.olr_spec.specs.Map.{has};
 
 use crate::inline::{INLINE, Inline};
-use olr_roads::{LineEnd, LineId, NodeLines};
+use olr_model::{LineEnd, LineId, NodeLines};
 use std::alloc::{AllocError, Global};
 
 /// The numbers of lines in ascending order, and the far end of each.

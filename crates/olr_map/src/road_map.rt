@@ -9,7 +9,7 @@ use crate::slot_index::SlotIndex;
 use crate::slots::{NodeSlots, Side};
 use crate::undo::{Undo, UndoLog};
 use olr_coords::Coord;
-use olr_roads::{Line, LineId, MapRead, NodeId, NodeLines};
+use olr_model::{Line, LineId, MapRead, NodeId, NodeLines};
 use std::alloc::Global;
 
 /// A road map. The time of a read or an edit depends neither on the order of node and line numbers nor on gaps in them.

@@ -8,7 +8,7 @@ ghost use Rattle.std.specs.Vec.{vec_capacity};
 use crate::links::Links;
 use crate::slab::Slab;
 use olr_coords::Coord;
-use olr_roads::{LineEnd, LineId, NodeId};
+use olr_model::{LineEnd, LineId, NodeId};
 use std::alloc::{AllocError, Global};
 use std::mem;
 

@@ -6,7 +6,7 @@ use crate::links::{EmptyLinks, Links};
 use crate::road_map::RoadMap;
 use crate::slots::{NodeEntry, Side};
 use olr_coords::Coord;
-use olr_roads::{Line, LineEnd, LineId, MapRead, NodeId};
+use olr_model::{Line, LineEnd, LineId, MapRead, NodeId};
 use std::alloc::{AllocError, Global};
 
 impl RoadMap {

@@ -1,27 +1,58 @@
 -- The names that most proofs of olr_paths cite, passed on from one place. Declares nothing.
-pub use Rattle.olr_commands.proofs.NameLemmas.{not_named}
-pub use Rattle.olr_commands.specs.State.{Named}
-pub use Rattle.olr_list.proofs.Common.{slice_get_within, overlay_changes, CoverageQuery, IfOk-weaker, ChangedLine, None}
-pub use Rattle.olr_list.proofs.Common.{shown_items, shown_item, cases_Bool, map-append, changed_of, option_map, is_some}
-pub use Rattle.olr_list.proofs.Common.{AreEncoded, RemovesNone, answer_in, all_named, slice_get, nodes_of, take_all, refl}
-pub use Rattle.olr_list.proofs.Common.{named_of, Reported, lines_of, entry_of, all_put, made_of, puts_of, Option, entry}
-pub use Rattle.olr_list.proofs.Common.{IsTrue, get_or, Begins, Answer, length, false, arith, IsMap, items, Entry, subst}
-pub use Rattle.olr_list.proofs.Common.{Path, zero, Some, List, ◌++◌, Made, Item, take, ◌∷◌, has, min, ◌⊎◌, inr, ◌<◌, ap}
-pub use Rattle.olr_list.proofs.Common.{anew, unmade, sym, map, ◌≡◌, ◌∙◌, ◌-◌, inl, ◌+◌, All, Bor, Map, suc, ◌≤◌, [], ℕ}
-pub use Rattle.olr_list.specs.Items.{AreEncodingsIfAny, IsEncodingOf}
-pub use Rattle.olr_list.specs.declared.path_list.NamedPath.{NamedPath}
-pub use Rattle.olr_list.specs.declared.published.Published.{Published}
-pub use Rattle.olr_paths.specs.Changes.{IsAffected, IsBefore, Follows, By_name, By_node, By_line}
-pub use Rattle.olr_paths.specs.Reencoded.{after_renewal, entries_of, made_at}
-pub use Rattle.olr_paths.specs.declared.renewal.Renewal.{Renewal}
-pub use Rattle.olr_spec.proofs.ListLemmas.{at_index}
-pub use Rattle.olr_spec.proofs.QueryLists.{query_from_with}
-pub use Rattle.olr_spec.specs.Detours.{AccountsFor}
-pub use Rattle.olr_spec.specs.Extension.{extended_path, is_path, first, last}
-pub use Rattle.olr_spec.specs.Margins.{Margin, is_margin}
-pub use Rattle.olr_spec.specs.Queries.{QueriesOfWith, AreKnownWith}
-pub use Rattle.std.proofs.Common.{MatchOption, unwrap_or}
-pub use Rattle.std.proofs.lemmas.Bool.{and_parts}
-pub use Rattle.std.proofs.lemmas.List.Elements.{Contains-get_or, All-cons, All-nil}
-pub use Rattle.std.proofs.lemmas.List.Kept.{AllPairs-cons}
-pub use Rattle.std.specs.Prelude.{if◌then◌else◌}
+pub use Rattle.indexmap.specs.IndexMap.{insert_entry}
+pub use Rattle.indexmap.specs.Layout.{set_value_at}
+pub use Rattle.olr_commands.proofs.NameLemmas.{flipped, same_is}
+pub use Rattle.olr_commands.specs.Reply.{Entry, entry, published_text}
+pub use Rattle.olr_commands.specs.State.{NamesDiffer, path_named, same_name}
+pub use Rattle.olr_commands.specs.Words.{entry_of}
+pub use Rattle.olr_paths.specs.Changes.{AreEncoded, LineTouched, QueryTouched, Reported, TraversedTouched, set_item}
+pub use Rattle.olr_paths.specs.Changes.{without_answer}
+pub use Rattle.olr_paths.specs.Finders.{AreNoted, AreNotedAt, ArePublished, Grows, AddsOnly, ChangesOnly, NamedNoted}
+pub use Rattle.olr_paths.specs.Finders.{IsNoted, KeyLists, Spares, keys_by, named_keys}
+pub use Rattle.olr_paths.specs.Items.{Item, Made, all_named, answer_in, items, made_in, made_of, named_of}
+pub use Rattle.olr_paths.specs.Origins.{Begins, BeginsIn, BeginsPut, LackQueries}
+pub use Rattle.olr_paths.specs.Overlaid.{Changes, RemovesNone, change_at, changes_in, drops, overlay_changes, path_in}
+pub use Rattle.olr_paths.specs.Overlaid.{under_change, under_changes}
+pub use Rattle.olr_paths.specs.PathIds.{holds, path_ids_of}
+pub use Rattle.olr_paths.specs.Stored.{Put, all_put, put, puts_of}
+pub use Rattle.olr_paths.specs.Views.{shown_item, shown_items}
+pub use Rattle.olr_paths.specs.declared.finder.Finder.{Finder}
+pub use Rattle.olr_paths.specs.declared.index.Index.{Index}
+pub use Rattle.olr_paths.specs.declared.path_list.NamedPath.{NamedPath}
+pub use Rattle.olr_paths.specs.declared.path_list.PathList.{PathList}
+pub use Rattle.olr_paths.specs.declared.published.Published.{Published}
+pub use Rattle.olr_route.specs.declared.frontier.TheConstants.{GREATEST_LIMIT}
+pub use Rattle.olr_spec.proofs.AscendingLists.{ascends, ascends-remove, ascends_push, has-remove, has_at, place_not}
+pub use Rattle.olr_spec.proofs.AscendingLists.{place_of, there_found}
+pub use Rattle.olr_spec.proofs.ListLemmas.{Contains-cases, Contains-here, Contains-later, take_more_at}
+pub use Rattle.olr_spec.specs.Bytes.{IsReference}
+pub use Rattle.olr_spec.specs.Detours.{Near}
+pub use Rattle.olr_spec.specs.Encoding.{Answer}
+pub use Rattle.olr_spec.specs.Extension.{Path, limit}
+pub use Rattle.olr_spec.specs.Map.{has}
+pub use Rattle.olr_spec.specs.Queries.{CoverageQuery, KnownQuery}
+pub use Rattle.olr_spec.specs.Routes.{dm_of}
+pub use Rattle.std.proofs.Common.{All, Bool, Bor, Contains, Err, Global, IfSome, IsTrue, List, None, Ok, Option, Result}
+pub use Rattle.std.proofs.Common.{Some, String, [], ap, append-nil, append_assoc, arith, cond, false, get_or, inl, inr}
+pub use Rattle.std.proofs.Common.{is_some, length, map, not, refl, slice_get, subst, suc, sym, take, true, vec_capacity}
+pub use Rattle.std.proofs.Common.{vec_len, zero, ℕ, ◌&&◌, ◌++◌, ◌+◌, ◌-◌, ◌<◌, ◌==◌, ◌||◌, ◌↔◌, ◌∙◌, ◌∷◌, ◌≡◌, ◌≢◌, ◌≤◌}
+pub use Rattle.std.proofs.Common.{◌⊎◌}
+pub use Rattle.std.proofs.lemmas.Bool.{cases_Bool, cases_lt, cases_order, eq-eqb, true≢false}
+pub use Rattle.std.proofs.lemmas.Bool.Decides.{nat_tests}
+pub use Rattle.std.proofs.lemmas.List.{get_or_default, get_or_read, length-map, length_push, map-append, take-map}
+pub use Rattle.std.proofs.lemmas.List.{take_all, take_at, take_more}
+pub use Rattle.std.proofs.lemmas.List.Edits.{length-remove}
+pub use Rattle.std.proofs.lemmas.List.Elements.{All-contains, All-head, All-nil, All-pop, All-push, All-tail}
+pub use Rattle.std.proofs.lemmas.List.Elements.{filter-append}
+pub use Rattle.std.proofs.lemmas.List.Kept.{AllPairs-from_increasing}
+pub use Rattle.std.proofs.lemmas.Option.{get_or_from_slice_get, slice_get-map, slice_get_within}
+pub use Rattle.std.specs.List.{AllByRecursion, filter, list_all, list_any, position, remove}
+pub use Rattle.std.specs.List.Sorted.{IsBinarySearchResult, IsStrictlyIncreasing}
+pub use Rattle.std.specs.Map.{keys_of, lookup, values_of}
+pub use Rattle.std.specs.Option.{option_and_then, option_eq, option_to_list}
+pub use Rattle.std.specs.Prelude.{option_map, string_bytes}
+pub use Rattle.std.specs.Result.{result_ok}
+pub use Rattle.std.specs.Str.{bytes_eq}
+pub use Rattle.std.specs.String.{string_eq}
+pub use Rattle.std.specs.declared.rc.Rc.{Rc}
+pub use lib.Pointwise.{bytes_decides}

@@ -1,7 +1,9 @@
 pub mod Common
-pub mod LongestQueries
-pub mod RetainedLemmas
-pub mod Following
-pub mod RenewedPrefix
-pub mod Passing
-pub mod NamedPrefix
+pub mod OriginLemmas
+pub mod Alls
+pub mod NamedEntries
+pub mod PathIdLemmas
+pub mod NotedPositions
+pub mod Overlaying
+pub mod Changed
+pub mod EntryLists

@@ -1,49 +1,59 @@
--- What a change of the map makes of a list of named paths.
---     IsBefore g M N T X C is      the results of the list are right on M with the margin, and edits led from M to N
---     IsAffected g M T X i      the path was not encoded yet, or its footprint on M has a touched node, or one of its
---         lines was touched
---     AffectedNames g M T X is names      the names of those of a list, in order
---     AreRemade g N is js      each path has results that are right on N
---     Follows before is      each path that was encoded has the earlier answer of its name
-use Rattle.std.specs.Prelude.{◌≡◌, ℕ, List, [], ◌∷◌, map, Contains, Some, None, option_map, ◌⊎◌, IsTrue, ⊤}
-use Rattle.std.specs.List.{AllByRecursion}
-use Rattle.olr_spec.specs.Map.{Map, IsMap, has}
-use Rattle.olr_spec.specs.Extension.{is_path}
-use Rattle.olr_spec.specs.Footprint.{FootWith}
-use Rattle.olr_spec.specs.Margins.{Margin, is_margin}
-use Rattle.olr_spec.specs.Detours.{ChangedLine, Difference}
-use Rattle.olr_commands.specs.Counts.{Picks}
-use Rattle.olr_list.specs.Items.{Made, Item, IsEncodingOf, AreEncodingsIfAny, answer_in}
+-- What a change of the map, or of one path, means for a list of named paths.
+--     Touches N T X m P      a traversed node or a line of the path is touched, or a touched node is near to where a
+--         coverage query begins, within its length and the limit
+--     StayKnown N C ks rest      where the coverage queries ks along a path's own lines are right before the changed lines
+--         C, with any margin, the queries rest are right on N
+--     Reported before js es      an entry for each path whose answer is not the earlier one of its name, in order
+--     AreEncoded is      each path was encoded
+--     to_renew all is      the list or, where the margin was set, the list of which no path is encoded yet
+use Rattle.std.specs.Prelude.{◌≡◌, ◌≢◌, ℕ, List, [], ◌∷◌, Contains, Option, Some, None, option_map, ◌⊎◌, IsTrue, ⊤}
+use Rattle.std.specs.Prelude.{min, map, Bool, true, false, if◌then◌else◌}
+use Rattle.olr_spec.specs.Map.{Map, has}
+use Rattle.olr_route.specs.declared.frontier.TheConstants.{GREATEST_LIMIT}
+use Rattle.olr_spec.specs.Extension.{Path}
+use Rattle.olr_spec.specs.Margins.{Margin}
+use Rattle.olr_spec.specs.Encoding.{Answer}
+use Rattle.olr_spec.specs.Detours.{ChangedLine, Near, AccountsFor}
+use Rattle.olr_spec.specs.Queries.{CoverageQuery, KnownQuery, AreKnownWith}
+use Rattle.olr_commands.specs.State.{same_name}
+use Rattle.olr_commands.specs.Reply.{Entry, entry}
+use Rattle.olr_paths.specs.Items.{Made, Item, answer_in}
 
-abbrev pub with_made : Item → Made → Item
-with_made i m = record i { made = Some m }
+abbrev pub TraversedTouched : List ℕ → Made → Type 0
+TraversedTouched T m = (v : ℕ) × IsTrue (has T v) × Contains m.traversed v
 
-pub record IsBefore (g : Margin) (M N : Map) (T X : List ℕ) (C : List ChangedLine) (is : List Item) : Type 0 where
-  pub margin : IsTrue (is_margin g)
-  pub sound : IsMap M
-  pub difference : Difference T X C M N
-  pub starts : (c : ChangedLine) → Contains C c → IsTrue (has T c.from)
-  pub paths : AllByRecursion (λ i. IsTrue (is_path i.path.lines)) is
-  pub made : AreEncodingsIfAny g M is
+abbrev pub LineTouched : List ℕ → Path → Type 0
+LineTouched X P = (x : ℕ) × IsTrue (has X x) × IsTrue (has P.lines x)
 
-pub data IsAffected (g : Margin) (M : Map) (T X : List ℕ) (i : Item) : Type 0 where
-  By_name : i.made ≡ None → IsAffected g M T X i
-  By_node : (v : ℕ) → IsTrue (has T v) → FootWith g M i.path v → IsAffected g M T X i
-  By_line : (x : ℕ) → IsTrue (has X x) → IsTrue (has i.path.lines x) → IsAffected g M T X i
+abbrev pub QueryTouched : Map → List ℕ → List CoverageQuery → Type 0
+QueryTouched N T queries = (l : CoverageQuery) × Contains queries l × Near N T l.from (min l.within GREATEST_LIMIT)
 
-abbrev pub AffectedNames : Margin → Map → List ℕ → List ℕ → List Item → List (List ℕ) → Type 0
-AffectedNames g M T X is names =
-    (js : List Item) × Picks (IsAffected g M T X) is js × (names ≡ map (λ i. i.name) js)
+abbrev pub Touches : Map → List ℕ → List ℕ → Made → Path → Type 0
+Touches N T X m P = TraversedTouched T m ⊎ (LineTouched X P ⊎ QueryTouched N T m.queries)
 
-abbrev pub IsRemade : Margin → Map → Item → Item → Type 0
-IsRemade g N i j = (m : Made) × IsEncodingOf g N i.path m × (j ≡ with_made i m)
+abbrev pub StayKnown : Map → List ChangedLine → List KnownQuery → List KnownQuery → Type 0
+StayKnown N C ks rest =
+    (g : Margin) (M : Map) (ls : List ℕ) → AccountsFor C M N → AccountsFor C N M → AreKnownWith g M ls ks →
+    AreKnownWith g N ls rest
 
-abbrev pub AreRemade : Margin → Map → List Item → List Item → Type 0
-AreRemade g N [] js = js ≡ []
-AreRemade g N (i ∷ is) [] = ⊥
-AreRemade g N (i ∷ is) (j ∷ js) = IsRemade g N i j × AreRemade g N is js
+abbrev pub Reported : List Item → List Item → List Entry → Type 0
+Reported before [] es = es ≡ []
+Reported before (j ∷ js) es =
+    (A : Answer) × (rest : List Entry) × (option_map (λ m. m.answer) j.made ≡ Some A) × Reported before js rest
+    × (((answer_in before j.name ≡ Some A) × (es ≡ rest))
+    ⊎ ((answer_in before j.name ≢ Some A) × (es ≡ entry j.name A ∷ rest)))
 
-abbrev pub Follows : List Item → List Item → Type 0
-Follows before [] = ⊤
-Follows before (i ∷ is) =
-    ((i.made ≡ None) ⊎ (answer_in before i.name ≡ option_map (λ m. m.answer) i.made)) × Follows before is
+abbrev pub AreEncoded : List Item → Type 0
+AreEncoded [] = ⊤
+AreEncoded (i ∷ is) = (i.made ≢ None) × AreEncoded is
+
+abbrev pub without_answer : Item → Item
+without_answer i = record i { made = None }
+
+abbrev pub to_renew : Bool → List Item → List Item
+to_renew false is = is
+to_renew true is = map without_answer is
+
+-- the path of that name is replaced
+abbrev pub set_item : List ℕ → Path → Option Made → Item → Item
+set_item name path made i = if same_name i.name name then record { name = i.name; path = path; made = made } else i

@@ -1,11 +1,11 @@
 -- The fields of a record that is read are plain: letters, digits, and marks that csv doesn't quote.
 use Rattle.olr_records.proofs.Common.{AllByRecursion, Field, IfOk, IfSome, if◌then◌else◌, Coord, Edit, Line, Read, ◌⊛◌}
-use Rattle.olr_records.proofs.Common.{ShapePoint, Add_line, Set_line, line_between}
-use Rattle.olr_records.proofs.Common.{and_parts, attributes, class, coordinate, degrees, is_ascii_digit}
-use Rattle.olr_records.proofs.Common.{is_name_byte, line_record, list_all, max32, name, node_fields, node_record, number}
-use Rattle.olr_records.proofs.Common.{numbers, path_fields, place, point, set_line_record, shape, whole_line}
-use Rattle.std.proofs.Common.{◌≡◌, ℕ, ℤ, zero, suc, Bool, true, false, List, [], ◌∷◌, ◌++◌, length, take, drop, Option, Some, None}
-use Rattle.std.proofs.Common.{Ok, Err, refl, ap, arith, not, ◌==◌, pos}
+use Rattle.olr_records.proofs.Common.{ShapePoint, Add_line, Set_line, line_between, and_parts, attributes, class}
+use Rattle.olr_records.proofs.Common.{coordinate, degrees, is_ascii_digit, is_name_byte, line_record, list_all, max32}
+use Rattle.olr_records.proofs.Common.{name, node_fields, node_record, number, numbers, path_fields, place, point}
+use Rattle.olr_records.proofs.Common.{set_line_record, shape, whole_line}
+use Rattle.std.proofs.Common.{◌≡◌, ℕ, ℤ, zero, suc, Bool, true, false, List, [], ◌∷◌, ◌++◌, length, take, drop, Option}
+use Rattle.std.proofs.Common.{Some, None, Ok, Err, refl, ap, arith, not, ◌==◌, pos}
 use Rattle.std.specs.Prelude.{option_map, neg_ℤ}
 use Rattle.std.specs.List.{prefix_len}
 use Rattle.olr_spec.specs.Degrees.{are_digits, whole, fraction, before_point, unsigned_degrees}

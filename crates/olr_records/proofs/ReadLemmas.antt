@@ -11,8 +11,8 @@ use Rattle.olr_records.proofs.Common.{is_latitude, unit7, are_coords, HasCoord, 
 use Rattle.std.proofs.Common.{◌≡◌, ℕ, ℤ, Bool, true, false, List, [], ◌∷◌, Option, Some, None, Ok, Err, IsTrue, refl}
 use Rattle.std.proofs.Common.{subst, length, nat_le, ◌&&◌, pos, negsuc, arith, ◌%◌}
 use Rattle.std.specs.Prelude.{codes, slice_index_or}
-use Rattle.olr_commands.specs.State.{Command, Show, Show_node, Show_line, Depends, Report, Dump, Compact, Explain, Begin}
-use Rattle.olr_commands.specs.State.{Preview, Commit, Abort, Ambiguous, HasCoords}
+use Rattle.olr_commands.specs.State.{Command, Show, Show_node, Show_line, Depends, Report, Dump, Compact, Explain}
+use Rattle.olr_commands.specs.State.{Begin, Preview, Commit, Abort, Ambiguous, HasCoords}
 use Rattle.olr_coords.specs.Bounds.{is_degrees}
 use Rattle.olr_records.specs.Records.{digits, longitude, latitude, one, none, path_record, forms, read_by}
 use Rattle.olr_records.specs.Records.{depends_record, few_nodes, ambiguous_record}

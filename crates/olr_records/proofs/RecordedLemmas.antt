@@ -1,9 +1,10 @@
 -- Commands whose changes have records lead to contents that have records.
 use Rattle.olr_records.proofs.Common.{IfSome, Line, Add_path, Set_path, is_place, Recorded, cases_eq, MapFault, no_line}
-use Rattle.olr_records.proofs.Common.{list_all, is_coord, Add_node, Add_line, Set_line, Drop_path, Set_margin, is_number, is_amount}
-use Rattle.olr_records.proofs.Common.{AllByRecursion, is_name, are_attributes, is_recordable_coord, is_recordable_shape}
-use Rattle.olr_records.proofs.Common.{and_parts, Move_node, Drop_node, Drop_line, has_record, IsRecorded, StaysRecorded}
-use Rattle.olr_records.proofs.Common.{eq-eqb, Coord, Edit, Path, Change, On_map, Make, ne_eqb, Map, start, end, edited}
+use Rattle.olr_records.proofs.Common.{list_all, is_coord, Add_node, Add_line, Set_line, Drop_path, Set_margin}
+use Rattle.olr_records.proofs.Common.{is_number, is_amount, AllByRecursion, is_name, are_attributes}
+use Rattle.olr_records.proofs.Common.{is_recordable_coord, is_recordable_shape, and_parts, Move_node, Drop_node}
+use Rattle.olr_records.proofs.Common.{Drop_line, has_record, IsRecorded, StaysRecorded, eq-eqb, Coord, Edit, Path}
+use Rattle.olr_records.proofs.Common.{Change, On_map, Make, ne_eqb, Map, start, end, edited}
 use Rattle.std.proofs.Common.{rules, arith, ◌≡◌, ℕ, Bool, true, List, [], ◌∷◌, ◌++◌, map, Option, Some, None}
 use Rattle.std.proofs.Common.{unwrap_or, Result, Ok, Err, IsTrue, refl, sym, ◌∙◌, subst, filter, is_some, nat_cmp}
 use Rattle.olr_commands.specs.State.{Command, Begin, Commit, Abort, Named, Content, with_path, with_map, with_change}

@@ -11,9 +11,9 @@ use Rattle.olr_spec.specs.Degrees.{are_digits, digits_value, degrees}
 use Rattle.olr_spec.specs.Map.{ShapePoint, Line, Edit, Add_node, Move_node, Drop_node, Add_line, Set_line, Drop_line}
 use Rattle.olr_spec.specs.Extension.{Path}
 use Rattle.olr_commands.specs.Recordable.{is_name}
-use Rattle.olr_commands.specs.State.{same_name, Fault, Syntax, Range, Change, On_map, Add_path, Set_path, Drop_path, Set_margin}
-use Rattle.olr_commands.specs.State.{Command, Make, Show, Show_node, Show_line, Depends, Report, Dump, Compact, Explain, Begin}
-use Rattle.olr_commands.specs.State.{Preview, Commit, Abort, Ambiguous, Show_margin}
+use Rattle.olr_commands.specs.State.{same_name, Fault, Syntax, Range, Change, On_map, Add_path, Set_path, Drop_path}
+use Rattle.olr_commands.specs.State.{Set_margin, Command, Make, Show, Show_node, Show_line, Depends, Report, Dump}
+use Rattle.olr_commands.specs.State.{Compact, Explain, Begin, Preview, Commit, Abort, Ambiguous, Show_margin}
 
 -- the fields of a record, or one field, by their bytes
 abbrev pub Field : Type 0

@@ -9,7 +9,7 @@ use crate::faults::ReadFault;
 use crate::fields::{class, field, length, shape_point};
 use crate::parts::{both, room, with_item};
 use csv::ByteRecord;
-use olr_roads::Shape;
+use olr_model::Shape;
 use std::alloc::Global;
 
 /// The attributes of a line in a record: all but its number and its ends.

@@ -12,7 +12,7 @@ use crate::parts::both;
 use csv::ByteRecord;
 use olr_commands::Command;
 use olr_coords::Coord;
-use olr_roads::{Edit, Line, NodeId};
+use olr_model::{Edit, Line, NodeId};
 use std::alloc::Global;
 
 /// A node and its coordinate: all fields after the first.

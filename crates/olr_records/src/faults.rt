@@ -7,7 +7,7 @@ ghost use Rattle.olr_records.specs.declared.faults.ReadFault.TheVariants.{Memory
 
 use olr_binary::{TextFault, V3Fault};
 use olr_commands::CommandFault;
-use olr_roads::EditFault;
+use olr_model::EditFault;
 use std::alloc::{AllocError, AllocFailed};
 use thiserror::Error;
 

@@ -13,7 +13,7 @@ use crate::parts::both;
 use csv::ByteRecord;
 use olr_commands::is_name;
 use olr_coords::{Coord, CoordFault, read_degrees, read_digits};
-use olr_roads::{LineId, NodeId, Shape};
+use olr_model::{LineId, NodeId, Shape};
 use std::alloc::Global;
 
 /// The greatest functional road class (FRC), and the greatest form of way (FOW).

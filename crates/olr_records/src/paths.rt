@@ -13,7 +13,7 @@ use crate::parts::both;
 use csv::ByteRecord;
 use olr_answers::Margin;
 use olr_commands::Command;
-use olr_roads::LineId;
+use olr_model::LineId;
 use std::alloc::Global;
 
 /// The greatest part by which own lines count longer, in thousandths of their length.

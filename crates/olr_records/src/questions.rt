@@ -11,7 +11,7 @@ use crate::fields::{field, line_id, name, node_id, only_field};
 use crate::lists::items_from;
 use csv::ByteRecord;
 use olr_commands::Command;
-use olr_roads::NodeId;
+use olr_model::NodeId;
 use std::alloc::Global;
 
 /// The greatest number of nodes in a question.

@@ -1,12 +1,12 @@
 -- The coverage queries of LRPs: what is asked from one LRP to the next, and what that says of a path.
-use Rattle.olr_refs.proofs.Common.{◌≡◌, ◌<◌, ◌≤◌, ◌+◌, ◌-◌, ◌*◌, ℕ, List, [], ◌∷◌, ◌++◌, length, Contains, Option}
-use Rattle.olr_refs.proofs.Common.{Some, None, MatchOption, refl, sym, ap, ◌∙◌, subst, arith, inr, IsTrue, nat_tests}
-use Rattle.olr_refs.proofs.Common.{Map, IsMap, Path, is_path, NextWith, path_fault, FootWith, CoverageQuery, KnownQuery}
-use Rattle.olr_refs.proofs.Common.{foot_queried_with, append-nil, append_assoc, nat_lt, option_to_list, filter-append, querying}
-use Rattle.olr_refs.proofs.Common.{KnownOfWith, QueriesFromWith, QueriesOfWith, Next-candidate, Asks, IsKnownOfWith, IsAnswered}
-use Rattle.olr_refs.proofs.Common.{IsReuse, own_of, Extends, ForPoints, raised_work, taken_start, taken_end, from_start}
-use Rattle.olr_refs.proofs.Common.{length-append}
-use Rattle.olr_refs.proofs.Common.{Contains-append_left, Contains-append_right}
+use Rattle.olr_refs.proofs.Common.{◌≡◌, ◌<◌, ◌≤◌, ◌+◌, ◌-◌, ◌*◌, ℕ, List, [], ◌∷◌, ◌++◌, length, Contains, Option, Some}
+use Rattle.olr_refs.proofs.Common.{None, MatchOption, refl, sym, ap, ◌∙◌, subst, arith, inr, IsTrue, nat_tests, Map}
+use Rattle.olr_refs.proofs.Common.{IsMap, Path, is_path, NextWith, path_fault, FootWith, CoverageQuery, KnownQuery}
+use Rattle.olr_refs.proofs.Common.{foot_queried_with, append-nil, append_assoc, nat_lt, option_to_list, filter-append}
+use Rattle.olr_refs.proofs.Common.{querying, KnownOfWith, QueriesFromWith, QueriesOfWith, Next-candidate, Asks}
+use Rattle.olr_refs.proofs.Common.{IsKnownOfWith, IsAnswered, IsReuse, own_of, Extends, ForPoints, raised_work}
+use Rattle.olr_refs.proofs.Common.{taken_start, taken_end, from_start, length-append, Contains-append_left}
+use Rattle.olr_refs.proofs.Common.{Contains-append_right}
 use Rattle.olr_refs.specs.declared.chosen.Queries.{Queries}
 use Rattle.olr_refs.specs.declared.reuse.Found.{Found}
 use Rattle.olr_refs.specs.declared.reuse.Reuse.{Reuse}

@@ -1,6 +1,6 @@
 -- Degree-two nodes, by the slots of nodes.
-use Rattle.olr_refs.proofs.Common.{◌≡◌, ◌==◌, ◌∙◌, ℕ, List, [], ◌∷◌, IsTrue, Map, has, has_node, map, refl, sym, ap, inl, inr}
-use Rattle.olr_refs.proofs.Common.{cases_eq, eq-eqb, has_here}
+use Rattle.olr_refs.proofs.Common.{◌≡◌, ◌==◌, ◌∙◌, ℕ, List, [], ◌∷◌, IsTrue, Map, has, has_node, map, refl, sym, ap}
+use Rattle.olr_refs.proofs.Common.{inl, inr, cases_eq, eq-eqb, has_here}
 use Rattle.std.proofs.lemmas.Bool.{ne_eqb}
 use Rattle.olr_spec.specs.Extension.{passes_between}
 use Rattle.olr_spec.proofs.ListLemmas.{has_there}

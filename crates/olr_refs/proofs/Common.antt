@@ -9,14 +9,14 @@ pub use Rattle.olr_refs.specs.KeptPoints.{distance_at, later, whole_distance}
 pub use Rattle.olr_refs.specs.ResolvedLines.{AreRecords, ids, records_of}
 pub use Rattle.olr_refs.specs.Reuse.{Asks, EndsHere, IsAnswered, IsReuse, known_reach, own_of}
 pub use Rattle.olr_refs.specs.Runs.{IsLongest, IsRun, LeadsOn, LiesBeyond, in_order, outermost}
-pub use Rattle.olr_search.proofs.ReadLemmas.{read_at}
-pub use Rattle.olr_search.specs.Counts.{no_work, raised_count, raised_work, saturated_count}
-pub use Rattle.olr_search.specs.Distances.{far_end, near_end}
-pub use Rattle.olr_search.specs.ResolvedLines.{IsResolved, ResolvedLine, record_of}
-pub use Rattle.olr_search.specs.Searches.{Counts, IsSearch, LiesWithin, limit_of}
-pub use Rattle.olr_search.specs.declared.distances.Dijkstra.{Dijkstra}
-pub use Rattle.olr_search.specs.declared.distances.Direction.TheVariants.{Against, Along}
-pub use Rattle.olr_search.specs.declared.work.Work.{Work}
+pub use Rattle.olr_route.proofs.ReadLemmas.{read_at}
+pub use Rattle.olr_route.specs.Counts.{no_work, raised_count, raised_work, saturated_count}
+pub use Rattle.olr_route.specs.Distances.{far_end, near_end}
+pub use Rattle.olr_route.specs.ResolvedLines.{IsResolved, ResolvedLine, record_of}
+pub use Rattle.olr_route.specs.Searches.{Counts, IsSearch, LiesWithin, limit_of}
+pub use Rattle.olr_route.specs.declared.distances.Dijkstra.{Dijkstra}
+pub use Rattle.olr_route.specs.declared.distances.Direction.TheVariants.{Against, Along}
+pub use Rattle.olr_route.specs.declared.work.Work.{Work}
 pub use Rattle.olr_spec.proofs.AnswerLemmas.{Next-candidate, all_first, all_last, no_unknown, path_also, path_nonempty}
 pub use Rattle.olr_spec.proofs.AnswerLemmas.{sound_lines}
 pub use Rattle.olr_spec.proofs.FieldLemmas.{dm_same, from_front-add, position_is}
@@ -40,15 +40,17 @@ pub use Rattle.olr_spec.specs.Extension.{passing, taken_end, taken_start}
 pub use Rattle.olr_spec.specs.Footprint.{FootWith, Sees}
 pub use Rattle.olr_spec.specs.Map.{IsMap, Line, Map, coord_at, dm, end, has, has_line, has_node, is_good, line_at}
 pub use Rattle.olr_spec.specs.Map.{start}
-pub use Rattle.olr_spec.specs.Points.{CandidateWith, CoveredWith, FollowWith, Greatest, NextWith, NoNextWith, OfPathWith, ValidCandidateWith, fit16}
-pub use Rattle.olr_spec.specs.Points.{last_position, node_at, stretch}
+pub use Rattle.olr_spec.specs.Points.{CandidateWith, CoveredWith, FollowWith, Greatest, NextWith, NoNextWith}
+pub use Rattle.olr_spec.specs.Points.{OfPathWith, ValidCandidateWith, fit16, last_position, node_at, stretch}
 pub use Rattle.olr_spec.specs.Queries.{CoverageQuery, IsKnownWith, IsKnownOfWith, IsLastTestedWith, IsQueryWith}
-pub use Rattle.olr_spec.specs.Queries.{KnownOfWith, KnownQuery, Needed, NodeOf, QueriesFromWith, QueriesOfWith, QueriesOfExtendedWith}
-pub use Rattle.olr_spec.specs.Queries.{Traversed, TraversedOf, TraversedOfExtended, query_to_with, querying}
-pub use Rattle.olr_spec.specs.Reference.{Attrs, First, Last, Middle, Reference, attrs_with, dm_along, dm_between, first_kept}
-pub use Rattle.olr_spec.specs.Reference.{first_point_with, first_where, from_front, kept_points, last_kept, last_point}
-pub use Rattle.olr_spec.specs.Reference.{last_two, last_where, leg, leg_at, legs, middle_point_with, middle_points_with, no_leg}
-pub use Rattle.olr_spec.specs.Reference.{offset, position, reference_with, reference_by_with, to_back}
+pub use Rattle.olr_spec.specs.Queries.{KnownOfWith, KnownQuery, Needed, NodeOf, QueriesFromWith, QueriesOfWith}
+pub use Rattle.olr_spec.specs.Queries.{QueriesOfExtendedWith, Traversed, TraversedOf, TraversedOfExtended}
+pub use Rattle.olr_spec.specs.Queries.{query_to_with, querying}
+pub use Rattle.olr_spec.specs.Reference.{Attrs, First, Last, Middle, Reference, attrs_with, dm_along, dm_between}
+pub use Rattle.olr_spec.specs.Reference.{first_kept, first_point_with, first_where, from_front, kept_points, last_kept}
+pub use Rattle.olr_spec.specs.Reference.{last_point, last_two, last_where, leg, leg_at, legs, middle_point_with}
+pub use Rattle.olr_spec.specs.Reference.{middle_points_with, no_leg, offset, position, reference_with}
+pub use Rattle.olr_spec.specs.Reference.{reference_by_with, to_back}
 pub use Rattle.olr_spec.specs.Routes.{IsRoute, UniqueShortest, dm_of}
 pub use Rattle.std.proofs.Common.{Bool, Contains, Err, IsPermutation, List, MatchOption, None, Ok, Option, Result, Some}
 pub use Rattle.std.proofs.Common.{[], ap, append_assoc, arith, cond, drop, eqb, false, get_or, inl, inr, is_ok, is_some}

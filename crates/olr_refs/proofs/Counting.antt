@@ -1,16 +1,17 @@
 -- The map as it counts for some lines, and one line more; and a search on it.
-use Rattle.olr_refs.proofs.Common.{◌≡◌, ◌==◌, ◌<◌, ◌≤◌, ◌+◌, ℕ, true, List, [], ◌∷◌, ◌++◌, sym, ap, ◌∙◌, subst, refl, arith, inl, inr}
-use Rattle.olr_refs.proofs.Common.{cases_lt, IsTrue, Map, start, end, dm, has, has_line, has_node, has_here, IsRoute}
-use Rattle.olr_refs.proofs.Common.{UniqueShortest, dm_of, dm_of-append, Each, route_known, list_any-append, or_left, or_right}
-use Rattle.olr_refs.proofs.Common.{Along, Dijkstra, IsSearch, LiesWithin, limit_of, CoverageQuery, Sees, Contains-one}
+use Rattle.olr_refs.proofs.Common.{◌≡◌, ◌==◌, ◌<◌, ◌≤◌, ◌+◌, ℕ, true, List, [], ◌∷◌, ◌++◌, sym, ap, ◌∙◌, subst, refl}
+use Rattle.olr_refs.proofs.Common.{arith, inl, inr, cases_lt, IsTrue, Map, start, end, dm, has, has_line, has_node}
+use Rattle.olr_refs.proofs.Common.{has_here, IsRoute, UniqueShortest, dm_of, dm_of-append, Each, route_known}
+use Rattle.olr_refs.proofs.Common.{list_any-append, or_left, or_right, Along, Dijkstra, IsSearch, LiesWithin, limit_of}
+use Rattle.olr_refs.proofs.Common.{CoverageQuery, Sees, Contains-one}
 use Rattle.olr_spec.proofs.ListLemmas.{Each-tail, has_cases, dec_same}
 use Rattle.olr_spec.proofs.CountedLemmas.{counted_own, counted_other, counted_zero, counted_least, counted_route, route_counted}
 use Rattle.olr_spec.proofs.CountedMoves.{counted_longer}
 use Rattle.olr_refs.specs.Choice.{begun_at}
 use Rattle.olr_refs.proofs.Common.{cond}
-use Rattle.olr_search.proofs.UniqueLemmas.{label_way, way_le}
-use Rattle.olr_search.specs.Frontiers.{label_of}
-use Rattle.olr_search.specs.declared.frontier.TheConstants.{GREATEST_LIMIT}
+use Rattle.olr_route.proofs.UniqueLemmas.{label_way, way_le}
+use Rattle.olr_route.specs.Frontiers.{label_of}
+use Rattle.olr_route.specs.declared.frontier.TheConstants.{GREATEST_LIMIT}
 use Rattle.olr_spec.specs.Margins.{Margin, counted, counted_dm, counted_dm_of, CountedRoute}
 use Rattle.std.proofs.lemmas.Bool.{cases_Bool}
 

@@ -1,18 +1,17 @@
 -- What the searches for coverage queries note and cost, and the footprint.
-use Rattle.olr_refs.proofs.Common.{append_assoc, ◌≡◌, ◌≤◌, ◌+◌, ◌*◌, ℕ, List, [], ◌∷◌, ◌++◌, length}
-use Rattle.olr_refs.proofs.Common.{Contains, arith, inl, inr, length-append, None, Some, Option, subst}
-use Rattle.olr_refs.proofs.Common.{◌⊎◌, IsTrue, ◌↔◌, AllZip, eqb-true, Contains-append_left, Map, has_node, IsMap}
-use Rattle.olr_refs.proofs.Common.{dm_of, Path, is_path, NextWith, last_position, Sees, FootWith, CoverageQuery}
-use Rattle.olr_refs.proofs.Common.{QueriesOfWith, Contains-here, Contains-cases, Work, Along, Dijkstra}
-use Rattle.olr_refs.proofs.Common.{IsSearch, LiesWithin, limit_of, AreSearched, CostsAtMost, SeenBy, Notes}
-use Rattle.olr_refs.proofs.Common.{no_work, raised_work, foot_queried_with, Contains-append_right, Contains-append_cases}
-use Rattle.olr_refs.proofs.Common.{NoNextWith, FollowWith, TraversedOf, Contains-one, Counts, append-nil}
-use Rattle.olr_refs.proofs.Common.{MatchOption}
+use Rattle.olr_refs.proofs.Common.{append_assoc, ◌≡◌, ◌≤◌, ◌+◌, ◌*◌, ℕ, List, [], ◌∷◌, ◌++◌, length, Contains, arith}
+use Rattle.olr_refs.proofs.Common.{inl, inr, length-append, None, Some, Option, subst, ◌⊎◌, IsTrue, ◌↔◌, AllZip}
+use Rattle.olr_refs.proofs.Common.{eqb-true, Contains-append_left, Map, has_node, IsMap, dm_of, Path, is_path, NextWith}
+use Rattle.olr_refs.proofs.Common.{last_position, Sees, FootWith, CoverageQuery, QueriesOfWith, Contains-here}
+use Rattle.olr_refs.proofs.Common.{Contains-cases, Work, Along, Dijkstra, IsSearch, LiesWithin, limit_of, AreSearched}
+use Rattle.olr_refs.proofs.Common.{CostsAtMost, SeenBy, Notes, no_work, raised_work, foot_queried_with}
+use Rattle.olr_refs.proofs.Common.{Contains-append_right, Contains-append_cases, NoNextWith, FollowWith, TraversedOf}
+use Rattle.olr_refs.proofs.Common.{Contains-one, Counts, append-nil, MatchOption}
 use Rattle.olr_spec.specs.Margins.{Margin, counted}
 use Rattle.std.specs.Cmp.{nat_eq_equiv}
 use Rattle.std.proofs.lemmas.Map.Made.{length-le_from_is_member}
 use Rattle.std.proofs.lemmas.Map.Views.{Contains-from_any, list_any-from_Contains}
-use Rattle.olr_search.proofs.SearchLemmas.{near_leads}
+use Rattle.olr_route.proofs.SearchLemmas.{near_leads}
 use Rattle.olr_refs.proofs.Counting.{seen_counted}
 
 -- ---- what a search settles

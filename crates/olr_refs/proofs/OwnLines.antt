@@ -1,7 +1,7 @@
 -- A path's own lines at its LRPs are on the map, one for each LRP of its reference.
-use Rattle.olr_refs.proofs.Common.{◌≡◌, ◌<◌, ◌≤◌, ◌-◌, ◌+◌, ℕ, suc, List, [], ◌∷◌, ◌++◌, length, take, refl, sym, ap, ◌∙◌}
-use Rattle.olr_refs.proofs.Common.{subst, arith, slice_index, map, None, IsTrue, Map, IsMap, has_line, Path, is_path}
-use Rattle.olr_refs.proofs.Common.{extended_path, Each, has_index, LinkedWith, EncodesWith, legs, kept_points}
+use Rattle.olr_refs.proofs.Common.{◌≡◌, ◌<◌, ◌≤◌, ◌-◌, ◌+◌, ℕ, suc, List, [], ◌∷◌, ◌++◌, length, take, refl, sym, ap}
+use Rattle.olr_refs.proofs.Common.{◌∙◌, subst, arith, slice_index, map, None, IsTrue, Map, IsMap, has_line, Path}
+use Rattle.olr_refs.proofs.Common.{is_path, extended_path, Each, has_index, LinkedWith, EncodesWith, legs, kept_points}
 use Rattle.olr_refs.proofs.Common.{Reference, extended_sound, path_fault, EncodingWith}
 use Rattle.olr_spec.specs.Margins.{Margin}
 use native.Mathlib.Numerals.{unary_clauses}

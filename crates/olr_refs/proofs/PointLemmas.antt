@@ -1,9 +1,9 @@
 -- The LRPs of a reference, as they are read.
 use Rattle.olr_refs.proofs.Common.{◌≡◌, ◌<◌, ◌≤◌, ◌-◌, ◌+◌, ℕ, zero, suc, ℤ, Option, List, [], ◌∷◌, ◌++◌, length, take}
 use Rattle.olr_refs.proofs.Common.{refl, arith, slice_index, Coord, abs24, relative, Map, Attrs, Middle, Reference}
-use Rattle.olr_refs.proofs.Common.{attrs_with, dm_between, reference_by_with, legs, leg_at, position, middle_points_of, Leg}
-use Rattle.olr_refs.proofs.Common.{bearing_back, First, Last, offset, last_two, first_point_with, middle_point_with}
-use Rattle.olr_refs.proofs.Common.{middle_points_with, last_point, ◌∙◌, ap, to_z-of_z, Width, w64}
+use Rattle.olr_refs.proofs.Common.{attrs_with, dm_between, reference_by_with, legs, leg_at, position, middle_points_of}
+use Rattle.olr_refs.proofs.Common.{Leg, bearing_back, First, Last, offset, last_two, first_point_with}
+use Rattle.olr_refs.proofs.Common.{middle_point_with, middle_points_with, last_point, ◌∙◌, ap, to_z-of_z, Width, w64}
 use Rattle.olr_spec.specs.Margins.{Margin}
 use mir.Val.{SFits, of_z, to_z}
 

@@ -1,18 +1,19 @@
 -- The positions that are covered, by one route along the lines after a position, where these count longer.
-use Rattle.olr_refs.proofs.Common.{cases_lt, ◌≡◌, ◌==◌, ◌<◌, ◌≤◌, ◌-◌, ◌+◌, ◌*◌, ℕ, min, max, Bool, List, [], ◌∷◌, ◌++◌, length}
-use Rattle.olr_refs.proofs.Common.{take, drop, ap, sym, subst, ◌∙◌, arith, inl, inr, cases_order, IsTrue, ◌↔◌, slice_index, Map}
-use Rattle.olr_refs.proofs.Common.{IsMap, start, end, dm, has_line, IsRoute, dm_of, limit, AreJoined, stretch, CoveredWith, CountedTo}
-use Rattle.olr_refs.proofs.Common.{IsLastTestedWith, dm_of-append, stretch_parts, Along, Dijkstra, IsSearch, limit_of}
-use Rattle.olr_refs.proofs.Common.{IsFar, IsReach, UniqueShortest, Needed, empty_unique, stretch_last, ResolvedLine, record_of}
-use Rattle.olr_refs.proofs.Common.{cases_eq, ne_eqb, cond, refl, has_node}
+use Rattle.olr_refs.proofs.Common.{cases_lt, ◌≡◌, ◌==◌, ◌<◌, ◌≤◌, ◌-◌, ◌+◌, ◌*◌, ℕ, min, max, Bool, List, [], ◌∷◌, ◌++◌}
+use Rattle.olr_refs.proofs.Common.{length, take, drop, ap, sym, subst, ◌∙◌, arith, inl, inr, cases_order, IsTrue, ◌↔◌}
+use Rattle.olr_refs.proofs.Common.{slice_index, Map, IsMap, start, end, dm, has_line, IsRoute, dm_of, limit, AreJoined}
+use Rattle.olr_refs.proofs.Common.{stretch, CoveredWith, CountedTo, IsLastTestedWith, dm_of-append, stretch_parts}
+use Rattle.olr_refs.proofs.Common.{Along, Dijkstra, IsSearch, limit_of, IsFar, IsReach, UniqueShortest, Needed}
+use Rattle.olr_refs.proofs.Common.{empty_unique, stretch_last, ResolvedLine, record_of, cases_eq, ne_eqb, cond, refl}
+use Rattle.olr_refs.proofs.Common.{has_node}
 use Rattle.std.proofs.lemmas.Bool.{cases_Bool}
 use Rattle.olr_refs.proofs.Counting.{own_same, line_counts, sum_counts, unique_more, end_ahead, starts_settled}
 use Rattle.olr_refs.proofs.Joined.{known_at}
 use Rattle.olr_refs.proofs.LegLemmas.{joined_known}
 use Rattle.olr_refs.proofs.Stretches.{stretch_sum}
 use Rattle.olr_refs.specs.Choice.{begun_at, MayMark}
-use Rattle.olr_search.specs.Lengths.{MayCount}
-use Rattle.olr_search.specs.Frontiers.{label_of}
+use Rattle.olr_route.specs.Lengths.{MayCount}
+use Rattle.olr_route.specs.Frontiers.{label_of}
 use Rattle.std.proofs.lemmas.Bool.{cond_both}
 use Rattle.olr_spec.proofs.CountedLemmas.{counted_nil, counted_start}
 use Rattle.olr_spec.proofs.ElsewhereLemmas.{counted_part}

@@ -2,11 +2,10 @@
 use Rattle.olr_refs.proofs.Common.{◌≡◌, ◌<◌, ◌+◌, ℕ, List, [], ◌∷◌, length, Option, Some, None, MatchOption, Contains}
 use Rattle.olr_refs.proofs.Common.{ap, ◌∙◌, arith, inl, inr, eq-eqb, IsTrue, Map, IsMap, dm_of, Path, is_path}
 use Rattle.olr_refs.proofs.Common.{extended_path, AreJoined, last_position, Reference, legs, reference_with, path_fault}
-use Rattle.olr_refs.proofs.Common.{CoverageQuery, QueriesOfWith, path_nonempty, all_first, all_last, path_also}
-use Rattle.olr_refs.proofs.Common.{Extends, later, joined_with, answer_of, Tried, OfPathWith}
-use Rattle.olr_refs.proofs.Common.{answer_by_points_with, EncodingWith, EncodesWith, Traversed, TraversedOfExtended}
-use Rattle.olr_refs.proofs.Common.{QueriesOfExtendedWith, sound_lines, one_tried, extended_sound, ForPoints, searches_of}
-use Rattle.olr_refs.proofs.Common.{◌↔◌}
+use Rattle.olr_refs.proofs.Common.{CoverageQuery, QueriesOfWith, path_nonempty, all_first, all_last, path_also, Extends}
+use Rattle.olr_refs.proofs.Common.{later, joined_with, answer_of, Tried, OfPathWith, answer_by_points_with}
+use Rattle.olr_refs.proofs.Common.{EncodingWith, EncodesWith, Traversed, TraversedOfExtended, QueriesOfExtendedWith}
+use Rattle.olr_refs.proofs.Common.{sound_lines, one_tried, extended_sound, ForPoints, searches_of, ◌↔◌}
 use Rattle.olr_answers.specs.declared.answer.Answer.{Answer}
 use Rattle.olr_answers.specs.declared.answer.Answer.TheVariants.{Points, Refused}
 use Rattle.std.proofs.lemmas.Slice.Zip.{AllZip-long}

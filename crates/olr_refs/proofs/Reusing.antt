@@ -1,11 +1,12 @@
 -- Known coverage queries on an extended path: how one is found, and what it says there.
-use Rattle.olr_refs.proofs.Common.{cases_lt, ◌≡◌, ◌<◌, ◌≤◌, ◌-◌, ◌+◌, ◌∷◌, ℕ, min, Bool, true, false, List}
-use Rattle.olr_refs.proofs.Common.{get_or, Result, Some, Contains, Option, [], refl, sym, ap, ◌∙◌, subst, arith}
-use Rattle.olr_refs.proofs.Common.{get_or_default, IsTrue, ◌↔◌, slice_index, length, length-take, length-drop, get_or-take}
-use Rattle.olr_refs.proofs.Common.{get_or-drop, IsBinarySearchResult, nat_cmp, IsMap, Map, start, end, AreJoined, IsRoute}
-use Rattle.olr_refs.proofs.Common.{CountedTo, CoveredWith, stretch, KnownQuery, CoverageQuery, IsLastTestedWith, IsFar, IsReach, Ok, Err}
-use Rattle.olr_refs.proofs.Common.{IsReuse, IsAnswered, IsKnownOfWith, EndsHere, own_of, Contains-here, known_reach, no_work, All-contains}
-use Rattle.olr_refs.proofs.Common.{IsSearchInRange, IsKnownWith, query_to_with, if◌then◌else◌}
+use Rattle.olr_refs.proofs.Common.{cases_lt, ◌≡◌, ◌<◌, ◌≤◌, ◌-◌, ◌+◌, ◌∷◌, ℕ, min, Bool, true, false, List, get_or}
+use Rattle.olr_refs.proofs.Common.{Result, Some, Contains, Option, [], refl, sym, ap, ◌∙◌, subst, arith, get_or_default}
+use Rattle.olr_refs.proofs.Common.{IsTrue, ◌↔◌, slice_index, length, length-take, length-drop, get_or-take, get_or-drop}
+use Rattle.olr_refs.proofs.Common.{IsBinarySearchResult, nat_cmp, IsMap, Map, start, end, AreJoined, IsRoute, CountedTo}
+use Rattle.olr_refs.proofs.Common.{CoveredWith, stretch, KnownQuery, CoverageQuery, IsLastTestedWith, IsFar, IsReach}
+use Rattle.olr_refs.proofs.Common.{Ok, Err, IsReuse, IsAnswered, IsKnownOfWith, EndsHere, own_of, Contains-here}
+use Rattle.olr_refs.proofs.Common.{known_reach, no_work, All-contains, IsSearchInRange, IsKnownWith, query_to_with}
+use Rattle.olr_refs.proofs.Common.{if◌then◌else◌}
 use Rattle.olr_refs.specs.declared.reuse.Found.{Found}
 use Rattle.olr_refs.specs.declared.reuse.Reuse.{Reuse}
 use Rattle.olr_spec.specs.Margins.{Margin, counted, CountedRoute}

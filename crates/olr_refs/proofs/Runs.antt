@@ -12,7 +12,7 @@ use Rattle.olr_refs.proofs.Common.{MayPrecede, MayFollow, StartRun, EndRun, has_
 use Rattle.olr_refs.proofs.Common.{outermost, in_order, LeadsOn, IsLongest, IsTrue, append-nil}
 use Rattle.olr_spec.proofs.RunMoves.{EndRun-push}
 use Rattle.olr_spec.proofs.DecideLemmas.{last_of_list}
-use Rattle.olr_search.specs.declared.distances.Direction.{Direction}
+use Rattle.olr_route.specs.declared.distances.Direction.{Direction}
 use Rattle.olr_refs.specs.Runs.{joined}
 
 -- ---- the line beyond a line

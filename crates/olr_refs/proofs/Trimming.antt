@@ -2,12 +2,13 @@
 use Rattle.olr_refs.proofs.Common.{common_steps, inl, inr, ◌≡◌, ◌<◌, ◌≤◌, ◌-◌, ◌+◌, ℕ, zero, suc, Bool, true, false}
 use Rattle.olr_refs.proofs.Common.{cond, List, [], ◌∷◌, length, take, drop, refl, sym, ap, ◌∙◌, subst, arith, cases_lt}
 use Rattle.olr_refs.proofs.Common.{cases_eq, le-leb, nat_tests, take-map, take_all, slice_index, slice_range, Map}
-use Rattle.olr_refs.proofs.Common.{dm_of, CandidateWith, last_position, leg, legs, dm_between, reference_with, reference_by_with}
-use Rattle.olr_refs.proofs.Common.{AreDistances, later, distance_at, whole_distance, nat_le, length-take, length-drop}
-use Rattle.olr_refs.proofs.Common.{lt-leb, get_or-take, get_or-drop, AllPairs-from_increasing, filter, dm_along}
-use Rattle.olr_refs.proofs.Common.{from_front, to_back, last_where, first_where, first_kept, last_kept, kept_points}
-use Rattle.olr_refs.proofs.Common.{LinkedWith, follow_linked_with, between, kept_linked_with, from_front-add, AreAlong, ArePoints}
-use Rattle.olr_refs.proofs.Common.{AreKept, AreLinked, AreTrimmed, IsFirstKept, IsLastKept}
+use Rattle.olr_refs.proofs.Common.{dm_of, CandidateWith, last_position, leg, legs, dm_between, reference_with}
+use Rattle.olr_refs.proofs.Common.{reference_by_with, AreDistances, later, distance_at, whole_distance, nat_le}
+use Rattle.olr_refs.proofs.Common.{length-take, length-drop, lt-leb, get_or-take, get_or-drop, AllPairs-from_increasing}
+use Rattle.olr_refs.proofs.Common.{filter, dm_along, from_front, to_back, last_where, first_where, first_kept}
+use Rattle.olr_refs.proofs.Common.{last_kept, kept_points, LinkedWith, follow_linked_with, between, kept_linked_with}
+use Rattle.olr_refs.proofs.Common.{from_front-add, AreAlong, ArePoints, AreKept, AreLinked, AreTrimmed, IsFirstKept}
+use Rattle.olr_refs.proofs.Common.{IsLastKept}
 use Rattle.olr_spec.specs.Margins.{Margin}
 use Rattle.olr_spec.proofs.KeptLemmas.{dm_along-legs, whole}
 use Rattle.olr_refs.proofs.Stretches.{distances_rise}

@@ -20,13 +20,13 @@ use Rattle.olr_spec.specs.Map.{Map, end}
 use Rattle.olr_spec.specs.Points.{FollowWith, last_position, stretch}
 use Rattle.olr_spec.specs.Footprint.{Sees}
 use Rattle.olr_spec.specs.Queries.{CoverageQuery, IsLastTestedWith}
-use Rattle.olr_search.specs.declared.distances.Dijkstra.{Dijkstra}
-use Rattle.olr_search.specs.declared.distances.Direction.TheVariants.{Along}
-use Rattle.olr_search.specs.Lengths.{MayCount}
-use Rattle.olr_search.specs.ResolvedLines.{ResolvedLine}
-use Rattle.olr_search.specs.Searches.{IsSearch, limit_of}
-use Rattle.olr_search.specs.declared.work.Work.{Work}
-use Rattle.olr_search.specs.Counts.{saturated_count}
+use Rattle.olr_route.specs.declared.distances.Dijkstra.{Dijkstra}
+use Rattle.olr_route.specs.declared.distances.Direction.TheVariants.{Along}
+use Rattle.olr_route.specs.Lengths.{MayCount}
+use Rattle.olr_route.specs.ResolvedLines.{ResolvedLine}
+use Rattle.olr_route.specs.Searches.{IsSearch, limit_of}
+use Rattle.olr_route.specs.declared.work.Work.{Work}
+use Rattle.olr_route.specs.Counts.{saturated_count}
 use Rattle.olr_refs.specs.Along.{IsReach}
 use Rattle.olr_refs.specs.declared.chosen.Choice.{Choice}
 use Rattle.olr_refs.specs.declared.chosen.Choice.TheVariants.{Positions, NoNext}

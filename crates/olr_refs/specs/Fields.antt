@@ -5,7 +5,7 @@ use Rattle.std.specs.Prelude.{ℕ, max, List, [], ◌∷◌, map, fold}
 use Rattle.olr_spec.specs.Margins.{Margin}
 use Rattle.olr_spec.specs.Bearings.{Leg}
 use Rattle.olr_spec.specs.Reference.{Middle, middle_points_with}
-use Rattle.olr_search.specs.ResolvedLines.{ResolvedLine}
+use Rattle.olr_route.specs.ResolvedLines.{ResolvedLine}
 
 abbrev pub lowest_class : List ResolvedLine → ℕ
 lowest_class rs = fold max 0 (map (λ r. r.frc) rs)

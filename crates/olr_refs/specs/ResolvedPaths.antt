@@ -6,7 +6,7 @@ use Rattle.olr_spec.specs.Map.{Map, start, end}
 use Rattle.olr_spec.specs.Routes.{IsRoute}
 use Rattle.olr_spec.specs.Extension.{first, last, AreJoined}
 use Rattle.olr_refs.specs.Along.{AreDistances}
-use Rattle.olr_search.specs.ResolvedLines.{ResolvedLine, coded_resolved_line}
+use Rattle.olr_route.specs.ResolvedLines.{ResolvedLine, coded_resolved_line}
 use Rattle.olr_refs.specs.ResolvedLines.{records_of}
 
 pub IsRoute-prop : (M : Map) (s t : ℕ) (xs : List ℕ) → IsProp (IsRoute M s t xs)

@@ -9,8 +9,8 @@ ghost use Rattle.olr_refs.specs.Along.{IsFar, IsLastWithinLimit, IsReach};
 
 use crate::along::ResolvedPath;
 use olr_coords::{Coord, rel16};
-use olr_roads::MapRead;
-use olr_search::LEG_LIMIT;
+use olr_model::MapRead;
+use olr_route::LEG_LIMIT;
 
 /// The last position, from `i` on, that is at most 150,000 dm from position `i`.
 fn last_within(distances: &[u128], i: usize) -> usize

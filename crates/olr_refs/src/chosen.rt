@@ -2,8 +2,8 @@
 ghost use Rattle.std.specs.Prelude.{◌≡◌, ℕ, List, ◌+◌, ◌<◌, ◌≤◌, [], ◌∷◌, ◌++◌, IfOk, OnOk, IsTrue, Option as OptionOf, length};
 ghost use Rattle.olr_spec.specs.Map.{has_node};
 ghost use Rattle.olr_spec.specs.Footprint.{Sees};
-ghost use Rattle.olr_search.specs.declared.distances.Direction.TheVariants.{Along};
-ghost use Rattle.olr_search.specs.Searches.{IsSearch, limit_of};
+ghost use Rattle.olr_route.specs.declared.distances.Direction.TheVariants.{Along};
+ghost use Rattle.olr_route.specs.Searches.{IsSearch, limit_of};
 ghost use Rattle.olr_refs.specs.Along.{IsFar, IsReach};
 ghost use Rattle.olr_refs.specs.Choice.{ForPoints, IsChoice, Notes};
 ghost use Rattle.olr_refs.specs.Reuse.{IsReuse, IsAnswered, Asks};
@@ -13,8 +13,8 @@ use crate::choice::{last_within_limit, next_of};
 use crate::reach::covered_to;
 use crate::reuse::{Found, Reuse, known_after, own_query};
 use olr_answers::{CoverageQuery, KnownQuery, Margin};
-use olr_roads::{Footprint, MapRead};
-use olr_search::{Dijkstra, Direction, GREATEST_LIMIT, Work};
+use olr_model::{Footprint, MapRead};
+use olr_route::{Dijkstra, Direction, GREATEST_LIMIT, Work};
 use std::alloc::{AllocError, Global};
 
 /// The LRPs of an extended path, or why there are none.

@@ -8,7 +8,7 @@ ghost use Rattle.olr_spec.specs.Queries.{AreKnownWith};
 ghost use Rattle.olr_answers.specs.Answers.{answer_of, refusal_of};
 ghost use Rattle.olr_spec.specs.Routes.{dm_of};
 ghost use Rattle.olr_refs.specs.Choice.{AreSearched, ForPoints, IsChoice};
-ghost use Rattle.olr_search.specs.Counts.{saturated_count};
+ghost use Rattle.olr_route.specs.Counts.{saturated_count};
 ghost use Rattle.olr_refs.specs.Referring.{AnsweredAlong, IsEncoding};
 ghost use Rattle.olr_refs.specs.ResolvedLines.{records_of};
 ghost use Rattle.olr_refs.specs.Reuse.{IsReuse, Asks};
@@ -20,8 +20,8 @@ use crate::path_fault::own_lines;
 use crate::reference::{Referred, reference_of};
 use crate::reuse::Reuse;
 use olr_answers::{Answer, CoverageQuery, KnownQuery, Margin, Path, Refusal};
-use olr_roads::{Footprint, LineId, MapRead};
-use olr_search::{Dijkstra, ResolvedLine, Work};
+use olr_model::{Footprint, LineId, MapRead};
+use olr_route::{Dijkstra, ResolvedLine, Work};
 use std::alloc::{AllocError, Global};
 
 /// The answer of a path on a map with a margin, and what it depends on. An edit that affects nothing of this leaves the answer

@@ -10,8 +10,8 @@ ghost use Rattle.olr_refs.specs.ResolvedLines.{records_of};
 use crate::degree_two_runs::longest_run;
 use crate::resolved::ids_of;
 use olr_answers::Path;
-use olr_roads::{Footprint, LineId, MapRead, NodeId};
-use olr_search::{Direction, ResolvedLine};
+use olr_model::{Footprint, LineId, MapRead, NodeId};
+use olr_route::{Direction, ResolvedLine};
 use std::alloc::{AllocError, Global};
 use std::marker::Model;
 

@@ -6,14 +6,14 @@ ghost use Rattle.olr_spec.specs.Encoding.{Encodes, EncodesWith};
 ghost use Rattle.olr_spec.specs.Footprint.{Foot, FootWith};
 ghost use Rattle.olr_spec.specs.Margins.{no_margin};
 ghost use Rattle.olr_answers.specs.Answers.{answer_of};
-ghost use Rattle.olr_search.specs.Counts.{raised_count};
+ghost use Rattle.olr_route.specs.Counts.{raised_count};
 ghost use Rattle.olr_refs.specs.Recovered.{RecoveredOf};
 ghost use Rattle.olr_refs.specs.Referring.{JoinsOf, SearchesOf};
 
 use crate::encoding::{Encoding, encode_noting};
 use olr_answers::{Answer, Margin, Path};
-use olr_roads::{Footprint, MapRead};
-use olr_search::{Dijkstra, Work};
+use olr_model::{Footprint, MapRead};
+use olr_route::{Dijkstra, Work};
 use std::alloc::{AllocError, Global};
 
 /// A path's traversed nodes, and the nodes that its searches settled.

@@ -5,8 +5,8 @@ ghost use Rattle.olr_spec.specs.Map.{has};
 ghost use Rattle.olr_refs.specs.ResolvedLines.{ids};
 
 use crate::resolved::ids_of;
-use olr_roads::LineId;
-use olr_search::ResolvedLine;
+use olr_model::LineId;
+use olr_route::ResolvedLine;
 use std::alloc::{AllocError, Global};
 
 /// The lines of a list, sorted.

@@ -15,8 +15,8 @@ use crate::along::{ResolvedPath, coord_of};
 use olr_bearing::{Ends, bearing_back, bearing_out};
 use olr_binary::{Attrs, First, Last, Middle};
 use olr_coords::{Coord, abs24, rel16};
-use olr_roads::{Line, MapRead};
-use olr_search::ResolvedLine;
+use olr_model::{Line, MapRead};
+use olr_route::ResolvedLine;
 use std::alloc::{AllocError, Global};
 
 /// One step of the distance to the next point (DNP), in decimetres: 58.6 m.

@@ -3,7 +3,7 @@ ghost use Rattle.std.specs.Prelude.{◌≡◌, IsTrue, map, [], ◌∷◌};
 ghost use Rattle.olr_spec.specs.Map.{has_node};
 ghost use Rattle.olr_spec.specs.Extension.{passing, passes_between, apart};
 
-use olr_roads::{LineEnd, MapRead, NodeId};
+use olr_model::{LineEnd, MapRead, NodeId};
 
 /// Whether a node is a degree-two node: its lines have exactly two other ends, which differ from each other and from
 /// the node, and lead either from one of them to the other, or once from each and once to each. Every other node is

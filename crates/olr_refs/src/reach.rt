@@ -3,16 +3,16 @@ ghost use Rattle.std.specs.Prelude.{◌≡◌, ◌+◌, ◌*◌, ◌<◌, ◌≤
 ghost use Rattle.olr_spec.specs.Map.{end, dm};
 ghost use Rattle.olr_spec.specs.Extension.{limit};
 ghost use Rattle.olr_spec.specs.Margins.{counted, counted_dm, is_margin};
-ghost use Rattle.olr_search.specs.declared.distances.Direction.TheVariants.{Along};
-ghost use Rattle.olr_search.specs.ResolvedLines.{record_of};
-ghost use Rattle.olr_search.specs.Searches.{IsSearch, limit_of};
+ghost use Rattle.olr_route.specs.declared.distances.Direction.TheVariants.{Along};
+ghost use Rattle.olr_route.specs.ResolvedLines.{record_of};
+ghost use Rattle.olr_route.specs.Searches.{IsSearch, limit_of};
 ghost use Rattle.olr_refs.specs.Along.{IsFar};
 ghost use Rattle.olr_refs.specs.Choice.{MayMark, TestedTo, begun_at};
 
 use crate::along::ResolvedPath;
 use olr_answers::Margin;
-use olr_roads::MapRead;
-use olr_search::{Dijkstra, Direction, GREATEST_LIMIT, ResolvedLine};
+use olr_model::MapRead;
+use olr_route::{Dijkstra, Direction, GREATEST_LIMIT, ResolvedLine};
 use std::alloc::AllocError;
 
 /// How far the lines after a position are the unique shortest path, and how far that was tested.

@@ -13,7 +13,7 @@ use crate::along::ResolvedPath;
 use crate::lrp_fields::{first_point, last_point, middle_points, offset};
 use crate::trim::{Trimmed, trim};
 use olr_binary::Reference;
-use olr_roads::{LineId, MapRead};
+use olr_model::{LineId, MapRead};
 use std::alloc::{AllocError, Global};
 
 /// The reference of the remaining LRPs, at least two, with the remainders of the offsets, in decimetres: less than the

@@ -8,8 +8,8 @@ ghost use Rattle.olr_refs.specs.Reuse.{IsReuse, IsAnswered, EndsHere, known_reac
 use crate::along::ResolvedPath;
 use crate::reach::Tested;
 use olr_answers::{CoverageQuery, KnownQuery};
-use olr_roads::MapRead;
-use olr_search::Work;
+use olr_model::MapRead;
+use olr_route::Work;
 
 /// What is known of a path's coverage queries, and where its own lines lie on the extended path.
 #[derive(Clone, Copy)]

@@ -17,7 +17,7 @@ use Rattle.olr_spec.specs.Recovery.{OwnLinesOfWith}
 use Rattle.olr_spec.specs.Ambiguity.{Obstacle, obstacles}
 use Rattle.olr_register.proofs.States.{state}
 use Rattle.olr_register.proofs.Common.{Option}
-use Rattle.olr_register.specs.Contents.{known_in}
+use Rattle.olr_paths.specs.Items.{known_in}
 use Rattle.std.proofs.lemmas.Option.{slice_get-map}
 use Rattle.std.proofs.Common.{zero}
 

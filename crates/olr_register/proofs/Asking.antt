@@ -1,11 +1,12 @@
 -- What the register shows of its paths.
 use Rattle.olr_register.proofs.Common.{◌≡◌, ◌≢◌, ℕ, true, false, List, [], ◌∷◌, map, length, Option, Some, None, refl}
 use Rattle.olr_register.proofs.Common.{sym, ap, ◌∙◌, subst, ◌==◌, option_map, option_and_then, MatchOption, IsSomeAnd}
-use Rattle.olr_register.proofs.Common.{result_ok, ne_eqb, length-map, Map, Margin, Answer, EncodesWith, Path, Named, Content}
-use Rattle.olr_register.proofs.Common.{path_named, published_text, Made, Item, IsEncodingOf, AreEncodings, named_of}
-use Rattle.olr_register.proofs.Common.{all_named, made_in, answer_in, content_on, is_some, items, map_kept, IsKeptRight}
+use Rattle.olr_register.proofs.Common.{result_ok, ne_eqb, length-map, Map, Margin, Answer, EncodesWith, Path, Named}
+use Rattle.olr_register.proofs.Common.{Content, path_named, published_text, Made, Item, IsEncodingOf, AreEncodings}
+use Rattle.olr_register.proofs.Common.{named_of, all_named, made_in, answer_in, content_on, is_some, items, map_kept}
+use Rattle.olr_register.proofs.Common.{IsKeptRight}
 use Rattle.olr_commands.specs.Reply.{Published, PublishedText}
-use Rattle.olr_list.specs.Changes.{AreEncoded}
+use Rattle.olr_paths.specs.Changes.{AreEncoded}
 use Rattle.olr_register.specs.Registered.{HaveEncodings}
 use Rattle.olr_register.specs.declared.register.Register.TheInside.{Inside}
 use Rattle.olr_register.proofs.Replies.{made_found}

@@ -8,9 +8,9 @@ use Rattle.olr_spec.proofs.AgreeLemmas.{turned_round}
 use Rattle.olr_spec.proofs.ChangeLemmas.{none_differs}
 use Rattle.olr_map.specs.RoadMaps.{slot_of}
 use Rattle.olr_map.specs.Changes.{KeepsSlots, AddsNoNode}
-use Rattle.olr_near.specs.Bounds.{IsEdit, IsUnderWay, SameBut}
-use Rattle.olr_near.proofs.BoundLemmas.{edit_under_way}
-use Rattle.olr_list.specs.Origins.{AreBoundsOf}
+use Rattle.olr_renewal.specs.Bounds.{IsEdit, IsUnderWay, SameBut}
+use Rattle.olr_renewal.proofs.BoundLemmas.{edit_under_way}
+use Rattle.olr_renewal.specs.AffectedSearches.{AreBoundsOf}
 use Rattle.olr_register.proofs.EditedMaps.{starts_there, ends_there}
 
 -- unknown bounds say nothing

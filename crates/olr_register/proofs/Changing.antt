@@ -6,8 +6,8 @@ use Rattle.olr_register.proofs.Common.{with_map, with_change, is_reported_first,
 use Rattle.olr_register.proofs.Common.{content_on, Margin, MayReport, Lacks}
 use Rattle.std.specs.Prelude.{MatchResult}
 use Rattle.olr_spec.specs.Map.{MapFault}
-use Rattle.olr_roads.specs.Edits.{edit_fault_of}
-use Rattle.olr_roads.specs.declared.edit.EditFault.{EditFault}
+use Rattle.olr_model.specs.Edits.{edit_fault_of}
+use Rattle.olr_model.specs.declared.edit.EditFault.{EditFault}
 use Rattle.olr_commands.specs.State.{Map_fault, Path_exists, Bad_path}
 use Rattle.olr_commands.specs.Words.{map_fault_of}
 use Rattle.olr_register.proofs.Listed.{names_add, names_set, names_drop}

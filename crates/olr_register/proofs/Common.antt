@@ -8,46 +8,49 @@ pub use Rattle.olr_commands.specs.Dump.{dump_lines, line_change, node_change, pa
 pub use Rattle.olr_commands.specs.RecordText.{record_line}
 pub use Rattle.olr_commands.specs.Recordable.{is_name, is_recordable_map}
 pub use Rattle.olr_commands.specs.Reply.{AllOf, ByState, Differences, Explained, IsOutcome, IsRefusal, entry}
-pub use Rattle.olr_commands.specs.Reply.{Lacks as Lacks_memory, is_reported_first, may_want, published_text, takes_memory}
+pub use Rattle.olr_commands.specs.Reply.{Lacks as Lacks_memory, is_reported_first, may_want, published_text}
+pub use Rattle.olr_commands.specs.Reply.{takes_memory}
 pub use Rattle.olr_commands.specs.State.{Abort, Add_path, Begin, Change, Command, Commit, Content, Drop_path, Dump}
-pub use Rattle.olr_commands.specs.State.{Set_margin, Fault, HasCoords, IsContent, Make, Memory, Named, No_path, On_map, Set_path}
-pub use Rattle.olr_commands.specs.State.{State, TextFault, after, at_once, changes_made, full, has_path, path_named}
-pub use Rattle.olr_commands.specs.State.{same_name, start_state, step, text_fault, when, with_change, with_map}
+pub use Rattle.olr_commands.specs.State.{Set_margin, Fault, HasCoords, IsContent, Make, Memory, Named, No_path, On_map}
+pub use Rattle.olr_commands.specs.State.{Set_path, State, TextFault, after, at_once, changes_made, full, has_path}
+pub use Rattle.olr_commands.specs.State.{path_named, same_name, start_state, step, text_fault, when, with_change}
+pub use Rattle.olr_commands.specs.State.{with_map}
 pub use Rattle.olr_commands.specs.Words.{command_fault_of, entry_of, reply_of}
 pub use Rattle.olr_commands.specs.declared.fault.CommandFault.{CommandFault}
 pub use Rattle.olr_commands.specs.declared.fault.CommandFault.TheVariants.{Memory as No_memory}
 pub use Rattle.olr_commands.specs.declared.reply.Entry.{Entry}
 pub use Rattle.olr_commands.specs.declared.reply.Reply.{Reply}
-pub use Rattle.olr_list.proofs.OriginLemmas.{begins_drop}
-pub use Rattle.olr_list.proofs.Overlaying.{has_name}
-pub use Rattle.olr_list.specs.Changes.{Reported, anew, set_item, unmade}
-pub use Rattle.olr_list.specs.Items.{AreEncodings, AreEncodingsIfAny, IsEncodingOf, Item, Made, all_named, answer_in}
-pub use Rattle.olr_list.specs.Items.{items, made_in, named_of}
-pub use Rattle.olr_list.specs.Overlaid.{under_overlay}
-pub use Rattle.olr_list.specs.Origins.{Begins}
-pub use Rattle.olr_list.specs.ChangeSets.{changed_of, lines_of, nodes_of}
-pub use Rattle.olr_list.specs.declared.change_set.ChangeSet.{ChangeSet}
-pub use Rattle.olr_roads.specs.Edits.{edit_of}
+pub use Rattle.olr_paths.proofs.OriginLemmas.{begins_drop}
+pub use Rattle.olr_paths.proofs.Overlaying.{has_name}
+pub use Rattle.olr_paths.specs.Changes.{Reported, to_renew, set_item, without_answer}
+pub use Rattle.olr_paths.specs.Items.{AreEncodings, AreEncodingsIfAny, IsEncodingOf, Item, Made, all_named, answer_in}
+pub use Rattle.olr_paths.specs.Items.{items, made_in, named_of}
+pub use Rattle.olr_paths.specs.Overlaid.{under_overlay}
+pub use Rattle.olr_paths.specs.Origins.{Begins}
+pub use Rattle.olr_renewal.specs.ChangeSets.{changed_of, lines_of, nodes_of}
+pub use Rattle.olr_renewal.specs.declared.change_set.ChangeSet.{ChangeSet}
+pub use Rattle.olr_model.specs.Edits.{edit_of}
 pub use Rattle.olr_map.specs.Changes.{KeepsSlots}
 pub use Rattle.olr_map.specs.RoadMaps.{map_before, map_of, slot_of}
 pub use Rattle.olr_map.specs.declared.judging.EditPlan.{EditPlan}
 pub use Rattle.olr_map.specs.declared.road_map.RoadMap.{RoadMap}
-pub use Rattle.olr_near.specs.Bounds.{IsSource, IsUnderWay}
-pub use Rattle.olr_near.specs.declared.distance_bounds.DistanceBounds.{DistanceBounds}
-pub use Rattle.olr_paths.proofs.Following.{follows_self, follows_unmade}
-pub use Rattle.olr_paths.specs.Changes.{Follows}
-pub use Rattle.olr_paths.specs.Reencoded.{IsRenewal}
+pub use Rattle.olr_renewal.specs.Bounds.{IsSource, IsUnderWay}
+pub use Rattle.olr_renewal.specs.declared.distance_bounds.DistanceBounds.{DistanceBounds}
+pub use Rattle.olr_renewal.proofs.Following.{follows_self, follows_without}
+pub use Rattle.olr_renewal.specs.Changes.{Follows}
+pub use Rattle.olr_renewal.specs.Reencoded.{IsRenewal}
 pub use Rattle.olr_register.specs.Answered.{Answered}
 pub use Rattle.olr_register.specs.Recordables.{is_recordable_line_at, is_recordable_node_at}
-pub use Rattle.olr_register.specs.Contents.{AreEditsNoted, CanRenew, HasBounds, IsHeld, IsKeptRight, IsRegister, batch_of}
-pub use Rattle.olr_register.specs.Contents.{content_on, content_under, under_batch, held_of, kept_of, map_kept, touched_in}
+pub use Rattle.olr_register.specs.Contents.{AreEditsNoted, CanRenew, HasBounds, IsHeld, IsKeptRight, IsRegister}
+pub use Rattle.olr_register.specs.Contents.{batch_of, content_on, content_under, under_batch, held_of, kept_of}
+pub use Rattle.olr_register.specs.Contents.{map_kept, touched_in}
 pub use Rattle.olr_register.specs.BatchChanges.{AreGiven, ByContent, HoldsChange, Lacks, MayReport, change_of, path_by}
 pub use Rattle.olr_register.specs.EditNotes.{CanRenewAfter, IsEditMade, IsNotedOf}
 pub use Rattle.olr_register.specs.RegisterState.{IsBatchOf, RegisterState, Represents, named_held}
 pub use Rattle.olr_register.specs.Registered.{Registered}
 pub use Rattle.olr_register.specs.CountChanges.{encodes}
 pub use Rattle.olr_register.specs.declared.batch.Batch.{Batch}
-pub use Rattle.olr_search.specs.declared.work.Work.{Work}
+pub use Rattle.olr_route.specs.declared.work.Work.{Work}
 pub use Rattle.olr_spec.proofs.OptionLemmas.{none_of}
 pub use Rattle.olr_spec.specs.Detours.{ChangedLine, changes_of}
 pub use Rattle.olr_spec.specs.Encoding.{Answer, EncodesWith}

@@ -3,12 +3,12 @@ use Rattle.olr_register.proofs.Common.{inl, inr, ◌≡◌, ℕ, true, List, [],
 use Rattle.olr_register.proofs.Common.{Some, None, refl, sym, ap, ◌∙◌, subst, is_none, list_any}
 use Rattle.olr_register.proofs.Common.{has, Named, Content, Change}
 use Rattle.olr_register.proofs.Common.{Affects, By_name, By_node, By_line, all_nodes, all_lines, gives}
-use Rattle.olr_register.proofs.Common.{Made, Item, Map, Margin, named_of, all_named, held_of, AreGiven, Work, unmade}
-use Rattle.olr_search.specs.Counts.{raised_count, raised_work}
+use Rattle.olr_register.proofs.Common.{Made, Item, Map, Margin, named_of, all_named, held_of, AreGiven, Work, without_answer}
+use Rattle.olr_route.specs.Counts.{raised_count, raised_work}
 use Rattle.olr_commands.specs.Counts.{CountIs}
-use Rattle.olr_paths.specs.Changes.{IsAffected}
+use Rattle.olr_renewal.specs.Changes.{IsAffected}
 use Rattle.olr_register.specs.CountChanges.{NoneFalls}
-use Rattle.olr_paths.specs.Changes as made
+use Rattle.olr_renewal.specs.Changes as made
 
 none_made : (o : Option Made) → is_none o ≡ true → o ≡ None
 none_made None e = refl
@@ -49,8 +49,8 @@ module _ (c : Content) (changes : List Change) (ns xs : List ℕ)
 
 -- where no path is encoded yet, each is affected
 pub counted_all : (g : Margin) (M : Map) (ns xs : List ℕ) (c : Content) (changes : List Change) (is : List Item) (n : ℕ) →
-    CountIs (IsAffected g M ns xs) (map unmade is) n → AreGiven changes (map held_of (map unmade is)) →
-    CountIs (Affects c changes) (all_named (map unmade is)) n
+    CountIs (IsAffected g M ns xs) (map without_answer is) n → AreGiven changes (map held_of (map without_answer is)) →
+    CountIs (Affects c changes) (all_named (map without_answer is)) n
 counted_all g M ns xs c changes [] n count given = count
 counted_all g M ns xs c changes (i ∷ is) n (inl h) given =
     inl (By_name (sym given.0), (h.1.0, counted_all g M ns xs c changes is h.1.0 h.1.1 given.1, h.1.2))

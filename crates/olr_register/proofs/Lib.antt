@@ -19,3 +19,4 @@ pub mod Runs
 pub mod Singles
 pub mod States
 pub mod Shown
+pub mod Built

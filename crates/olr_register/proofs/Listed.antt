@@ -4,12 +4,12 @@ use Rattle.olr_register.proofs.Common.{filter, Option, Some, None, is_some, leng
 use Rattle.olr_register.proofs.Common.{is_none, IfSome, list_any, or-false, or_right, list_any-append, Map, Path, Named}
 use Rattle.olr_register.proofs.Common.{same_name, path_named, not_named, Made, Item, IsEncodingOf, AreEncodings}
 use Rattle.olr_register.proofs.Common.{AreEncodingsIfAny, named_of, all_named, answer_in, Reported, Follows, set_item}
-use Rattle.olr_register.proofs.Common.{named_held, held_of, AreGiven, Add_path, Change, Margin, Set_margin, Set_path, anew}
-use Rattle.olr_register.proofs.Common.{gives, unmade}
+use Rattle.olr_register.proofs.Common.{named_held, held_of, AreGiven, Add_path, Change, Margin, Set_margin, Set_path}
+use Rattle.olr_register.proofs.Common.{to_renew, gives, without_answer}
 use Rattle.std.proofs.lemmas.List.{map-append}
 use lib.Pointwise.{bytes_decides}
 use Rattle.olr_commands.specs.State.{with_path}
-use Rattle.olr_paths.proofs.Following.{answer_made}
+use Rattle.olr_renewal.proofs.Following.{answer_made}
 
 -- ---- names and paths
 
@@ -143,7 +143,7 @@ given_set name path xs is g =
 
 -- if the margin is set, each path is given
 pub given_all : (g : Margin) (xs : List Change) (is : List Item) →
-    AreGiven (xs ++ Set_margin g ∷ []) (map held_of (map unmade is))
+    AreGiven (xs ++ Set_margin g ∷ []) (map held_of (map without_answer is))
 given_all g xs [] = tt
 given_all g xs (i ∷ is) = (given_here i.name xs (Set_margin g) refl, given_all g xs is)
 
@@ -154,47 +154,47 @@ given_at_first g M (i ∷ is) a = (ap is_none a.0.1, given_at_first g M is a.1)
 
 -- ---- where no path is encoded yet
 
-pub named_anew : (all : Bool) (is : List Item) → all_named (anew all is) ≡ all_named is
-named_anew false is = refl
-named_anew true [] = refl
-named_anew true (i ∷ is) = ap (λ (ps : List Named). named_of i ∷ ps) (named_anew true is)
+pub named_to_renew : (all : Bool) (is : List Item) → all_named (to_renew all is) ≡ all_named is
+named_to_renew false is = refl
+named_to_renew true [] = refl
+named_to_renew true (i ∷ is) = ap (λ (ps : List Named). named_of i ∷ ps) (named_to_renew true is)
 
-pub has_anew : (all : Bool) (is : List Item) (name : List ℕ) →
-    is_some (path_named (all_named (anew all is)) name) ≡ is_some (path_named (all_named is) name)
-has_anew all is name = ap (λ (ps : List Named). is_some (path_named ps name)) (named_anew all is)
+pub has_to_renew : (all : Bool) (is : List Item) (name : List ℕ) →
+    is_some (path_named (all_named (to_renew all is)) name) ≡ is_some (path_named (all_named is) name)
+has_to_renew all is name = ap (λ (ps : List Named). is_some (path_named ps name)) (named_to_renew all is)
 
-pub anew_add : (all : Bool) (is : List Item) (name : List ℕ) (path : Path) →
-    anew all (is ++ record { name = name; path = path; made = None } ∷ [])
-    ≡ anew all is ++ record { name = name; path = path; made = None } ∷ []
-anew_add false is name path = refl
-anew_add true is name path = map-append unmade is (record { name = name; path = path; made = None } ∷ [])
+pub to_renew_add : (all : Bool) (is : List Item) (name : List ℕ) (path : Path) →
+    to_renew all (is ++ record { name = name; path = path; made = None } ∷ [])
+    ≡ to_renew all is ++ record { name = name; path = path; made = None } ∷ []
+to_renew_add false is name path = refl
+to_renew_add true is name path = map-append without_answer is (record { name = name; path = path; made = None } ∷ [])
 
-set_unmade : (name : List ℕ) (path : Path) (i : Item) →
-    unmade (set_item name path None i) ≡ set_item name path None (unmade i)
-set_unmade name path i =
-    elim (same_name i.name name) as (λ b. unmade (cond b (record { name = i.name; path = path; made = None }) i)
-    ≡ cond b (record { name = i.name; path = path; made = None }) (unmade i)) [ true ↦ refl | false ↦ refl ]
+set_without : (name : List ℕ) (path : Path) (i : Item) →
+    without_answer (set_item name path None i) ≡ set_item name path None (without_answer i)
+set_without name path i =
+    elim (same_name i.name name) as (λ b. without_answer (cond b (record { name = i.name; path = path; made = None }) i)
+    ≡ cond b (record { name = i.name; path = path; made = None }) (without_answer i)) [ true ↦ refl | false ↦ refl ]
 
-pub anew_set : (all : Bool) (name : List ℕ) (path : Path) (is : List Item) →
-    anew all (map (set_item name path None) is) ≡ map (set_item name path None) (anew all is)
-anew_set false name path is = refl
-anew_set true name path [] = refl
-anew_set true name path (i ∷ is) =
-    let one = set_unmade name path i in
-    let rest = anew_set true name path is in
+pub to_renew_set : (all : Bool) (name : List ℕ) (path : Path) (is : List Item) →
+    to_renew all (map (set_item name path None) is) ≡ map (set_item name path None) (to_renew all is)
+to_renew_set false name path is = refl
+to_renew_set true name path [] = refl
+to_renew_set true name path (i ∷ is) =
+    let one = set_without name path i in
+    let rest = to_renew_set true name path is in
     λ k. one k ∷ rest k
 
-pub anew_drop : (all : Bool) (name : List ℕ) (is : List Item) →
-    anew all (filter (λ i. not (same_name i.name name)) is) ≡ filter (λ i. not (same_name i.name name)) (anew all is)
-anew_drop false name is = refl
-anew_drop true name [] = refl
-anew_drop true name (i ∷ is) =
-    let rest = anew_drop true name is in
+pub to_renew_drop : (all : Bool) (name : List ℕ) (is : List Item) →
+    to_renew all (filter (λ i. not (same_name i.name name)) is) ≡ filter (λ i. not (same_name i.name name)) (to_renew all is)
+to_renew_drop false name is = refl
+to_renew_drop true name [] = refl
+to_renew_drop true name (i ∷ is) =
+    let rest = to_renew_drop true name is in
     elim (not (same_name i.name name)) as (λ b.
-    map unmade (cond b (i ∷ filter (λ j. not (same_name j.name name)) is) (filter (λ j. not (same_name j.name name)) is))
-    ≡ cond b (unmade i ∷ filter (λ j. not (same_name j.name name)) (map unmade is))
-    (filter (λ j. not (same_name j.name name)) (map unmade is))) [
-      | true ↦ ap (λ (js : List Item). unmade i ∷ js) rest
+    map without_answer (cond b (i ∷ filter (λ j. not (same_name j.name name)) is) (filter (λ j. not (same_name j.name name)) is))
+    ≡ cond b (without_answer i ∷ filter (λ j. not (same_name j.name name)) (map without_answer is))
+    (filter (λ j. not (same_name j.name name)) (map without_answer is))) [
+      | true ↦ ap (λ (js : List Item). without_answer i ∷ js) rest
       | false ↦ rest
     ]
 

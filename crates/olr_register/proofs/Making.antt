@@ -1,36 +1,37 @@
 -- What a change makes of an open batch, by the changed part.
-use Rattle.olr_register.proofs.Common.{◌≡◌, ℕ, List, [], ◌++◌, map, Ok, Err, refl, sym, ap, ◌∙◌, subst, ◌||◌}
-use Rattle.olr_register.proofs.Common.{or-false, Map, Edit, edited, touched_nodes, touched_lines, has, HasCoord}
-use Rattle.olr_register.proofs.Common.{changes_of, CoverageQuery, map_of, map_before, RoadMap, IsContent}
-use Rattle.olr_register.proofs.Common.{Change, On_map, Make, HasCoords, with_map, with_change, nodes_of_change}
-use Rattle.olr_register.proofs.Common.{lines_of_change, command_fault_of, CommandFault}
-use Rattle.olr_register.proofs.Common.{changes_keep, Item, AreEncodingsIfAny, Follows, Begins, under_overlay, nodes_of}
-use Rattle.olr_register.proofs.Common.{lines_of, changed_of, ChangeSet, Bool, Margin, anew, content_on, content_under, under_batch, AreEditsNoted}
+use Rattle.olr_register.proofs.Common.{◌≡◌, ℕ, List, [], ◌++◌, map, Ok, Err, refl, sym, ap, ◌∙◌, subst, ◌||◌, or-false}
+use Rattle.olr_register.proofs.Common.{Map, Edit, edited, touched_nodes, touched_lines, has, HasCoord, changes_of}
+use Rattle.olr_register.proofs.Common.{CoverageQuery, map_of, map_before, RoadMap, IsContent, Change, On_map, Make}
+use Rattle.olr_register.proofs.Common.{HasCoords, with_map, with_change, nodes_of_change, lines_of_change}
+use Rattle.olr_register.proofs.Common.{command_fault_of, CommandFault, changes_keep, Item, AreEncodingsIfAny, Follows}
+use Rattle.olr_register.proofs.Common.{Begins, under_overlay, nodes_of, lines_of, changed_of, ChangeSet, Bool, Margin}
+use Rattle.olr_register.proofs.Common.{to_renew, content_on, content_under, under_batch, AreEditsNoted}
 use Rattle.std.proofs.Common.{IsTrue}
-use Rattle.olr_register.proofs.Common.{all_named, ◌∷◌, Set_margin, follows_unmade, is_margin, true, Named}
-use Rattle.olr_register.proofs.Common.{held_of, IsHeld, AreGiven, MayReport, Batch, Result, IsErrAnd, or_right, slot_of, KeepsSlots, IsUnderWay}
+use Rattle.olr_register.proofs.Common.{all_named, ◌∷◌, Set_margin, follows_without, is_margin, true, Named, held_of}
+use Rattle.olr_register.proofs.Common.{IsHeld, AreGiven, MayReport, Batch, Result, IsErrAnd, or_right, slot_of}
+use Rattle.olr_register.proofs.Common.{KeepsSlots, IsUnderWay}
 use Rattle.olr_map.specs.RoadMaps.{CanUndoAll}
 use Rattle.olr_map.specs.declared.undo.UndoLog.{UndoLog}
-use Rattle.olr_list.specs.declared.overlay.Overlay.{Overlay}
+use Rattle.olr_paths.specs.declared.overlay.Overlay.{Overlay}
 use Rattle.olr_register.specs.Contents.{IsHeldAs}
 use Rattle.olr_register.specs.BatchChanges.{IsMade, Makes, StaysUnderWay}
 use Rattle.std.proofs.lemmas.Bool.{or_left}
 use Rattle.olr_spec.proofs.ChangeLemmas.{edit_differs}
-use Rattle.olr_near.proofs.BoundLemmas.{edit_under_way}
+use Rattle.olr_renewal.proofs.BoundLemmas.{edit_under_way}
 use Rattle.olr_register.proofs.Bounded.{is_edit}
-use Rattle.olr_register.proofs.Noted.{begins_none, noted_more, unmade_if_any}
-use Rattle.olr_register.proofs.Listed.{given_all, given_none, named_anew}
+use Rattle.olr_register.proofs.Noted.{begins_none, noted_more, without_if_any}
+use Rattle.olr_register.proofs.Listed.{given_all, given_none, named_to_renew}
 
 -- a change that is not made leaves the batch as it was
-pub unmade : (old new : RoadMap) (is : List Item) (b : Batch) (log : UndoLog) (l : Overlay) (t : ChangeSet) (x : Change)
+pub without_answer : (old new : RoadMap) (is : List Item) (b : Batch) (log : UndoLog) (l : Overlay) (t : ChangeSet) (x : Change)
     (r : Result (Unit {0}) CommandFault) (f : CommandFault) → IsErrAnd r (λ g. g ≡ f) →
     (IsHeld old is b → CanUndoAll new log) → map_before new log ≡ map_before old b.log → map_of new ≡ map_of old →
-    anew b.all (under_overlay is l) ≡ under_batch is b → nodes_of t ≡ nodes_of b.touched →
+    to_renew b.all (under_overlay is l) ≡ under_batch is b → nodes_of t ≡ nodes_of b.touched →
     lines_of t ≡ lines_of b.touched → changed_of t ≡ changed_of b.touched →
     StaysUnderWay old new b b → MayReport (with_change (content_under old is b) x) (command_fault_of f) →
     Makes old new is b (record b { log = log; overlay = l; touched = t }) x r
-unmade old new is b log l t x (Ok u) f failed undo before same list nodes lines changed stays may = absurd failed
-unmade old new is b log l t x (Err g) f failed undo before same list nodes lines changed stays may = record {
+without_answer old new is b log l t x (Ok u) f failed undo before same list nodes lines changed stays may = absurd failed
+without_answer old new is b log l t x (Err g) f failed undo before same list nodes lines changed stays may = record {
   count = refl;
   before = before;
   made = tt;
@@ -60,13 +61,13 @@ unmade old new is b log l t x (Err g) f failed undo before same list nodes lines
 
 module _ (roads : RoadMap) (is : List Item) (b : Batch) (l : Overlay) (x : Change) where
   pub path_unmade : (r : Result (Unit {0}) CommandFault) (f : CommandFault) → IsErrAnd r (λ g. g ≡ f) →
-      anew b.all (under_overlay is l) ≡ under_batch is b →
+      to_renew b.all (under_overlay is l) ≡ under_batch is b →
       MayReport (with_change (content_under roads is b) x) (command_fault_of f) →
       Makes roads roads is b (record b { overlay = l }) x r
   path_unmade r f failed same may =
-      unmade roads roads is b b.log l b.touched x r f failed (λ h. h.undo) refl refl same refl refl refl (λ f h. h) may
+      without_answer roads roads is b b.log l b.touched x r f failed (λ h. h.undo) refl refl same refl refl refl (λ f h. h) may
 
-  pub path_made : (ls : List Item) → anew b.all (under_overlay is l) ≡ ls →
+  pub path_made : (ls : List Item) → to_renew b.all (under_overlay is l) ≡ ls →
       with_change (content_under roads is b) x ≡ Ok (content_on b.margin (map_of roads) ls) → HasCoords (Make x) →
       nodes_of_change (map_of roads) x ≡ [] → lines_of_change x ≡ [] →
       ((xs : List Change) → AreGiven xs (map held_of (under_batch is b)) → AreGiven (xs ++ x ∷ []) (map held_of ls)) →
@@ -151,15 +152,15 @@ module _ (old new : RoadMap) (is : List Item) (b : Batch) (log : UndoLog) (t : C
 -- ---- the margin
 
 -- of the paths of a list under changes, as they are or none of them encoded yet
-named_all : (all : Bool) (is : List Item) → all_named (anew all is) ≡ all_named (anew true is)
-named_all all is = named_anew all is ∙ sym (named_anew true is)
+named_all : (all : Bool) (is : List Item) → all_named (to_renew all is) ≡ all_named (to_renew true is)
+named_all all is = named_to_renew all is ∙ sym (named_to_renew true is)
 
 pub margin_made : (g : Margin) → IsTrue (is_margin g) → (roads : RoadMap) (is : List Item) (b : Batch) →
     Makes roads roads is b (record b { margin = g; all = true }) (Set_margin g) (Ok tt)
 margin_made g most roads is b =
     let us = under_overlay is b.overlay in
     let content : with_change (content_under roads is b) (Set_margin g)
-    ≡ Ok (content_on g (map_of roads) (anew true us)) =
+    ≡ Ok (content_on g (map_of roads) (to_renew true us)) =
     ap (λ (ps : List Named). Ok (record { map = map_of roads; paths = ps; margin = g })) (named_all b.all us) in
     record {
       count = refl;
@@ -174,12 +175,12 @@ margin_made g most roads is b =
       unchanged = tt;
       held = λ h. record {
         undo = h.undo;
-        sound = changes_keep (content_under roads is b) (content_on g (map_of roads) (anew true us)) (Set_margin g) h.sound
+        sound = changes_keep (content_under roads is b) (content_on g (map_of roads) (to_renew true us)) (Set_margin g) h.sound
             most content;
         few = h.few;
         noted = h.noted;
-        made = unmade_if_any g (map_before roads b.log) us;
-        follows = follows_unmade is us;
+        made = without_if_any g (map_before roads b.log) us;
+        follows = follows_without is us;
         begins = λ v on. absurd (begins_none us v on);
       };
       margin = λ k same off. let never : ⊥ = cc in absurd never;

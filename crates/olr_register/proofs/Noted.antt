@@ -1,13 +1,13 @@
 -- What is recorded of edits: the maps before and after them have no other difference.
-use Rattle.olr_register.proofs.Common.{inl, inr, ◌≡◌, ℕ, false, true, List, [], ◌∷◌, ◌++◌, Ok, refl, sym, ◌∙◌, subst, arith}
-use Rattle.olr_register.proofs.Common.{◌||◌, AllByRecursion, or_right, list_any-append, Map, IsMap, Edit, edited, start}
-use Rattle.olr_register.proofs.Common.{touched_nodes, touched_lines, has, is_path, ChangedLine, changes_of, EditPlan}
-use Rattle.olr_register.proofs.Common.{Item, AreEncodingsIfAny, all_named, nodes_of, lines_of, changed_of, ChangeSet}
-use Rattle.olr_register.proofs.Common.{IsNotedOf, AreEditsNoted, Some, RoadMap, map_of, map_before}
-use Rattle.olr_register.proofs.Common.{under_batch, IsRegister, CanRenew, Batch, ◌==◌, Contains, Margin, IsContent, anew}
-use Rattle.olr_register.proofs.Common.{content_on, follows_unmade, is_margin, map, unmade, Begins, CoverageQuery}
+use Rattle.olr_register.proofs.Common.{inl, inr, ◌≡◌, ℕ, false, true, List, [], ◌∷◌, ◌++◌, Ok, refl, sym, ◌∙◌, subst}
+use Rattle.olr_register.proofs.Common.{arith, ◌||◌, AllByRecursion, or_right, list_any-append, Map, IsMap, Edit, edited}
+use Rattle.olr_register.proofs.Common.{start, touched_nodes, touched_lines, has, is_path, ChangedLine, changes_of}
+use Rattle.olr_register.proofs.Common.{EditPlan, Item, AreEncodingsIfAny, all_named, nodes_of, lines_of, changed_of}
+use Rattle.olr_register.proofs.Common.{ChangeSet, IsNotedOf, AreEditsNoted, Some, RoadMap, map_of, map_before}
+use Rattle.olr_register.proofs.Common.{under_batch, IsRegister, CanRenew, Batch, ◌==◌, Contains, Margin, IsContent}
+use Rattle.olr_register.proofs.Common.{to_renew, content_on, follows_without, is_margin, map, without_answer, Begins, CoverageQuery}
 use Rattle.std.proofs.Common.{IsTrue}
-use Rattle.olr_register.proofs.Listed.{named_anew}
+use Rattle.olr_register.proofs.Listed.{named_to_renew}
 use Rattle.std.specs.Option.{option_to_list}
 use Rattle.std.proofs.lemmas.Bool.{or_left}
 use Rattle.std.proofs.lemmas.List.Elements.{Contains-append_cases}
@@ -16,7 +16,7 @@ use Rattle.olr_spec.proofs.ListLemmas.{has_here, Contains-cases}
 use Rattle.olr_spec.proofs.ChangeLemmas.{edit_differs, none_differs, differences_add}
 use Rattle.olr_commands.specs.State.{ArePaths, NamesDiffer}
 use Rattle.olr_map.specs.EditPlans.{IsEditPlan, planned_changes}
-use Rattle.olr_paths.specs.Changes.{IsBefore}
+use Rattle.olr_renewal.specs.Changes.{IsBefore}
 
 -- ---- where changed lines begin
 
@@ -137,25 +137,25 @@ can_commit g roads is b h =
 
 -- ---- where the margin is set
 
-pub unmade_if_any : (g : Margin) (M : Map) (is : List Item) → AreEncodingsIfAny g M (map unmade is)
-unmade_if_any g M [] = tt
-unmade_if_any g M (i ∷ is) = (tt, unmade_if_any g M is)
+pub without_if_any : (g : Margin) (M : Map) (is : List Item) → AreEncodingsIfAny g M (map without_answer is)
+without_if_any g M [] = tt
+without_if_any g M (i ∷ is) = (tt, without_if_any g M is)
 
-pub begins_none : (is : List Item) (v : CoverageQuery) → ¬ Begins (map unmade is) v
+pub begins_none : (is : List Item) (v : CoverageQuery) → ¬ Begins (map without_answer is) v
 begins_none [] v h = h
 begins_none (i ∷ is) v (inl h) = h
 begins_none (i ∷ is) v (inr h) = begins_none is v h
 
 -- each path is encoded again, with nothing known
 pub can_set : (g h : Margin) → IsTrue (is_margin h) → (M : Map) (is : List Item) (t : ChangeSet) →
-    changed_of t ≡ [] → IsContent (content_on g M is) → CanRenew h M M is (anew true is) t
+    changed_of t ≡ [] → IsContent (content_on g M is) → CanRenew h M M is (to_renew true is) t
 can_set g h most M is t changed sound =
-    let same = sym (named_anew true is) in
+    let same = sym (named_to_renew true is) in
     record {
       names = subst NamesDiffer same sound.names;
-      follows = follows_unmade is is;
+      follows = follows_without is is;
       before =
-          is_before h most M M (nodes_of t) (lines_of t) (changed_of t) (anew true is)
+          is_before h most M M (nodes_of t) (lines_of t) (changed_of t) (to_renew true is)
           (noted_idle M (nodes_of t) (lines_of t) (changed_of t) changed) sound.map (subst ArePaths same sound.paths)
-          (unmade_if_any h M is);
+          (without_if_any h M is);
     }

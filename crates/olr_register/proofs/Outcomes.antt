@@ -10,7 +10,7 @@ use Rattle.olr_commands.specs.Reply.{Lacks}
 use Rattle.olr_commands.proofs.CountLemmas.{unconcerned}
 use Rattle.olr_commands.specs.Counts.{CountIs}
 use Rattle.olr_register.proofs.States.{state, register_of, InStates, in_states}
-use Rattle.olr_search.specs.declared.work.Work.{Work}
+use Rattle.olr_route.specs.declared.work.Work.{Work}
 use Rattle.olr_register.proofs.Counting.{Rise, none_affected, rise_none}
 use Rattle.base64.specs.Engines.{standard}
 use Rattle.base64.specs.GeneralPurpose.{decode_of, decoded_of}

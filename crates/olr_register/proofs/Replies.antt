@@ -2,10 +2,10 @@
 -- on their maps.
 use Rattle.olr_register.proofs.Common.{inl, inr, ◌≡◌, ℕ, true, false, cond, List, [], ◌∷◌, Option, Some, None, refl}
 use Rattle.olr_register.proofs.Common.{sym, ap, ◌∙◌, subst, option_map, MatchOption, IsSomeAnd, Map, Path, Answer}
-use Rattle.olr_register.proofs.Common.{EncodesWith, Margin, same_name, path_named, IsContent, AllOf, Differences, Made, Item}
-use Rattle.olr_register.proofs.Common.{IsEncodingOf, AreEncodings, all_named, made_in, answer_in, Reported, ◌⊎◌, ◌≢◌}
-use Rattle.olr_register.proofs.Common.{Bool, not, ◌++◌, map, filter, is_some, cases_Bool, none_of, entry, not_named}
-use Rattle.olr_register.proofs.Common.{named_of, Follows, set_item, follows_self, ◌↔◌}
+use Rattle.olr_register.proofs.Common.{EncodesWith, Margin, same_name, path_named, IsContent, AllOf, Differences, Made}
+use Rattle.olr_register.proofs.Common.{Item, IsEncodingOf, AreEncodings, all_named, made_in, answer_in, Reported, ◌⊎◌}
+use Rattle.olr_register.proofs.Common.{◌≢◌, Bool, not, ◌++◌, map, filter, is_some, cases_Bool, none_of, entry}
+use Rattle.olr_register.proofs.Common.{not_named, named_of, Follows, set_item, follows_self, ◌↔◌}
 use Rattle.olr_spec.proofs.AnswerLemmas.{one_answer_with}
 use Rattle.olr_commands.specs.Reply.{Entry, HasAnswer}
 use Rattle.std.specs.Prelude.{if◌then◌else◌}

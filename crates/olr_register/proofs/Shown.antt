@@ -1,15 +1,15 @@
 -- Questions about the map: their steps, and the paths that depend on nodes, in terms of the definitions of commands.
-use Rattle.olr_register.proofs.Common.{inl, inr, ◌≡◌, ℕ, true, false, List, [], ◌∷◌, map, Some, None, Ok, Err, refl, ap, ◌∙◌}
-use Rattle.olr_register.proofs.Common.{Map, has_node, list_all, Named, Content, step, Item, AreEncodings, all_named}
-use Rattle.olr_register.proofs.Common.{content_on, ChangeSet, Margin, nodes_of, lines_of}
+use Rattle.olr_register.proofs.Common.{inl, inr, ◌≡◌, ℕ, true, false, List, [], ◌∷◌, map, Some, None, Ok, Err, refl, ap}
+use Rattle.olr_register.proofs.Common.{◌∙◌, Map, has_node, list_all, Named, Content, step, Item, AreEncodings}
+use Rattle.olr_register.proofs.Common.{all_named, content_on, ChangeSet, Margin, nodes_of, lines_of}
 use Rattle.olr_spec.specs.Map.{has_line, No_node, No_line}
 use Rattle.olr_commands.specs.Counts.{Picks}
 use Rattle.olr_commands.specs.Dependents.{DependsOn, Dependents, On_node, On_line}
 use Rattle.olr_commands.specs.Recordable.{has_node_record, has_line_records}
 use Rattle.olr_commands.specs.State.{Show_node, Show_line, Depends, Map_fault, Not_a_record}
-use Rattle.olr_list.specs.Items.{Made}
-use Rattle.olr_list.specs.ChangeSets.{IsAround}
-use Rattle.olr_paths.specs.Changes.{IsAffected, AffectedNames, By_name, By_node, By_line}
+use Rattle.olr_paths.specs.Items.{Made}
+use Rattle.olr_renewal.specs.ChangeSets.{IsAround}
+use Rattle.olr_renewal.specs.Changes.{IsAffected, AffectedNames, By_name, By_node, By_line}
 use Rattle.olr_register.proofs.States.{state}
 
 -- ---- steps, if no batch is open

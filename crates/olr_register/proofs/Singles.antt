@@ -1,30 +1,29 @@
 -- Changes that are made at once, with no batch open.
-use Rattle.olr_register.proofs.Common.{◌⊎◌, ◌≡◌, ◌≢◌, ℕ, true, false, not, List, [], ◌∷◌, ◌++◌, map, filter}
-use Rattle.olr_register.proofs.Common.{length, Some, None, Result, Ok, Err, refl, sym, ap, ◌∙◌, subst, ◌==◌, ◌&&◌}
-use Rattle.olr_register.proofs.Common.{IsFalse, IsErrAnd, Map, Edit, edited, touched_nodes, touched_lines, has}
-use Rattle.olr_register.proofs.Common.{HasCoord, Path, is_path, map_of, RoadMap, Work, Named}
-use Rattle.olr_register.proofs.Common.{Content, same_name, Fault, Change, On_map, Add_path, Set_path}
-use Rattle.olr_register.proofs.Common.{Drop_path, with_map, with_change, at_once, Make, HasCoords, entry, Differences}
-use Rattle.olr_register.proofs.Common.{IsRefusal, takes_memory, may_want, Affects, By_name, By_node, By_line}
-use Rattle.olr_register.proofs.Common.{reply_of}
-use Rattle.olr_register.proofs.Common.{command_fault_of, Reply, CommandFault, changes_keep, DistanceBounds, Made}
-use Rattle.olr_register.proofs.Common.{Item, IsEncodingOf, AreEncodings, all_named, answer_in, arith}
-use Rattle.olr_register.proofs.Common.{set_item, IsRenewal, nodes_of, lines_of, changed_of}
-use Rattle.olr_register.proofs.Common.{ChangeSet, follows_self, has_name, Registered, content_on, items, kept_of}
-use Rattle.olr_register.proofs.Common.{HasBounds, IsKeptRight, CanRenewAfter, MayReport, ByContent, Lacks, Answered}
-use Rattle.olr_register.proofs.Common.{IsNotedOf, encodes, begins_drop, append-nil, Option, Margin, Set_margin, anew, is_margin, CanRenew, Memory}
+use Rattle.olr_register.proofs.Common.{◌⊎◌, ◌≡◌, ◌≢◌, ℕ, true, false, not, List, [], ◌∷◌, ◌++◌, map, filter, length}
+use Rattle.olr_register.proofs.Common.{Some, None, Result, Ok, Err, refl, sym, ap, ◌∙◌, subst, ◌==◌, ◌&&◌, IsFalse}
+use Rattle.olr_register.proofs.Common.{IsErrAnd, Map, Edit, edited, touched_nodes, touched_lines, has, HasCoord, Path}
+use Rattle.olr_register.proofs.Common.{is_path, map_of, RoadMap, Work, Named, Content, same_name, Fault, Change, On_map}
+use Rattle.olr_register.proofs.Common.{Add_path, Set_path, Drop_path, with_map, with_change, at_once, Make, HasCoords}
+use Rattle.olr_register.proofs.Common.{entry, Differences, IsRefusal, takes_memory, may_want, Affects, By_name, By_node}
+use Rattle.olr_register.proofs.Common.{By_line, reply_of, command_fault_of, Reply, CommandFault, changes_keep}
+use Rattle.olr_register.proofs.Common.{DistanceBounds, Made, Item, IsEncodingOf, AreEncodings, all_named, answer_in}
+use Rattle.olr_register.proofs.Common.{arith, set_item, IsRenewal, nodes_of, lines_of, changed_of, ChangeSet}
+use Rattle.olr_register.proofs.Common.{follows_self, has_name, Registered, content_on, items, kept_of, HasBounds}
+use Rattle.olr_register.proofs.Common.{IsKeptRight, CanRenewAfter, MayReport, ByContent, Lacks, Answered, IsNotedOf}
+use Rattle.olr_register.proofs.Common.{encodes, begins_drop, append-nil, Option, Margin, Set_margin, to_renew, is_margin}
+use Rattle.olr_register.proofs.Common.{CanRenew, Memory}
 use Rattle.std.proofs.Common.{IsTrue}
 use Rattle.olr_register.specs.Contents.{option_batch}
-use Rattle.olr_search.specs.Counts.{raised_work}
-use Rattle.olr_paths.specs.Reencoded.{entries_of}
-use Rattle.olr_paths.specs.declared.renewal.Renewed.{Renewed}
+use Rattle.olr_route.specs.Counts.{raised_work}
+use Rattle.olr_renewal.specs.Reencoded.{entries_of}
+use Rattle.olr_renewal.specs.declared.renewal.Renewed.{Renewed}
 use Rattle.olr_commands.specs.State.{IsState}
 use Rattle.olr_commands.specs.Reply.{IsPaths}
 use Rattle.olr_commands.specs.Counts.{CountIs, Raises}
 use Rattle.olr_commands.proofs.CountLemmas.{paths_raise}
 use Rattle.olr_register.proofs.Changing.{add_ok, set_ok, drop_ok}
 use Rattle.olr_register.proofs.Counting.{Rise, counted_all, counted_changes, none_affected, rise_none, rise_on}
-use Rattle.olr_register.proofs.Listed.{given_all, given_none, given_at_first, each_left, each_add, each_set, each_encoded, named_anew}
+use Rattle.olr_register.proofs.Listed.{given_all, given_none, given_at_first, each_left, each_add, each_set, each_encoded, named_to_renew}
 use Rattle.olr_register.proofs.Noted.{begins_none, noted_edit, is_before, can_set}
 use Rattle.olr_register.proofs.Outcomes.{answered_counted, answered_refused, Accepts}
 use Rattle.olr_register.proofs.Renewed.{remade_made, made_if_any}
@@ -55,8 +54,8 @@ drop_affects c name p (By_line x h f) = absurd cc
 -- what is required of a renewal with another margin
 pub record MarginRequires (later_g : Margin) (roads : RoadMap) (is : List Item) (t : ChangeSet) (f : DistanceBounds) : Type 0
   where
-    pub renewable : (M : Map) × CanRenew later_g M (map_of roads) is (anew true is) t
-    pub bounded : HasBounds roads (nodes_of t) (anew true is) f
+    pub renewable : (M : Map) × CanRenew later_g M (map_of roads) is (to_renew true is) t
+    pub bounded : HasBounds roads (nodes_of t) (to_renew true is) f
 
 -- a margin that is not set, since memory lacks
 pub margin_lacks : (c : Content) (later_g : Margin) → IsRefusal (state c None) (Make (Set_margin later_g)) Memory
@@ -198,17 +197,17 @@ module _ (r : Inside) {x : Registered} (view : of_parts r.margin r.roads (items 
     }
 
     module _ (later_g : Margin) (most : IsTrue (is_margin later_g)) (t : ChangeSet) (idle : changed_of t ≡ []) (js : List Item)
-        (n : Renewed) (renewal : IsRenewal later_g M t is (anew true is) js n) where
+        (n : Renewed) (renewal : IsRenewal later_g M t is (to_renew true is) js n) where
       margin_ok : with_change c (Set_margin later_g) ≡ Ok (content_on later_g M js)
       margin_ok =
           ap (λ (ps : List Named). Ok (record { map = M; paths = ps; margin = later_g }))
-          (sym (renewal.named ∙ named_anew true is))
+          (sym (renewal.named ∙ named_to_renew true is))
 
       pub margin_right : (f : DistanceBounds) → HasBounds r.roads [] js f → IsKeptRight later_g r.roads js r.batch f
       margin_right f bounded = rw shut (record {
         register = record {
           content = changes_keep c (content_on later_g M js) (Set_margin later_g) right.register.content most margin_ok;
-          made = remade_made later_g M (anew true is) js renewal.remade;
+          made = remade_made later_g M (to_renew true is) js renewal.remade;
           held = tt;
           margin = tt;
         };
@@ -221,7 +220,7 @@ module _ (r : Inside) {x : Registered} (view : of_parts r.margin r.roads (items 
           let count = renewal.counted M (can_set g later_g most M is t idle right.register.content).before in
           accepted_now later_g (Set_margin later_g) r.roads js _ q count.0 margin_ok
           (rw says (planned_changes g later_g M M is js (entries_of n) right.register.content right.register.made
-          (remade_made later_g M (anew true is) js renewal.remade) renewal.reported))
+          (remade_made later_g M (to_renew true is) js renewal.remade) renewal.reported))
           (subst (λ (ps : List Named). CountIs (Affects c (Set_margin later_g ∷ [])) ps count.0) (sym renewal.named)
           (counted_all later_g M (nodes_of t) (lines_of t) c (Set_margin later_g ∷ []) is count.0 count.1 (given_all later_g [] is)))
           (rise_on r.work n.work count.0 count.2)

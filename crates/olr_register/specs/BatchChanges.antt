@@ -13,11 +13,11 @@ use Rattle.std.specs.List.{list_any, AllByRecursion}
 use Rattle.olr_spec.specs.Map.{has}
 use Rattle.olr_spec.specs.Extension.{Path}
 use Rattle.olr_spec.specs.Margins.{Margin}
-use Rattle.olr_roads.specs.Edits.{edit_of}
+use Rattle.olr_model.specs.Edits.{edit_of}
 use Rattle.olr_map.specs.RoadMaps.{map_of, slot_of, map_before}
 use Rattle.olr_map.specs.declared.road_map.RoadMap.{RoadMap}
-use Rattle.olr_near.specs.Bounds.{IsUnderWay}
-use Rattle.olr_near.specs.declared.distance_bounds.DistanceBounds.{DistanceBounds}
+use Rattle.olr_renewal.specs.Bounds.{IsUnderWay}
+use Rattle.olr_renewal.specs.declared.distance_bounds.DistanceBounds.{DistanceBounds}
 use Rattle.olr_commands.specs.State as state
 use Rattle.olr_commands.specs.State.{Content, Fault, Memory, Batch_full, full, when, with_change}
 use Rattle.olr_commands.specs.Reply.{is_reported_first}
@@ -26,9 +26,9 @@ use Rattle.olr_commands.specs.Counts.{nodes_of_change, lines_of_change, gives}
 use Rattle.olr_commands.specs.Words.{command_fault_of, reply_of, path_along}
 use Rattle.olr_commands.specs.declared.reply.Reply.{Reply}
 use Rattle.olr_commands.specs.declared.fault.CommandFault.{CommandFault}
-use Rattle.olr_list.specs.Items.{Item}
-use Rattle.olr_list.specs.ChangeSets.{nodes_of, lines_of}
-use Rattle.olr_list.specs.declared.change_set.ChangeSet.{ChangeSet}
+use Rattle.olr_paths.specs.Items.{Item}
+use Rattle.olr_renewal.specs.ChangeSets.{nodes_of, lines_of}
+use Rattle.olr_renewal.specs.declared.change_set.ChangeSet.{ChangeSet}
 use Rattle.olr_register.specs.RegisterState.{Held}
 use Rattle.olr_register.specs.Contents.{held_of, content_on, under_batch, content_under, batch_of, IsHeld, KeepsMargin}
 use Rattle.olr_register.specs.declared.batch.Batch.{Batch}

@@ -1,7 +1,6 @@
 -- What a register stores, and what is true of it.
 --     content_on g M is, under_batch is b, content_under roads is b      the content of a margin, a map and a list;  the
 --         list and the content after an open batch
---     known_in made      the known coverage queries of results, if there are some
 --     AreEditsNoted M N T X C      what is recorded of edits that lead from M to N
 --     IsHeld, IsRegister      what is true of an open batch, and of margin, map, list and batch
 --     KeepsMargin g b      the batch has the margin g, unless one of its changes sets another
@@ -11,24 +10,27 @@
 --     IsKeptRight      what is true of the whole
 --     CanRenew g M N is ls t      the list ls, which the changes of a batch made of the list is, can be renewed after
 --         edits t that led from M to N
+--     CanUpdate u bounds is ls      the same after the update u, where the bounds are still those before it
 use Rattle.std.specs.Prelude.{◌≡◌, ℕ, ◌≤◌, List, [], map, Contains, Option, Some, None, is_none, IfSome, IsTrue, IsFalse}
 use Rattle.olr_spec.specs.Map.{Map, has}
 use Rattle.olr_spec.specs.Margins.{Margin}
 use Rattle.olr_spec.specs.Detours.{ChangedLine, Difference}
-use Rattle.olr_spec.specs.Queries.{CoverageQuery, KnownQuery}
+use Rattle.olr_spec.specs.Queries.{CoverageQuery}
 use Rattle.olr_map.specs.RoadMaps.{map_of, slot_of, CanUndoAll, map_before}
 use Rattle.olr_map.specs.declared.road_map.RoadMap.{RoadMap}
 use Rattle.olr_map.specs.declared.undo.UndoLog.{UndoLog}
-use Rattle.olr_near.specs.Bounds.{IsSource, IsUnderWay}
-use Rattle.olr_near.specs.declared.distance_bounds.DistanceBounds.{DistanceBounds}
+use Rattle.olr_renewal.specs.Bounds.{IsSource, IsUnderWay}
+use Rattle.olr_renewal.specs.declared.distance_bounds.DistanceBounds.{DistanceBounds}
 use Rattle.olr_commands.specs.State.{Content, IsContent, NamesDiffer, full}
-use Rattle.olr_list.specs.Items.{Item, Made, AreEncodings, AreEncodingsIfAny, all_named}
-use Rattle.olr_paths.specs.Changes.{Follows, IsBefore}
-use Rattle.olr_list.specs.Changes.{anew}
-use Rattle.olr_list.specs.Origins.{Begins}
-use Rattle.olr_list.specs.Overlaid.{under_overlay}
-use Rattle.olr_list.specs.ChangeSets.{nodes_of, lines_of, changed_of}
-use Rattle.olr_list.specs.declared.change_set.ChangeSet.{ChangeSet}
+use Rattle.olr_paths.specs.Items.{Item, AreEncodings, AreEncodingsIfAny, all_named}
+use Rattle.olr_renewal.specs.Changes.{Follows, IsBefore}
+use Rattle.olr_renewal.specs.Reencoded.{to_renew_by}
+use Rattle.olr_renewal.specs.declared.update.MapUpdate.{MapUpdate}
+use Rattle.olr_paths.specs.Changes.{to_renew}
+use Rattle.olr_paths.specs.Origins.{Begins}
+use Rattle.olr_paths.specs.Overlaid.{under_overlay}
+use Rattle.olr_renewal.specs.ChangeSets.{nodes_of, lines_of, changed_of}
+use Rattle.olr_renewal.specs.declared.change_set.ChangeSet.{ChangeSet}
 use Rattle.olr_register.specs.RegisterState as kept
 use Rattle.olr_register.specs.declared.batch.Batch.{Batch}
 
@@ -42,7 +44,7 @@ content_on g M is = record { map = M; paths = all_named is; margin = g }
 
 -- if it set the margin, no path is encoded yet
 abbrev pub under_batch : List Item → Batch → List Item
-under_batch is b = anew b.all (under_overlay is b.overlay)
+under_batch is b = to_renew b.all (under_overlay is b.overlay)
 
 abbrev pub content_under : RoadMap → List Item → Batch → Content
 content_under roads is b = content_on b.margin (map_of roads) (under_batch is b)
@@ -77,10 +79,6 @@ kept_of g roads is batch =
       content = content_on g (map_kept roads batch) is;
       batch = option_batch roads is batch;
     }
-
-abbrev pub known_in : Option Made → List KnownQuery
-known_in None = []
-known_in (Some m) = m.known
 
 -- ---- invariants
 
@@ -132,3 +130,7 @@ pub record CanRenew (g : Margin) (M N : Map) (is ls : List Item) (t : ChangeSet)
   pub names : NamesDiffer (all_named ls)
   pub follows : Follows is ls
   pub before : IsBefore g M N (nodes_of t) (lines_of t) (changed_of t) ls
+
+pub record CanUpdate (u : MapUpdate RoadMap) (bounds : DistanceBounds) (is ls : List Item) : Type 0 where
+  pub renewable : (M : Map) × CanRenew u.margin M (map_of u.map.now) is (to_renew_by u ls) u.touched.now
+  pub bounded : HasBounds u.map.now (nodes_of u.touched.now) (to_renew_by u ls) bounds

@@ -13,12 +13,12 @@ use Rattle.olr_map.specs.RoadMaps.{map_of, slot_of}
 use Rattle.olr_map.specs.EditPlans.{IsEditPlan}
 use Rattle.olr_map.specs.declared.judging.EditPlan.{EditPlan}
 use Rattle.olr_map.specs.declared.road_map.RoadMap.{RoadMap}
-use Rattle.olr_list.specs.ChangeSets.{nodes_of, lines_of, changed_of}
-use Rattle.olr_list.specs.declared.change_set.ChangeSet.{ChangeSet}
-use Rattle.olr_list.specs.Items.{Item}
-use Rattle.olr_near.specs.declared.distance_bounds.DistanceBounds.{DistanceBounds}
-use Rattle.olr_paths.specs.Reencoded.{IsRenewal}
-use Rattle.olr_paths.specs.declared.renewal.Renewed.{Renewed}
+use Rattle.olr_renewal.specs.ChangeSets.{nodes_of, lines_of, changed_of}
+use Rattle.olr_renewal.specs.declared.change_set.ChangeSet.{ChangeSet}
+use Rattle.olr_paths.specs.Items.{Item}
+use Rattle.olr_renewal.specs.declared.distance_bounds.DistanceBounds.{DistanceBounds}
+use Rattle.olr_renewal.specs.Reencoded.{IsRenewal}
+use Rattle.olr_renewal.specs.declared.renewal.Renewed.{Renewed}
 use Rattle.olr_register.specs.Contents.{HasBounds, CanRenew}
 
 pub record IsNotedOf (M : Map) (e : Edit) (t : ChangeSet) : Type 0 where

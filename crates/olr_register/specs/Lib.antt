@@ -6,3 +6,4 @@ pub mod BatchChanges
 pub mod CountChanges
 pub mod Recordables
 pub mod EditNotes
+pub mod Built

@@ -7,8 +7,7 @@ ghost use Rattle.olr_map.specs.RoadMaps.{map_of};
 ghost use Rattle.olr_commands.specs.Ambiguities as spec;
 ghost use Rattle.olr_commands.specs.Ambiguities.{Ambiguities, Ambiguity, named};
 ghost use Rattle.olr_commands.specs.Words.{named_obstacle_of};
-ghost use Rattle.olr_list.specs.Items.{AreEncodings, all_named, items, made_of};
-ghost use Rattle.olr_register.specs.Contents.{known_in};
+ghost use Rattle.olr_paths.specs.Items.{AreEncodings, all_named, items, known_in, made_of};
 
 use crate::register::Register;
 use olr_ambiguity::{Found, Grid, obstacles};
@@ -17,7 +16,7 @@ use olr_commands::{CommandFault, NamedObstacle, Reply};
 use olr_map::{MapRead, RoadMap};
 use olr_paths::{PathList, Published};
 use olr_refs::{Margin, encode_again};
-use olr_search::Dijkstra;
+use olr_route::Dijkstra;
 use std::alloc::{AllocError, Global};
 
 /// Appends what was found at the LRPs of the path of this name.

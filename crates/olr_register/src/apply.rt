@@ -15,7 +15,7 @@ use std::alloc::{AllocError, Global};
 impl Register {
     ghost use Rattle.std.specs.Prelude.{◌≡◌, is_some, OnOk, OnErr, IsFalse};
     ghost use Rattle.olr_commands.specs.State.{IsContent, Make, On_map};
-    ghost use Rattle.olr_roads.specs.Edits.{edit_of};
+    ghost use Rattle.olr_model.specs.Edits.{edit_of};
     ghost use Rattle.olr_register.specs.BatchChanges.{change_of};
     ghost use Rattle.olr_register.specs.Registered.{Applied, Counted};
     ghost use Rattle.olr_register.specs.Answered.{Answered};

@@ -4,8 +4,9 @@ use crate::change::{Change, PathParts, path_unless};
 use crate::edits::line_changed;
 use olr_commands::{CommandFault, Reply};
 use olr_map::{Edit, RoadMap, UndoLog, judge};
-use olr_paths::{ChangeSet, Overlay, PathList};
+use olr_paths::{Overlay, PathList};
 use olr_refs::Margin;
+use olr_renewal::ChangeSet;
 use std::alloc::Global;
 
 /// The greatest number of changes in a batch.
@@ -30,11 +31,11 @@ pub struct Batch {
 
 impl Batch {
     ghost use Rattle.std.specs.Prelude.{◌≡◌, List, nat_le, string_bytes, Ok};
-    ghost use Rattle.olr_roads.specs.Edits.{edit_of};
+    ghost use Rattle.olr_model.specs.Edits.{edit_of};
     ghost use Rattle.olr_map.specs.RoadMaps.{CanUndoAll};
     ghost use Rattle.olr_map.specs.declared.road_map.RoadMap.{RoadMap as Roads};
     ghost use Rattle.olr_commands.specs.State.{On_map, Add_path, Set_path, Drop_path, Set_margin, full, NamesDiffer};
-    ghost use Rattle.olr_list.specs.Items.{Item, items, all_named};
+    ghost use Rattle.olr_paths.specs.Items.{Item, items, all_named};
     ghost use Rattle.olr_register.specs.Contents.{IsHeld, under_batch};
     ghost use Rattle.olr_register.specs.BatchChanges.{Makes, HoldsChange, path_by, change_of};
 

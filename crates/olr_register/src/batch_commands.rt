@@ -6,7 +6,8 @@ use crate::bounds::{preview, renew, undo_edits};
 use crate::register::Register;
 use olr_commands::{CommandFault, Reply};
 use olr_map::UndoLog;
-use olr_paths::{ChangeSet, Overlay};
+use olr_paths::Overlay;
+use olr_renewal::{ChangeSet, MapUpdate};
 
 impl Register {
     ghost use Rattle.olr_register.specs.Answered.{Answered};
@@ -41,14 +42,17 @@ impl Register {
         let Some(batch) = &self.batch else {
             return Err(CommandFault::NoBatch);
         };
+        let update = MapUpdate {
+            map: &self.roads,
+            margin: batch.margin,
+            sets_margin: batch.all,
+            touched: &batch.touched,
+        };
         let previewed = preview(
             self.alloc,
-            &self.roads,
-            batch.margin,
+            &update,
             &self.paths,
             &batch.overlay,
-            batch.all,
-            &batch.touched,
             &mut self.bounds,
             &mut self.searches,
         )?;
@@ -68,14 +72,17 @@ impl Register {
             return Err(CommandFault::CountDiffers);
         }
         let margin = batch.margin;
+        let update = MapUpdate {
+            map: &self.roads,
+            margin,
+            sets_margin: batch.all,
+            touched: &batch.touched,
+        };
         let renewed = renew(
             self.alloc,
-            &self.roads,
-            margin,
+            &update,
             &mut self.paths,
             &batch.overlay,
-            batch.all,
-            &batch.touched,
             &mut self.bounds,
             &mut self.searches,
         )?;

@@ -1,22 +1,24 @@
 //! Distance bounds, which cut the search from an edit, and the renewal of a list with them.
-ghost use Rattle.std.specs.Prelude.{◌≡◌, ◌⊎◌, ℕ, List, [], Contains, IfOk, OnOk, OnErr, IsFalse};
+ghost use Rattle.std.specs.Prelude.{◌≡◌, ℕ, List, [], Contains, IfOk, OnOk, OnErr, IsFalse};
 ghost use Rattle.olr_spec.specs.Map.{Map};
 ghost use Rattle.olr_spec.specs.Queries.{CoverageQuery as QueryRecord};
 ghost use Rattle.olr_map.specs.RoadMaps.{map_of, slot_of, CanUndoAll, map_before};
 ghost use Rattle.olr_map.specs.declared.road_map.RoadMap.{RoadMap as Roads};
-ghost use Rattle.olr_near.specs.Bounds.{IsUnderWay, IsSource};
-ghost use Rattle.olr_list.specs.Items.{Item, items};
-ghost use Rattle.olr_list.specs.Origins.{AreBoundsOf, Begins, new_origins_in};
-ghost use Rattle.olr_list.specs.Overlaid.{under_overlay};
-ghost use Rattle.olr_list.specs.Changes.{anew};
-ghost use Rattle.olr_paths.specs.Reencoded.{IsRenewal};
-ghost use Rattle.olr_list.specs.ChangeSets.{nodes_of, lines_of, changed_of};
-ghost use Rattle.olr_register.specs.Contents.{AreEditsNoted, HasBounds, CanRenew};
+ghost use Rattle.olr_renewal.specs.Bounds.{IsUnderWay, IsSource};
+ghost use Rattle.olr_paths.specs.Items.{Item, items};
+ghost use Rattle.olr_renewal.specs.AffectedSearches.{AreBoundsOf};
+ghost use Rattle.olr_paths.specs.Origins.{AreNewQueries};
+ghost use Rattle.olr_paths.specs.Overlaid.{under_overlay};
+ghost use Rattle.olr_renewal.specs.Reencoded.{AreRenewed};
+ghost use Rattle.olr_renewal.specs.ChangeSets.{nodes_of, lines_of, changed_of};
+ghost use Rattle.olr_register.specs.Contents.{AreEditsNoted, HasBounds, CanUpdate};
 
 use olr_map::{RoadMap, UndoLog};
-use olr_near::DistanceBounds;
-use olr_paths::{ChangeSet, Overlay, PathList, Renewed, Searches, preview_over, renew_over};
-use olr_refs::{CoverageQuery, Margin};
+use olr_paths::{Overlay, PathList};
+use olr_refs::CoverageQuery;
+use olr_renewal::{
+    ChangeSet, DistanceBounds, MapUpdate, Renewed, Searches, preview_over, renew_over,
+};
 use std::alloc::{AllocError, Global};
 
 /// The bounds are rebuilt only after searches that found no path have labelled more nodes than this.
@@ -52,11 +54,10 @@ fn add_sources(bounds: &mut DistanceBounds, queries: &[CoverageQuery])
 fn bounds_from_scratch(alloc: Global, bounds: &mut DistanceBounds, paths: &PathList)
     ensures { (roads : Roads) (T : List ℕ) → HasBounds roads T (items paths.now) bounds.new }
 {
-    let mut new_origins = Vec::new(alloc);
-    match paths.note_queries(&mut new_origins) {
-        Ok(()) => {
+    match paths.queries(alloc) {
+        Ok(queries) => {
             bounds.clear();
-            add_sources(bounds, &new_origins);
+            add_sources(bounds, &queries);
         }
         Err(_) => bounds.forget(),
     }
@@ -64,12 +65,12 @@ fn bounds_from_scratch(alloc: Global, bounds: &mut DistanceBounds, paths: &PathL
 
 /// Whether the bounds are unknown, or searches that found no path have labelled more nodes in all than it costs to rebuild
 /// the bounds.
-fn must_rebuild(bounds: &DistanceBounds, paths: &PathList, searches: &Searches) -> bool {
+fn must_rebuild(bounds: &DistanceBounds, paths: &PathList) -> bool {
     if !bounds.is_known() {
         return true;
     }
     let cost = bounds.len().saturating_add(paths.len()).saturating_mul(4);
-    searches.wasted_labels() > cost.saturating_add(LEAST)
+    bounds.wasted_labels() > cost.saturating_add(LEAST)
 }
 
 /// Adds sources to the bounds where new coverage queries of the list begin, or begins the bounds from scratch if they are
@@ -78,17 +79,16 @@ pub(crate) fn renew_bounds(
     alloc: Global,
     bounds: &mut DistanceBounds,
     paths: &PathList,
-    searches: &mut Searches,
+    renewed: &Renewed,
 )
     ensures { (roads : Roads) (T : List ℕ) (is : List Item) → HasBounds roads T is bounds.old
-        → ((l : QueryRecord) → Begins (items paths.now) l → Begins is l ⊎ Contains (new_origins_in searches.old) l)
-        → HasBounds roads T (items paths.now) bounds.new }
+        → AreNewQueries renewed.now.queries.items is (items paths.now) → HasBounds roads T (items paths.now) bounds.new }
 {
-    add_sources(bounds, searches.new_origins());
-    if !must_rebuild(bounds, paths, searches) {
+    add_sources(bounds, &renewed.queries);
+    bounds.add_wasted_labels(renewed.wasted_labels);
+    if !must_rebuild(bounds, paths) {
         return;
     }
-    searches.reset_wasted_labels();
     bounds_from_scratch(alloc, bounds, paths);
 }
 
@@ -98,17 +98,16 @@ fn bounds_after(
     bounds: &mut DistanceBounds,
     paths: &PathList,
     all: bool,
-    searches: &mut Searches,
+    renewed: &Renewed,
 )
     ensures { (roads : Roads) (T : List ℕ) (is : List Item) → HasBounds roads T is bounds.old
-        → ((l : QueryRecord) → Begins (items paths.now) l → Begins is l ⊎ Contains (new_origins_in searches.old) l)
-        → HasBounds roads T (items paths.now) bounds.new }
+        → AreNewQueries renewed.now.queries.items is (items paths.now) → HasBounds roads T (items paths.now) bounds.new }
 {
     if all {
         bounds_from_scratch(alloc, bounds, paths);
         return;
     }
-    renew_bounds(alloc, bounds, paths, searches);
+    renew_bounds(alloc, bounds, paths, renewed);
 }
 
 /// Encodes the affected paths again after edits that led to the map, with the changes of an overlay, and adds their new
@@ -117,31 +116,23 @@ fn bounds_after(
 #[inline(never)]
 pub(crate) fn renew(
     alloc: Global,
-    roads: &RoadMap,
-    margin: Margin,
+    update: &MapUpdate<'_, RoadMap>,
     paths: &mut PathList,
     overlay: &Overlay,
-    all: bool,
-    touched: &ChangeSet,
     bounds: &mut DistanceBounds,
     searches: &mut Searches,
 ) -> Result<Renewed, AllocError>
-    requires renewable { (M : Map) × CanRenew margin M (map_of roads.now) (items paths.old)
-        (anew all (under_overlay (items paths.old) overlay.now)) touched.now }
-    requires bounded { HasBounds roads.now (nodes_of touched.now) (anew all (under_overlay (items paths.old) overlay.now))
-        bounds.old }
-    ensures renewed { IfOk result (IsRenewal margin (map_of roads.now) touched.now (items paths.old)
-        (anew all (under_overlay (items paths.old) overlay.now)) (items paths.new)) }
-    ensures bounded { OnOk result (HasBounds roads.now [] (items paths.new) bounds.new) }
+    requires { CanUpdate update.now bounds.old (items paths.old) (under_overlay (items paths.old) overlay.now) }
+    ensures renewed { IfOk result (AreRenewed map_of update.now (items paths.old)
+        (under_overlay (items paths.old) overlay.now) (items paths.new)) }
+    ensures bounded { OnOk result (HasBounds update.now.map.now [] (items paths.new) bounds.new) }
     ensures err { OnErr result (items paths.new ≡ items paths.old) }
     ensures unknown { OnErr result (IsFalse bounds.new.known) }
 {
-    settle_bounds(bounds, roads, touched);
-    match renew_over(
-        paths, alloc, roads, margin, overlay, all, touched, bounds, searches,
-    ) {
+    settle_bounds(bounds, update.map, update.touched);
+    match renew_over(paths, alloc, update, overlay, bounds, searches) {
         Ok(renewed) => {
-            bounds_after(alloc, bounds, paths, all, searches);
+            bounds_after(alloc, bounds, paths, update.sets_margin, &renewed);
             Ok(renewed)
         }
         Err(error) => {
@@ -154,28 +145,21 @@ pub(crate) fn renew(
 /// What `renew` would return; the list stays as it is.
 pub(crate) fn preview(
     alloc: Global,
-    roads: &RoadMap,
-    margin: Margin,
+    update: &MapUpdate<'_, RoadMap>,
     paths: &PathList,
     overlay: &Overlay,
-    all: bool,
-    touched: &ChangeSet,
     bounds: &mut DistanceBounds,
     searches: &mut Searches,
 ) -> Result<Renewed, AllocError>
-    requires renewable { (M : Map) × CanRenew margin M (map_of roads.now) (items paths.now)
-        (anew all (under_overlay (items paths.now) overlay.now)) touched.now }
-    requires bounded { HasBounds roads.now (nodes_of touched.now) (anew all (under_overlay (items paths.now) overlay.now))
-        bounds.old }
-    ensures renewed { IfOk result (λ r. (js : List Item) × IsRenewal margin (map_of roads.now) touched.now
-        (items paths.now) (anew all (under_overlay (items paths.now) overlay.now)) js r) }
-    ensures bounded { (T : List ℕ) (is : List Item) → HasBounds roads.now (nodes_of touched.now) is bounds.old
-        → HasBounds roads.now T is bounds.new }
+    requires { CanUpdate update.now bounds.old (items paths.now) (under_overlay (items paths.now) overlay.now) }
+    ensures renewed { IfOk result (λ r. (js : List Item) × AreRenewed map_of update.now (items paths.now)
+        (under_overlay (items paths.now) overlay.now) js r) }
+    ensures bounded { (T : List ℕ) (is : List Item)
+        → HasBounds update.now.map.now (nodes_of update.now.touched.now) is bounds.old
+        → HasBounds update.now.map.now T is bounds.new }
 {
-    settle_bounds(bounds, roads, touched);
-    preview_over(
-        paths, alloc, roads, margin, overlay, all, touched, bounds, searches,
-    )
+    settle_bounds(bounds, update.map, update.touched);
+    preview_over(paths, alloc, update, overlay, bounds, searches)
 }
 
 /// Undoes the edits of a log, which touched these nodes and lines, and reopens the nodes. The bounds are unknown after that

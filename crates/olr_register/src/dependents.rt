@@ -7,7 +7,7 @@ ghost use Rattle.olr_map.specs.RoadMaps.{map_of};
 use crate::register::Register;
 use olr_commands::{CommandFault, Reply};
 use olr_map::{EditFault, MapRead, NodeId, RoadMap};
-use olr_paths::{ChangeSet, affected_names};
+use olr_renewal::{ChangeSet, affected_names};
 
 /// Whether each of these nodes is on the map.
 fn are_nodes(roads: &RoadMap, nodes: &[NodeId]) -> bool
@@ -44,7 +44,7 @@ impl Register {
             &self.paths,
             &around,
             &self.bounds,
-            &mut self.searches,
+            &mut self.searches.near,
         )?;
         Ok(Reply::Names(names))
     }

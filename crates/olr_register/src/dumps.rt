@@ -10,7 +10,7 @@ ghost use Rattle.olr_commands.specs.Recordable as recordable;
 ghost use Rattle.olr_commands.specs.RecordText.{record_line};
 ghost use Rattle.olr_commands.specs.Dump as spec;
 ghost use Rattle.olr_commands.specs.Dump.{node_change, line_change, path_change, margin_changes, dump_lines};
-ghost use Rattle.olr_list.specs.Items.{items, all_named};
+ghost use Rattle.olr_paths.specs.Items.{items, all_named};
 ghost use Rattle.olr_spec.specs.Margins.{no_margin};
 ghost use Rattle.olr_register.specs.Contents.{content_on};
 ghost use Rattle.olr_register.specs.Recordables as numbered;

@@ -2,19 +2,21 @@
 ghost use Rattle.std.specs.Prelude.{◌≡◌, ◌≢◌, ℕ, length, map as list_map, None, OnOk};
 ghost use Rattle.std.specs.Option.{option_to_list};
 ghost use Rattle.olr_spec.specs.Map.{Map, Edit as EditRecord};
-ghost use Rattle.olr_roads.specs.Edits.{edit_of};
+ghost use Rattle.olr_model.specs.Edits.{edit_of};
 ghost use Rattle.olr_map.specs.EditPlans.{IsEditPlan, planned_changes};
-ghost use Rattle.olr_list.specs.ChangeSets.{change_of};
-ghost use Rattle.olr_list.specs.Items.{items};
+ghost use Rattle.olr_renewal.specs.ChangeSets.{change_of};
+ghost use Rattle.olr_paths.specs.Items.{items};
 ghost use Rattle.olr_register.specs.EditNotes.{IsNotedOf, CanMakeEdit, IsEditMade};
 
 use crate::bounds::renew;
 use crate::register::Register;
 use olr_commands::{CommandFault, Reply};
 use olr_map::{Edit, EditPlan, RoadMap, judge};
-use olr_near::DistanceBounds;
-use olr_paths::{ChangeSet, ChangedLine, Overlay, PathList, Renewed, Searches, renew_unaffected};
+use olr_paths::{Overlay, PathList};
 use olr_refs::Margin;
+use olr_renewal::{
+    ChangeSet, ChangedLine, DistanceBounds, MapUpdate, Renewed, Searches, renew_unaffected,
+};
 use std::alloc::{AllocError, Global};
 
 /// The line that a judged edit changes: its ends, and the lesser of its lengths before and after. None if the edit is
@@ -41,6 +43,14 @@ fn note_only(touched: &mut ChangeSet, plan: &EditPlan) -> Result<(), AllocError>
     Ok(())
 }
 
+/// An edit that was judged, and what it touches.
+#[derive(Drop)]
+struct NotedEdit<'a> {
+    edit: Edit,
+    plan: EditPlan,
+    touched: &'a ChangeSet,
+}
+
 /// `make_and_renew`, where it is not known without a search that the edit affects no path.
 #[inline(never)]
 fn make_and_search(
@@ -48,21 +58,29 @@ fn make_and_search(
     roads: &mut RoadMap,
     margin: Margin,
     paths: &mut PathList,
-    edit: Edit,
-    plan: &EditPlan,
-    touched: &ChangeSet,
+    noted: NotedEdit<'_>,
     bounds: &mut DistanceBounds,
     searches: &mut Searches,
 ) -> Result<Renewed, AllocError>
-    requires { CanMakeEdit margin roads.old (edit_of edit) plan.now touched.now (items paths.old) bounds.old }
-    ensures { IsEditMade margin roads.old roads.new (edit_of edit) touched.now (items paths.old) (items paths.new) bounds.new
-        result }
+    requires { CanMakeEdit margin roads.old (edit_of noted.edit) noted.plan noted.touched.now (items paths.old)
+        bounds.old }
+    ensures { IsEditMade margin roads.old roads.new (edit_of noted.entry.edit) noted.entry.touched.now (items paths.old)
+        (items paths.new) bounds.new result }
 {
-    let undo = roads.make(edit, plan)?;
+    let NotedEdit {
+        edit,
+        plan,
+        touched,
+    } = noted;
+    let undo = roads.make(edit, &plan)?;
     let none = Overlay::new(alloc);
-    let renewed = renew(
-        alloc, roads, margin, paths, &none, false, touched, bounds, searches,
-    );
+    let update = MapUpdate {
+        map: &*roads,
+        margin,
+        sets_margin: false,
+        touched,
+    };
+    let renewed = renew(alloc, &update, paths, &none, bounds, searches);
     drop(none);
     match renewed {
         Ok(renewed) => {
@@ -83,22 +101,20 @@ fn make_and_renew(
     roads: &mut RoadMap,
     margin: Margin,
     paths: &mut PathList,
-    edit: Edit,
-    plan: &EditPlan,
-    touched: &ChangeSet,
+    noted: NotedEdit<'_>,
     bounds: &mut DistanceBounds,
     searches: &mut Searches,
 ) -> Result<Renewed, AllocError>
-    requires { CanMakeEdit margin roads.old (edit_of edit) plan.now touched.now (items paths.old) bounds.old }
-    ensures { IsEditMade margin roads.old roads.new (edit_of edit) touched.now (items paths.old) (items paths.new) bounds.new
-        result }
+    requires { CanMakeEdit margin roads.old (edit_of noted.edit) noted.plan noted.touched.now (items paths.old)
+        bounds.old }
+    ensures { IsEditMade margin roads.old roads.new (edit_of noted.entry.edit) noted.entry.touched.now (items paths.old)
+        (items paths.new) bounds.new result }
 {
-    let Some(renewed) = renew_unaffected(paths, alloc, roads, touched, bounds) else {
-        return make_and_search(
-            alloc, roads, margin, paths, edit, plan, touched, bounds, searches,
-        );
+    let Some(renewed) = renew_unaffected(paths, alloc, roads, noted.touched, bounds) else {
+        return make_and_search(alloc, roads, margin, paths, noted, bounds, searches);
     };
-    roads.make_kept(edit, plan)?;
+    let NotedEdit { edit, plan, .. } = noted;
+    roads.make_kept(edit, &plan)?;
     Ok(renewed)
 }
 
@@ -137,14 +153,17 @@ impl Register {
             Err(fault) => return Err(CommandFault::Map(fault)),
         };
         note_only(&mut self.touched, &plan)?;
+        let noted = NotedEdit {
+            edit,
+            plan,
+            touched: &self.touched,
+        };
         let renewed = make_and_renew(
             self.alloc,
             &mut self.roads,
             self.margin,
             &mut self.paths,
-            edit,
-            &plan,
-            &self.touched,
+            noted,
             &mut self.bounds,
             &mut self.searches,
         )?;

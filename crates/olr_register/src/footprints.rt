@@ -4,14 +4,14 @@ ghost use Rattle.std.specs.Prelude.{option_map};
 ghost use Rattle.std.specs.Result.{IfOk, IfErr};
 ghost use Rattle.olr_spec.specs.Footprint.{FootWith};
 ghost use Rattle.olr_commands.specs.State.{path_named};
-ghost use Rattle.olr_list.specs.Items.{made_of};
+ghost use Rattle.olr_paths.specs.Items.{made_of};
 
 use crate::register::Register;
 use olr_commands::CommandFault;
 use olr_map::Footprint;
 use olr_paths::Published;
 use olr_refs::refer_with;
-use olr_search::Work;
+use olr_route::Work;
 
 impl Register {
     ghost use Rattle.olr_register.specs.Registered.{PublishedWhole};

@@ -6,6 +6,7 @@ mod apply;
 mod batch;
 mod batch_commands;
 mod bounds;
+mod building;
 mod change;
 mod dependents;
 mod dumps;
@@ -18,5 +19,6 @@ mod records;
 mod register;
 
 pub use apply::replay;
+pub use building::Building;
 pub use olr_paths::{Iter, Published};
 pub use register::Register;

@@ -5,6 +5,7 @@ use crate::register::Register;
 use olr_commands::{CommandFault, Dump, Reply, push_margin_record};
 use olr_paths::Overlay;
 use olr_refs::Margin;
+use olr_renewal::MapUpdate;
 
 impl Register {
     ghost use Rattle.std.specs.Prelude.{◌≡◌, None};
@@ -22,14 +23,17 @@ impl Register {
         let _routes = margin.routes();
         self.touched.clear();
         let none = Overlay::new(self.alloc);
+        let update = MapUpdate {
+            map: &self.roads,
+            margin,
+            sets_margin: true,
+            touched: &self.touched,
+        };
         let renewed = renew(
             self.alloc,
-            &self.roads,
-            margin,
+            &update,
             &mut self.paths,
             &none,
-            true,
-            &self.touched,
             &mut self.bounds,
             &mut self.searches,
         )?;

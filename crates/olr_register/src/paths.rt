@@ -5,7 +5,7 @@ use crate::bounds::renew_bounds;
 use crate::change::{PathParts, path_unless};
 use crate::register::Register;
 use olr_commands::{CommandFault, Reply};
-use olr_paths::{add, set};
+use olr_renewal::{add, set};
 
 impl Register {
     ghost use Rattle.std.specs.Prelude.{◌≡◌, None, string_bytes};
@@ -23,11 +23,11 @@ impl Register {
         let taken = self.paths.has(&name);
         let path = path_unless(self.alloc, taken, CommandFault::PathExists, parts)?;
         let (heap, roads, margin) = (self.alloc, &self.roads, self.margin);
-        let searches = &mut self.searches;
-        let (entries, work) = add(&mut self.paths, heap, roads, name, path, margin, searches)?;
-        renew_bounds(heap, &mut self.bounds, &self.paths, &mut self.searches);
-        self.work = self.work.plus(work);
-        Ok(Reply::Paths(entries))
+        let query = &mut self.searches.query;
+        let renewed = add(&mut self.paths, heap, roads, name, path, margin, query)?;
+        renew_bounds(heap, &mut self.bounds, &self.paths, &renewed);
+        self.work = self.work.plus(renewed.work);
+        Ok(Reply::Paths(renewed.entries))
     }
 
     /// Encodes another path for a name. The faults are `NoPath`, `BadPath` and `Memory`, in this order of precedence.
@@ -39,11 +39,11 @@ impl Register {
         let missing = !self.paths.has(name);
         let path = path_unless(self.alloc, missing, CommandFault::NoPath, parts)?;
         let (heap, roads, margin) = (self.alloc, &self.roads, self.margin);
-        let searches = &mut self.searches;
-        let (entries, work) = set(&mut self.paths, heap, roads, name, path, margin, searches)?;
-        renew_bounds(heap, &mut self.bounds, &self.paths, &mut self.searches);
-        self.work = self.work.plus(work);
-        Ok(Reply::Paths(entries))
+        let query = &mut self.searches.query;
+        let renewed = set(&mut self.paths, heap, roads, name, path, margin, query)?;
+        renew_bounds(heap, &mut self.bounds, &self.paths, &renewed);
+        self.work = self.work.plus(renewed.work);
+        Ok(Reply::Paths(renewed.entries))
     }
 
     /// Removes a path; the paths after it move up. Takes no memory.

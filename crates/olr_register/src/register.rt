@@ -2,10 +2,10 @@
 
 use crate::batch::Batch;
 use olr_map::RoadMap;
-use olr_near::DistanceBounds;
-use olr_paths::{ChangeSet, Iter, PathList, Searches};
+use olr_paths::{Iter, PathList};
 use olr_refs::{Answer, Margin};
-use olr_search::Work;
+use olr_renewal::{ChangeSet, DistanceBounds, Searches};
+use olr_route::Work;
 use std::alloc::Global;
 use std::marker::Model;
 
@@ -29,7 +29,7 @@ pub struct Register {
 }
 
 impl Model for Register {
-    ghost use Rattle.olr_list.specs.Items.{items};
+    ghost use Rattle.olr_paths.specs.Items.{items};
     ghost use Rattle.olr_register.specs.Registered.{Registered, coded_registered};
     ghost use Rattle.olr_register.specs.Contents.{kept_of, IsKeptRight};
 
@@ -69,7 +69,7 @@ impl Register {
     ghost use Rattle.std.specs.Prelude.{◌≡◌, ◌↔◌, length, map, option_map, is_some, slice_get, IsTrue};
     ghost use Rattle.olr_commands.specs.Reply.{Published, PublishedText};
     ghost use Rattle.olr_answers.specs.Answers.{answer_of};
-    ghost use Rattle.olr_list.specs.Iterated.{left};
+    ghost use Rattle.olr_paths.specs.Iterated.{left};
     ghost use Rattle.olr_register.specs.Registered.{AllPublished, nothing_registered};
 
     /// The register of an empty map and no paths. Takes no memory.

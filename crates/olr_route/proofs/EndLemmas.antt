@@ -1,13 +1,14 @@
 -- Distances from one node, and the lines that end the shortest routes.
-use Rattle.olr_route.proofs.Common.{◌≡◌, ◌↔◌, ℕ, ◌+◌, ◌<◌, ◌≤◌, List, [], ◌∷◌, ◌++◌, Option, Some, None, IsTrue, arith, sym}
-use Rattle.olr_route.proofs.Common.{refl, ap, subst, cases_lt, length, get_or, none-some, Map, has_node}
-use Rattle.olr_route.proofs.Common.{start, dm, lines_in, IsRoute, dm_of, Least, Leads, IsDistance, Along, EndsRoute}
-use Rattle.olr_route.proofs.Common.{IsLast, first_one, last_step, dm_of-line, entering, IsStrictlyIncreasing}
+use Rattle.olr_route.proofs.LabelNames.{◌≡◌, ◌↔◌, ℕ, ◌+◌, ◌<◌, ◌≤◌, List, [], ◌∷◌, ◌++◌, Option, Some, None, IsTrue}
+use Rattle.olr_route.proofs.LabelNames.{arith, sym}
+use Rattle.olr_route.proofs.LabelNames.{refl, ap, subst, cases_lt, length, get_or, none-some, Map, has_node}
+use Rattle.olr_route.proofs.LabelNames.{start, dm, lines_in, IsRoute, dm_of, Least, Leads, IsDistance, Along, EndsRoute}
+use Rattle.olr_route.proofs.LabelNames.{IsLast, first_one, last_step, dm_of-line, entering, IsStrictlyIncreasing}
 use Rattle.std.proofs.Common.{eqb}
 use Rattle.std.specs.Option.{option_eq}
 use Rattle.std.proofs.lemmas.Bool.{eqb-true, eq-eqb}
-use Rattle.olr_search.proofs.Common.{Contains-one}
-use Rattle.olr_search.proofs.WayLemmas.{leads_on}
+use Rattle.olr_route.proofs.Common.{Contains-one}
+use Rattle.olr_route.proofs.WayLemmas.{leads_on}
 use Rattle.olr_spec.proofs.AscendingLists.{ascends}
 use Rattle.olr_spec.proofs.OrderLemmas.{ascend_in}
 

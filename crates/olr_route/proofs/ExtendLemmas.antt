@@ -1,8 +1,8 @@
 -- A test of each line of a route: whether it extends a shortest path, or a unique one.
-use Rattle.olr_route.proofs.Common.{ℕ, zero, suc, ◌+◌, ◌<◌, ◌≤◌, ◌↔◌, List, [], ◌∷◌, ◌++◌, Bool, true, false, refl}
-use Rattle.olr_route.proofs.Common.{IsTrue, sym, subst, arith, length, Map, IsMap, start, end, dm, IsRoute, dm_of}
-use Rattle.olr_route.proofs.Common.{LeastWithin, one_least, last_step, prefix_of_least, route_on, dm_of-line}
-use Rattle.olr_route.proofs.Common.{false≢true}
+use Rattle.olr_route.proofs.LabelNames.{ℕ, zero, suc, ◌+◌, ◌<◌, ◌≤◌, ◌↔◌, List, [], ◌∷◌, ◌++◌, Bool, true, false, refl}
+use Rattle.olr_route.proofs.LabelNames.{IsTrue, sym, subst, arith, length, Map, IsMap, start, end, dm, IsRoute, dm_of}
+use Rattle.olr_route.proofs.LabelNames.{LeastWithin, one_least, last_step, prefix_of_least, route_on, dm_of-line}
+use Rattle.olr_route.proofs.LabelNames.{false≢true}
 use Rattle.std.proofs.Common.{append_assoc, MatchBool}
 use Rattle.std.proofs.lemmas.List.{append-nil}
 use Rattle.std.specs.List.{AllWithin, HoldsAt}

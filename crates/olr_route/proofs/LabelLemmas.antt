@@ -1,14 +1,16 @@
 -- Distances with their last lines are the labels of the shortest paths.
-use Rattle.olr_route.proofs.Common.{◌≡◌, ℕ, zero, suc, ◌<◌, ◌≤◌, ◌↔◌, List, [], ◌∷◌, ◌++◌, Option, Some, None}
-use Rattle.olr_route.proofs.Common.{refl, ap, ◌∙◌, subst, inl, inr, arith, none-some, Map, IsMap, start, IsRoute}
-use Rattle.olr_route.proofs.Common.{dm_of, Least, LeastWithin, empty_least, one_least, positive, LiesWithin, Along, IsLabel}
-use Rattle.olr_route.proofs.Common.{ends_of, empty, ended, dm_of-line, route_on, last_step, same_last, MatchOption, get_or, get_or_default}
-use Rattle.olr_route.proofs.Common.{AreLabels, limit_of}
+use Rattle.olr_route.proofs.LabelNames.{◌≡◌, ℕ, zero, suc, ◌<◌, ◌≤◌, ◌↔◌, List, [], ◌∷◌, ◌++◌, Option, Some, None}
+use Rattle.olr_route.proofs.LabelNames.{refl, ap, ◌∙◌, subst, inl, inr, arith, none-some, Map, IsMap, start, IsRoute}
+use Rattle.olr_route.proofs.LabelNames.{dm_of, Least, LeastWithin, empty_least, one_least, positive, LiesWithin, Along}
+use Rattle.olr_route.proofs.LabelNames.{IsLabel}
+use Rattle.olr_route.proofs.LabelNames.{ends_of, empty, ended, dm_of-line, route_on, last_step, same_last, MatchOption}
+use Rattle.olr_route.proofs.LabelNames.{get_or, get_or_default}
+use Rattle.olr_route.proofs.LabelNames.{AreLabels, limit_of}
 use Rattle.std.proofs.Common.{reverse}
 use Rattle.olr_spec.specs.Routes.{FirstSmaller}
 use Rattle.olr_spec.proofs.RouteLemmas.{last_first, route_start}
 use Rattle.olr_route.specs.declared.labels.Labels.{Labels}
-use Rattle.olr_search.proofs.SearchLemmas.{near_leads}
+use Rattle.olr_route.proofs.SearchLemmas.{near_leads}
 use Rattle.olr_route.proofs.EndLemmas.{leads_route, route_leads, distance_le, ends_route, least_long}
 
 module _ (M : Map) (m : IsMap M) (s limit : ℕ)

@@ -14,12 +14,12 @@ use Rattle.std.specs.Prelude.{slice_index, slice_index_or}
 use Rattle.std.specs.List.Sorted.{IsStrictlyIncreasing}
 use Rattle.olr_spec.specs.Map.{Map, IsMap, has_line, start, end, dm}
 use Rattle.olr_spec.specs.Routes.{dm_of, Least, UniqueShortest}
-use Rattle.olr_search.specs.Counts.{saturated_count}
-use Rattle.olr_search.specs.Distances.{IsDistance}
-use Rattle.olr_search.specs.Searches.{IsSearch, LiesWithin}
-use Rattle.olr_search.specs.declared.distances.Dijkstra.{Dijkstra}
-use Rattle.olr_search.specs.declared.distances.Direction.TheVariants.{Along}
-use Rattle.olr_search.specs.declared.work.Work.{Work}
+use Rattle.olr_route.specs.Counts.{saturated_count}
+use Rattle.olr_route.specs.Distances.{IsDistance}
+use Rattle.olr_route.specs.Searches.{IsSearch, LiesWithin}
+use Rattle.olr_route.specs.declared.distances.Dijkstra.{Dijkstra}
+use Rattle.olr_route.specs.declared.distances.Direction.TheVariants.{Along}
+use Rattle.olr_route.specs.declared.work.Work.{Work}
 use Rattle.olr_route.specs.declared.labels.Labels.{Labels}
 
 pub record LeastWithin (M : Map) (s limit t : ℕ) (xs : List ℕ) : Type 0 where

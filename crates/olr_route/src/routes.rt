@@ -1,13 +1,15 @@
 //! The search for shortest paths within a limit.
 ghost use Rattle.std.specs.Prelude.{◌≡◌, ◌≤◌, ◌↔◌, ◌⊎◌, ◌∷◌, [], ℕ, Contains, IsTrue, IfOk, OnOk, length};
 ghost use Rattle.olr_spec.specs.Map.{has_node, has_line, end};
-ghost use Rattle.olr_search.specs.Searches.{IsSearch, Counts, LiesWithin, limit_of as search_limit};
-ghost use Rattle.olr_search.specs.declared.distances.Direction.TheVariants.{Along};
+ghost use Rattle.olr_route.specs.Searches.{IsSearch, Counts, LiesWithin, limit_of as search_limit};
+ghost use Rattle.olr_route.specs.declared.distances.Direction.TheVariants.{Along};
 ghost use Rattle.olr_route.specs.Labels.{EndsRoute, IsFound, IsLast, after_search, AreLabels, limit_of};
 
+use crate::distances::{Dijkstra, Direction, settled_search};
+use crate::frontier::GREATEST_LIMIT;
 use crate::labels::Labels;
-use olr_roads::{Footprint, LineId, MapRead, NodeId};
-use olr_search::{Dijkstra, Direction, GREATEST_LIMIT, Work, settled_search};
+use crate::work::Work;
+use olr_model::{Footprint, LineId, MapRead, NodeId};
 use std::alloc::{AllocError, Global};
 
 /// Whether a line ends a shortest route of this length to a node that it enters.

@@ -6,8 +6,8 @@ ghost use Rattle.olr_spec.specs.Routes.{IsRoute, UniqueShortest, dm_of};
 ghost use Rattle.olr_route.specs.Labels.{LeastWithin, UniqueWithin, AreLabels, limit_of};
 
 use crate::labels::Labels;
-use olr_roads::{LineId, MapRead};
-use olr_search::resolve_line;
+use crate::resolved::resolve_line;
+use olr_model::{LineId, MapRead};
 
 /// Whether a line extends the shortest path to its start to the shortest path to its end, within the limit.
 fn extends_least<M: MapRead>(map: &M, labels: &Labels, line: LineId) -> bool

@@ -22,10 +22,10 @@ pub use Rattle.olr_run.specs.Runs.{AnsweredOn, AnswersRecord, CarriedOut, CutIn,
 pub use Rattle.olr_run.specs.Runs.{IsAnswer, LeadsOn, Past_the_most, RanIn, RanOn, Records, answer_text}
 pub use Rattle.olr_run.specs.Runs.{EndedOn, both_records, file_bytes, input_records, joined_records, last_events}
 pub use Rattle.olr_run.specs.Runs.{records_read, status_of}
-pub use Rattle.olr_sessions.specs.Sessions.{Cut, Ended, Event, History, IsOfTaking, Known}
-pub use Rattle.olr_sessions.specs.Sessions.{Not_sent, Not_taken, Took, Wrote, exchanges}
-pub use Rattle.olr_sessions.specs.Statuses.{exit_code}
-pub use Rattle.olr_sessions.specs.declared.ends.RunFault.{RunFault}
+pub use Rattle.olr_input.specs.Sessions.{Cut, Ended, Event, History, IsOfTaking, Known}
+pub use Rattle.olr_input.specs.Sessions.{Not_sent, Not_taken, Took, Wrote, exchanges}
+pub use Rattle.olr_input.specs.Statuses.{exit_code}
+pub use Rattle.olr_input.specs.declared.ends.RunFault.{RunFault}
 pub use Rattle.std.proofs.lemmas.Bool.{both_ways, cases_Bool, false≢true, or_from, or_parts, or_right}
 pub use Rattle.std.proofs.lemmas.List.{append-nil, append_assoc, length-map, map-append}
 pub use Rattle.std.proofs.lemmas.List.Folds.{flat_map-map, list_any-append}

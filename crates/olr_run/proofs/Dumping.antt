@@ -12,7 +12,8 @@ use Rattle.olr_spec.specs.Map.{Map, Line, MapFault, No_node, No_line, has_node, 
 use Rattle.olr_commands.specs.Recordable.{is_recordable_map, is_recordable_coord, is_recordable_shape, has_node_record}
 use Rattle.olr_commands.specs.Recordable.{has_line_records}
 use Rattle.olr_commands.specs.State.{Fault, Memory, Content, Change, Command, Make, Not_a_record, is_recordable, after}
-use Rattle.olr_commands.specs.State.{with_change, step_in, IsContent, Dump, State, Show_node, Show_line, Map_fault, when}
+use Rattle.olr_commands.specs.State.{with_change, step_in, IsContent, Dump, State, Show_node, Show_line, Map_fault}
+use Rattle.olr_commands.specs.State.{when}
 use Rattle.std.specs.Prelude.{◌≡◌, unwrap_or}
 use Rattle.olr_commands.specs.Reply.{Lacks, Reply}
 use Rattle.olr_records.specs.Records.{Read}

@@ -1,6 +1,6 @@
 -- The ends of the program.
 use Rattle.olr_run.proofs.Common.{Bor, fault_of, Registered, Opens, Ends, Claims, Known, input_records, records_read}
-use Rattle.olr_sessions.specs.Inputs.{read_as}
+use Rattle.olr_input.specs.Inputs.{read_as}
 use Rattle.olr_run.proofs.Common.{HasTooMany, exit_code, RunFault, Options, keep_app, options, IsFile}
 use Rattle.olr_run.proofs.Common.{OpensFile, Not_opened, Cut_off, file_bytes, IfErr}
 use Rattle.std.proofs.Common.{arith, ◌≡◌, ℕ, List, [], Option, Some, None, Result, Ok, Err, refl, sym, ap, ◌∙◌, ◌⊎◌, inl, inr}
@@ -11,13 +11,13 @@ use Rattle.olr_arguments.specs.Explains.{ExplainsFault, Explains, Shown, Not_sho
 use Rattle.olr_arguments.specs.Options.{IsOptionsFault}
 use Rattle.olr_arguments.specs.declared.arguments.OptionsFault.{OptionsFault}
 use Rattle.olr_arguments.specs.declared.arguments.OptionsFault.TheVariants.{Asked, Wrong, Memory}
-use Rattle.olr_sessions.specs.declared.ends.Status.{Status}
+use Rattle.olr_input.specs.declared.ends.Status.{Status}
 use Rattle.olr_run.proofs.Common.{EndedOn}
 use Rattle.olr_run.specs.Ends.{SendsAnswers}
 use Rattle.std.specs.Fn.{Once}
 use Rattle.olr_run.specs.Ends.{Ran}
 use Rattle.olr_run.proofs.Sending.{faulted_sent, ran_sent, ran_unsent}
-use Rattle.olr_sessions.specs.declared.ends.RunFault.TheVariants as fault
+use Rattle.olr_input.specs.declared.ends.RunFault.TheVariants as fault
 
 -- what was shown, by clap's kinds of error; the text of its error has no definition
 pub explained : (kinds : Kinds) (fault : OptionsFault Error) (before later : Known) (code : ℕ) →

@@ -5,9 +5,9 @@ use Rattle.std.proofs.Common.{◌≡◌, ◌∙◌, ◌⊎◌, ℕ, Bool, true, 
 use Rattle.std.specs.Prelude.{IfOk, OnOk, Result, Ok, Err, IsTrue, is_some}
 use Rattle.sqlite_disk.specs.declared.Disk as disk
 use Rattle.olr_commands.specs.State.{Content, IsContent, State}
-use Rattle.olr_journal.specs.Logs.{kept_of, left_of, is_own_of, is_clean}
-use Rattle.olr_journal.specs.declared.folder.Folder as folder
-use Rattle.olr_journal.specs.declared.log_file.LogFile.{LogFile}
+use Rattle.olr_log.specs.Logs.{kept_of, left_of, is_own_of, is_clean}
+use Rattle.olr_log.specs.declared.folder.Folder as folder
+use Rattle.olr_log.specs.declared.log_file.LogFile.{LogFile}
 use Rattle.std.specs.List.{concat}
 use Rattle.olr_commands.specs.Dump.{dump_lines}
 use Rattle.olr_run.proofs.Dumped.{content_dump_leads, dump_leads}
@@ -20,11 +20,11 @@ use Rattle.olr_run.specs.Logged.{closed, Leads, Survives, UpTo}
 use Rattle.olr_run.specs.Logs.{LastsWhole, LastsCut}
 use Rattle.olr_run.specs.ProgramEnds.{FromLog, Ran, Cut_off, ended_code}
 use Rattle.olr_run.specs.Restored.{IsContentOf}
-use Rattle.olr_sessions.specs.Buffers.{written}
-use Rattle.olr_sessions.specs.Journals.{Only}
-use Rattle.olr_sessions.specs.declared.buffered.Buffered.{Buffered}
-use Rattle.olr_sessions.specs.declared.ends.Status.{Status}
-use Rattle.olr_sessions.specs.declared.gate.Gate.{Gate}
+use Rattle.olr_input.specs.Buffers.{written}
+use Rattle.olr_input.specs.Journals.{Only}
+use Rattle.olr_input.specs.declared.buffered.Buffered.{Buffered}
+use Rattle.olr_input.specs.declared.ends.Status.{Status}
+use Rattle.olr_input.specs.declared.gate.Gate.{Gate}
 
 pub on_true : {A E : Type 0} (r : Result A E) (P : Type 0) → OnOk r P → is_ok r ≡ true → P
 on_true (Ok a) P h e = h

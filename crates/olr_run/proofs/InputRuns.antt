@@ -12,10 +12,11 @@ use Rattle.std.proofs.Common.{sym, ap, subst, arith, length-append}
 use Rattle.std.proofs.KnownBytes.{Appends-kept, Appends-nil, Appends-trans, Keeps-refl}
 use Rattle.olr_commands.specs.State.{IsContent}
 use Rattle.olr_run.specs.Runs.{In_taking, No_text, OutcomesRenewed}
-use Rattle.olr_sessions.specs.Sessions.{BeginsWith, HasNone, PlainHappens, Renewed, TakesOne, csv_records, renewing}
+use Rattle.olr_input.specs.Sessions.{BeginsWith, HasNone, PlainHappens, Renewal, Renewed, Unasked, TakesOne}
+use Rattle.olr_input.specs.Sessions.{csv_records}
 use Rattle.olr_run.specs.Runs as runs
-use Rattle.olr_sessions.specs.declared.ends.Status.{Status}
-use Rattle.olr_sessions.specs.declared.sessions.Plain.{Plain}
+use Rattle.olr_input.specs.declared.ends.Status.{Status}
+use Rattle.olr_input.specs.declared.sessions.Plain.{Plain}
 use Rattle.std.specs.Prelude.{IfOk, Option, Result, Ok, Err}
 use Rattle.olr_run.proofs.RunLemmas.{claims_of}
 use Rattle.olr_run.proofs.Running.{represented}
@@ -23,8 +24,8 @@ use Rattle.olr_run.proofs.Joining.{stopped_is}
 use Rattle.std.proofs.Math.Bool.{and-false}
 use Rattle.std.specs.List.{flat_map}
 use Rattle.olr_run.specs.Output as output
-use Rattle.olr_sessions.specs.declared.ends.Status.TheVariants as ended
-use Rattle.olr_sessions.specs.declared.ends.RunFault.TheVariants as fault
+use Rattle.olr_input.specs.declared.ends.Status.TheVariants as ended
+use Rattle.olr_input.specs.declared.ends.RunFault.TheVariants as fault
 
 -- ---- texts
 
@@ -60,7 +61,7 @@ Sees old new before later Not_sent = Keeps before later
 Sees old new before later (Wrote text) =
     ((rs : List (List Field)) → old rs → new rs) × Appends before later text
 Sees old new before later (Cut front rest) = Appends before later front
-Sees old new before later (Renewed records) = ((rs : List (List Field)) → old rs → new rs) × Keeps before later
+Sees old new before later (Renewed renewal) = ((rs : List (List Field)) → old rs → new rs) × Keeps before later
 
 pub same_left : {S : Type 0} (left : S → List (List Field) → Type 0) (s t : S) → t ≡ s → (rs : List (List Field)) →
     left s rs → left t rs
@@ -81,7 +82,8 @@ module _ {S W : Type 0} (left : S → List (List Field) → Type 0) (failed : S 
   plain_sees a b Not_sent h = h.1
   plain_sees a b (Wrote text) h = (same_left left a.0.source b.0.source h.0, h.1)
   plain_sees a b (Cut front rest) h = h.1
-  plain_sees a b (Renewed records) h = (same_left left a.0.source b.0.source h.0, h.1)
+  plain_sees a b (Renewed Unasked) h = (same_left left a.0.source b.0.source h.0, h.1)
+  plain_sees a b (Renewed renewal) h = absurd h
 
 -- what each state that the register represented leads to, where the outcomes are related by Each
 abbrev AnsweredBy : (State → List (List Field) → List Outcome → State → Type 0) → Bool → (List Outcome → Type 0) →
@@ -92,17 +94,17 @@ AnsweredBy Each stop And old rs texts new =
 
 -- the records of a run that was cut off, the texts of their answers, and the records that were given after them
 abbrev pub cut_parts : {S : Type 0} {happens : S → Event → S → Type 0} {stop : Bool} {old new : Registered} {a b : S}
-    {e : RunFault} → CutIn happens stop old a new b e → List (List Field) × List (List ℕ) × List (Option (List ℕ))
+    {e : RunFault} → CutIn happens stop old a new b e → List (List Field) × List (List ℕ) × List Renewal
 cut_parts (In_taking of rs ws ds l k history answered) = (rs, ws, ds)
 cut_parts (runs.Not_sent is rs ws ds l k history answered) = (rs, ws, ds)
 cut_parts (Past_the_most is rs ws ds l k most r history answered) = (rs, ws, ds)
-cut_parts (No_text is rs ws ds l k r w history answered) = (rs ++ r ∷ [], ws ++ w ∷ [], ds ++ None ∷ [])
+cut_parts (No_text is rs ws ds l k r w history answered) = (rs ++ r ∷ [], ws ++ w ∷ [], ds ++ Unasked ∷ [])
 cut_parts (In_text is rs ws ds l k r front rest some history answered) =
-    (rs ++ r ∷ [], ws ++ (front ++ rest) ∷ [], ds ++ None ∷ [])
+    (rs ++ r ∷ [], ws ++ (front ++ rest) ∷ [], ds ++ Unasked ∷ [])
 
 -- from outcomes of the first records, with these texts, what is wanted of those of all records
 abbrev pub Gives : (State → List (List Field) → List Outcome → State → Type 0) → List (List Field) → List (List Field) →
-    List (List ℕ) → List (Option (List ℕ)) → Type 0
+    List (List ℕ) → List Renewal → Type 0
 Gives Each all rs ws ds =
     (s t : State) (rest : List (List Field)) (os : List Outcome) → all ≡ rs ++ rest → Claims s all os t →
     OutcomesRenewed s rs os ds t → map outcome_text os ≡ ws → Each s all os t
@@ -142,23 +144,7 @@ module _ {S : Type 0} (left : S → List (List Field) → Type 0) (contents : S 
         wrote = Appends-kept (contents a) (contents m) (contents n) w at.wrote took.1;
       }
 
-  -- records may have been given
-  given : (done : List (List Field)) (w : List ℕ) (d : Option (List ℕ)) (es : List Event) (m b : S) → At done w m →
-      History happens m (renewing d ++ es) b → (n : S) × At done w n × History happens n es b
-  given done w None es m b at h = (m, at, h)
-  given done w (Some records) es m b at h =
-      let same = seen m h.0 (Renewed records) h.1 in (
-        h.0,
-        record {
-          rest = at.rest;
-          splits = at.splits;
-          are_left = same.0 at.rest at.are_left;
-          wrote = Appends-kept (contents a) (contents m) (contents h.0) w at.wrote same.1;
-        },
-        h.2,
-      )
-
-  exchanged : (done rs : List (List Field)) (w : List ℕ) (ws : List (List ℕ)) (ds : List (Option (List ℕ)))
+  exchanged : (done rs : List (List Field)) (w : List ℕ) (ws : List (List ℕ)) (ds : List Renewal)
       (es : List Event) (m b : S) → length ws ≡ length rs → length ds ≡ length rs → At done w m →
       History happens m (exchanges rs ws ds ++ es) b →
       (n : S) × At (done ++ rs) (w ++ joined ws) n × History happens n es b
@@ -173,10 +159,16 @@ module _ {S : Type 0} (left : S → List (List Field) → Type 0) (contents : S 
         are_left = wrote.0 took.rest took.are_left;
         wrote = Appends-trans (contents a) (contents h.0) (contents h.2.0) w t took.wrote wrote.1;
       } in
-      let on = given (done ++ r ∷ []) (w ++ t) d (exchanges rs ws ds ++ es) h.2.0 b next
-      (subst (λ (fs : List Event). History happens h.2.0 fs b) (append_assoc (renewing d) (exchanges rs ws ds) es) h.2.2) in
+      let same = seen h.2.0 h.2.2.0 (Renewed d) h.2.2.1 in
+      let on : At (done ++ r ∷ []) (w ++ t) h.2.2.0 =
+      record {
+        rest = next.rest;
+        splits = next.splits;
+        are_left = same.0 next.rest next.are_left;
+        wrote = Appends-kept (contents a) (contents h.2.0) (contents h.2.2.0) (w ++ t) next.wrote same.1;
+      } in
       rw (← append_assoc done (r ∷ []) rs, ← append_assoc w t (joined ws))
-      (exchanged (done ++ r ∷ []) rs (w ++ t) ws ds es on.0 b (omega arith) (omega arith) on.1 on.2)
+      (exchanged (done ++ r ∷ []) rs (w ++ t) ws ds es h.2.2.0 b (omega arith) (omega arith) on h.2.2.2)
   exchanged done rs w ws ds es m b l k at h = absurd (omega arith)
 
   -- all records were answered
@@ -188,7 +180,7 @@ module _ {S : Type 0} (left : S → List (List Field) → Type 0) (contents : S 
   module _ (stop : Bool) (old new : Registered) (b : S) (base : IsContent old.kept.content)
       (start : At [] [] a) (Each : State → List (List Field) → List Outcome → State → Type 0) where
     -- the claims are those of all records
-    of_all : (And : List Outcome → Type 0) (rs : List (List Field)) (ws : List (List ℕ)) (ds : List (Option (List ℕ)))
+    of_all : (And : List Outcome → Type 0) (rs : List (List Field)) (ws : List (List ℕ)) (ds : List Renewal)
         (w : List ℕ) (m : S) → At rs w m → Gives Each all rs ws ds → AnsweredOn stop And old rs ws ds new
         → AnsweredBy Each stop And old all ws new
     of_all And rs ws ds w m at give answered s represents =
@@ -198,7 +190,7 @@ module _ {S : Type 0} (left : S → List (List Field) → Type 0) (contents : S 
         (h.0, h.1, h.2, give s h.0 at.rest h.2 at.splits claims h.7 h.4, h.4, h.5, h.6)
 
     -- the end of a run that was not cut off
-    ended_in : (end : Status) (rs : List (List Field)) (ws : List (List ℕ)) (ds : List (Option (List ℕ))) (m : S) →
+    ended_in : (end : Status) (rs : List (List Field)) (ws : List (List ℕ)) (ds : List Renewal) (m : S) →
         At rs (joined ws) m →
         Keeps (contents m) (contents b)
         → ((os : List Outcome) → map outcome_text os ≡ ws → status_of end ≡ output.run_status stop os →
@@ -224,7 +216,7 @@ module _ {S : Type 0} (left : S → List (List Field) → Type 0) (contents : S 
 
     -- the end of one that was, after these bytes
     cut_in : (e : RunFault) (And : List Outcome → Type 0) (rs : List (List Field)) (ws : List (List ℕ))
-        (ds : List (Option (List ℕ))) (w front : List ℕ) (m : S) → At rs w m → Appends (contents m) (contents b) front →
+        (ds : List Renewal) (w front : List ℕ) (m : S) → At rs w m → Appends (contents m) (contents b) front →
         Gives Each all rs ws ds → AnsweredOn stop And old rs ws ds new
         → ((os : List Outcome) → map outcome_text os ≡ ws → And os → output.CutOff stop os (w ++ front) e)
         → FaultedOn Each stop old (Some all) (contents a) new (contents b) e
@@ -241,7 +233,7 @@ module _ {S : Type 0} (left : S → List (List Field) → Type 0) (contents : S 
     nothing_more m later =
         Appends-kept (contents m) (contents m) (contents b) [] (Appends-nil (contents m)) later
 
-    cut_before : (e : RunFault) (rs : List (List Field)) (ws : List (List ℕ)) (ds : List (Option (List ℕ))) (m : S) →
+    cut_before : (e : RunFault) (rs : List (List Field)) (ws : List (List ℕ)) (ds : List Renewal) (m : S) →
         e ≢ fault.Write → At rs (joined ws) m → Keeps (contents m) (contents b) → Gives Each all rs ws ds →
         AnsweredOn stop (λ os. IsFalse (stop && output.any_refused os)) old rs ws ds new
         → FaultedOn Each stop old (Some all) (contents a) new (contents b) e
@@ -249,7 +241,7 @@ module _ {S : Type 0} (left : S → List (List Field) → Type 0) (contents : S 
         cut_in e _ rs ws ds (joined ws) [] m at (nothing_more m later) give answered
         (λ os are going. output.Before_next no_write going (append-nil (joined ws) ∙ written_as os ws are))
 
-    cut_unsent : (e : RunFault) (rs : List (List Field)) (ws : List (List ℕ)) (ds : List (Option (List ℕ))) (m : S) →
+    cut_unsent : (e : RunFault) (rs : List (List Field)) (ws : List (List ℕ)) (ds : List Renewal) (m : S) →
         e ≡ fault.Write → At rs (joined ws) m → Keeps (contents m) (contents b) → Gives Each all rs ws ds →
         AnsweredOn stop (λ os. IsFalse (stop && output.any_refused os)) old rs ws ds new
         → FaultedOn Each stop old (Some all) (contents a) new (contents b) e
@@ -288,14 +280,14 @@ module _ {S : Type 0} (left : S → List (List Field) → Type 0) (contents : S 
     cut_on e (No_text is rs ws ds l k r w history answered) give =
         let x = exchanged [] rs [] ws ds (Took r ∷ []) a b l k start history in
         let t = taken rs r (joined ws) x.0 x.2.0 x.1 x.2.1 in
-        cut_in e _ (rs ++ r ∷ []) (ws ++ w ∷ []) (ds ++ None ∷ []) (joined ws) [] x.2.0 t
+        cut_in e _ (rs ++ r ∷ []) (ws ++ w ∷ []) (ds ++ Unasked ∷ []) (joined ws) [] x.2.0 t
         (subst (λ (p : S). Appends (contents x.2.0) (contents p) []) x.2.2 (Appends-nil (contents x.2.0))) give answered
         (λ os are _. let o = last_of os ws w are in
         output.No_text is o.0 o.1 o.2 (append-nil (joined ws) ∙ written_as o.0 ws o.3))
     cut_on e (In_text is rs ws ds l k r front rest some history answered) give =
         let x = exchanged [] rs [] ws ds (Took r ∷ Cut front rest ∷ []) a b l k start history in
         let t = taken rs r (joined ws) x.0 x.2.0 x.1 x.2.1 in
-        cut_in e _ (rs ++ r ∷ []) (ws ++ (front ++ rest) ∷ []) (ds ++ None ∷ []) (joined ws) front x.2.0 t
+        cut_in e _ (rs ++ r ∷ []) (ws ++ (front ++ rest) ∷ []) (ds ++ Unasked ∷ []) (joined ws) front x.2.0 t
         (subst (λ (p : S). Appends (contents x.2.0) (contents p) front) x.2.2.2
         (seen x.2.0 x.2.2.0 (Cut front rest) x.2.2.1)) give answered
         (λ os are _. let o = last_of os ws (front ++ rest) are in

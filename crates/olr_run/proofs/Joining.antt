@@ -1,19 +1,19 @@
 -- Two runs on one register are one run over the records of both.
-use Rattle.olr_run.proofs.Common.{◌&&◌, append_assoc, list_any-append, Outcome, run_longer}
-use Rattle.olr_run.proofs.Common.{Field, outcome_text, Registered, SoundOutcome, Claims, AreAnswered, texts, In_last}
-use Rattle.olr_run.proofs.Common.{Known, input_records, joined_records, status_of, RanOn, FaultedOn, RunFault, cases_Bool}
-use Rattle.olr_run.proofs.Common.{or_from, or_right, csv_on_literals, run_join, LeadsOn, Records}
+use Rattle.olr_run.proofs.Common.{◌&&◌, append_assoc, list_any-append, Outcome, run_longer, Field, outcome_text}
+use Rattle.olr_run.proofs.Common.{Registered, SoundOutcome, Claims, AreAnswered, texts, In_last, Known, input_records}
+use Rattle.olr_run.proofs.Common.{joined_records, status_of, RanOn, FaultedOn, RunFault, cases_Bool, or_from, or_right}
+use Rattle.olr_run.proofs.Common.{csv_on_literals, run_join, LeadsOn, Records}
 use Rattle.std.proofs.Common.{arith, ◌≡◌, ◌∙◌, ◌≢◌, ℕ, Bool, true, false, List, [], ◌++◌, length}
 use Rattle.std.proofs.Common.{length-append, Some, inl, inr, refl, sym, ap}
 use Rattle.std.proofs.KnownBytes.{Appends-nil, Appends-trans}
 use Rattle.olr_commands.specs.State.{IsContent, State}
 use Rattle.olr_run.specs.Output.{StopsAtFault, any_refused, Ran, Faulted, CutOff, Before_next, No_text, greater}
-use Rattle.olr_sessions.specs.declared.ends.Status.{Status}
+use Rattle.olr_input.specs.declared.ends.Status.{Status}
 use Rattle.std.proofs.lemmas.List.Concat.{flat_map-append}
 use Rattle.olr_run.proofs.RunLemmas.{claims_of, none_claimed}
 use Rattle.olr_run.proofs.Running.{represented, status_by, stopped_by, stops_join}
 use Rattle.olr_run.specs.Output as output
-use Rattle.olr_sessions.specs.declared.ends.Status.TheVariants as status
+use Rattle.olr_input.specs.declared.ends.Status.TheVariants as status
 
 -- no bytes have no records
 pub none_on : (Each : State → List (List Field) → List Outcome → State → Type 0) →

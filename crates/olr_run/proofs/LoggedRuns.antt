@@ -1,14 +1,13 @@
 -- The log of a run, from the history of its session.
-use Rattle.olr_run.proofs.Common.{IfErr, IfSome, Outcome, Field, outcome_text, SoundOutcome}
-use Rattle.olr_run.proofs.Common.{append-nil, append_assoc, length-map, Known}
-use Rattle.olr_run.proofs.Common.{Event, Took, Ended, Not_taken, Not_sent, Wrote, Cut, History, exchanges, RanIn, CutIn, Keeps}
-use Rattle.olr_run.proofs.Common.{Past_the_most, In_text, Appends, Registered, RunFault}
-use Rattle.std.proofs.Common.{◌≡◌, ◌≢◌, ◌∙◌, ℕ, Bool, false, List, [], ◌∷◌, ◌++◌, length, map, Some, None, refl, sym, ap, subst, arith}
-use Rattle.std.proofs.Common.{length-append}
+use Rattle.olr_run.proofs.Common.{IfErr, IfSome, Outcome, Field, outcome_text, SoundOutcome, append-nil, append_assoc}
+use Rattle.olr_run.proofs.Common.{length-map, Known, Event, Took, Ended, Not_taken, Not_sent, Wrote, Cut, History}
+use Rattle.olr_run.proofs.Common.{exchanges, RanIn, CutIn, Keeps, Past_the_most, In_text, Appends, Registered, RunFault}
+use Rattle.std.proofs.Common.{◌≡◌, ◌≢◌, ◌∙◌, ℕ, Bool, false, List, [], ◌∷◌, ◌++◌, length, map, Some, None, refl, sym}
+use Rattle.std.proofs.Common.{ap, subst, arith, length-append}
 use Rattle.olr_commands.specs.State.{Content, State}
 use Rattle.std.specs.Io.KnownBytes.{append_known}
 use Rattle.olr_run.specs.Runs.{In_taking, No_text, OutcomesRenewed, IsRenewal, once_sent}
-use Rattle.olr_sessions.specs.Sessions.{Renewed, renewing}
+use Rattle.olr_input.specs.Sessions.{Renewal, Renewed, Unasked, Given, Lacking}
 use Rattle.olr_run.specs.Runs as runs
 use Rattle.olr_run.specs.Logged.{UpTo}
 use Rattle.olr_run.specs.Logs.{Going, HoldsBatch, Logs, LogsSome, GoesOn, EndsIn, Began, LastsWhole, LastsCut}
@@ -18,17 +17,18 @@ use Rattle.olr_run.proofs.Common.{HasTooMany}
 use Rattle.olr_run.proofs.Sending.{faulted_sent, ran_sent, ran_unsent}
 use Rattle.std.specs.Prelude.{IfOk, OnOk, Ok, Err}
 use Rattle.olr_run.proofs.Logging.{logs_pass, logs_same, logs_settle, logs_longer, logs_renew, no_front, up_later, up_to_all}
-use Rattle.olr_sessions.specs.Buffers.{held, written}
-use Rattle.olr_sessions.specs.Gates.{Compaction, Passes, ready, is_closed}
-use Rattle.olr_sessions.specs.KeptLines.{Waiting}
-use Rattle.olr_sessions.specs.Unkept.{waiting}
-use Rattle.olr_sessions.specs.LoggedRuns.{LogHappens}
-use Rattle.olr_sessions.specs.declared.buffered.Buffered.{Buffered}
-use Rattle.olr_sessions.specs.declared.gate.Gate.{Gate}
-use Rattle.olr_sessions.specs.declared.logged.Logged.{Logged}
-use Rattle.olr_sessions.specs.declared.ends.Status.{Status}
-use Rattle.olr_sessions.specs.declared.ends.Status.TheVariants as ended
-use Rattle.olr_sessions.proofs.Writing.{took_nothing}
+use Rattle.olr_input.specs.Buffers.{held, written}
+use Rattle.olr_input.specs.Gates.{Compaction, Passes, ready, is_closed}
+use Rattle.olr_input.specs.KeptLines.{Waiting}
+use Rattle.olr_input.specs.Unkept.{waiting}
+use Rattle.olr_input.specs.LoggedRuns.{LogHappens}
+use Rattle.olr_input.specs.declared.buffered.Buffered.{Buffered}
+use Rattle.olr_input.specs.declared.gate.Gate.{Gate}
+use Rattle.olr_input.specs.declared.journal.Journal as journal
+use Rattle.olr_input.specs.declared.logged.Logged.{Logged}
+use Rattle.olr_input.specs.declared.ends.Status.{Status}
+use Rattle.olr_input.specs.declared.ends.Status.TheVariants as ended
+use Rattle.olr_input.proofs.Writing.{took_nothing}
 use Rattle.std.proofs.KnownBytes.{Appends-nil, Keeps-refl}
 use Rattle.olr_commands.specs.State.{Change, IsContent}
 use Rattle.std.specs.Prelude.{Option, Result}
@@ -40,12 +40,12 @@ use Rattle.olr_run.proofs.Joining.{Longer, Joins, longer, joined_claims, none_on
 use Rattle.olr_run.proofs.Joining.{both_faulted_first_as, both_faulted_second_as}
 use Rattle.olr_run.proofs.Common.{EndedOn, joined_records, status_of}
 use Rattle.olr_run.proofs.RunLemmas.{none_claimed}
-use Rattle.olr_sessions.specs.declared.ends.RunFault.TheVariants as fault
+use Rattle.olr_input.specs.declared.ends.RunFault.TheVariants as fault
 
 -- the last step of a run, after which no records were given
 renewed_split : (s t : State) (rs : List (List Field)) (r : List Field) (os : List Outcome) (o : Outcome)
-    (ds : List (Option (List ℕ))) → length os ≡ length rs → length ds ≡ length rs →
-    OutcomesRenewed s (rs ++ r ∷ []) (os ++ o ∷ []) (ds ++ None ∷ []) t →
+    (ds : List Renewal) → length os ≡ length rs → length ds ≡ length rs →
+    OutcomesRenewed s (rs ++ r ∷ []) (os ++ o ∷ []) (ds ++ Unasked ∷ []) t →
     (m : State) × OutcomesRenewed s rs os ds m × SoundOutcome m r o t
 renewed_split s t [] r [] o [] l k h = (s, refl, subst (λ (u : State). SoundOutcome s r o u) h.3 h.1)
 renewed_split s t [] r (p ∷ os) o ds l k h = absurd (omega arith)
@@ -81,16 +81,19 @@ module _ {J W : Type 0} {kept : J → List ℕ} {may_leave : J → List ℕ → 
   some_of first later splits u unwritten logs =
       record { first = first; later = later; splits = splits; state = u; unwritten = unwritten; logs = logs }
 
-module _ {S W J : Type 0} (left : S → List (List Field) → Type 0) (contents : W → Known) (kept : J → List ℕ)
-    (may_leave : J → List ℕ → Type 0) where
+module _ {S W J : Type 0} (left : S → List (List Field) → Type 0) (contents : W → Known) (j : journal.Ghosts J) where
   abbrev pub Happens : Logged S J × Buffered W → Event → Logged S J × Buffered W → Type 0
-  Happens a e b = LogHappens left contents kept may_leave a.0 a.1 b.0 b.1 e
+  Happens a e b = LogHappens left contents j a.0 a.1 b.0 b.1 e
 
   abbrev pub left_of : Logged S J × Buffered W → List (List Field) → Type 0
   left_of p = left p.0.source
 
   abbrev pub written_of : Logged S J × Buffered W → Known
   written_of p = written contents p.1
+
+  same_written : (o p : Buffered W) → p ≡ o → Keeps (written contents o) (written contents p)
+  same_written o p is =
+      subst (λ (x : Buffered W). Keeps (written contents o) (written contents x)) (sym is) (Keeps-refl (written contents o))
 
   pub log_sees : (a b : Logged S J × Buffered W) (e : Event) → Happens a e b →
       Sees (left_of a) (left_of b) (written_of a) (written_of b) e
@@ -100,8 +103,12 @@ module _ {S W J : Type 0} (left : S → List (List Field) → Type 0) (contents 
   log_sees a b Not_sent h = passes_keeps a.0.gate b.0.gate a.1 b.1 h.1
   log_sees a b (Wrote text) h = (same_left left a.0.source b.0.source h.0, passes_writes h.1.0 b.0.gate a.1 b.1 text h.1.2)
   log_sees a b (Cut front rest) h = passes_writes h.1.0 b.0.gate a.1 b.1 front h.1.2
-  log_sees a b (Renewed records) h =
-      (same_left left a.0.source b.0.source h.0, subst (λ (x : Buffered W). Keeps (written contents a.1) (written contents x)) (sym h.1) (Keeps-refl (written contents a.1)))
+  log_sees a b (Renewed Unasked) h = (
+    same_left left a.0.source b.0.source (ap (λ (t : Logged S J). t.source) h.0),
+    same_written a.1 b.1 h.1,
+  )
+  log_sees a b (Renewed (Given records)) h = (same_left left a.0.source b.0.source h.0, same_written a.1 b.1 h.1)
+  log_sees a b (Renewed Lacking) h = (same_left left a.0.source b.0.source h.0, same_written a.1 b.1 h.1)
 
   -- a log is replaced from the same length on
   same_length : (a b : Logged S J × Buffered W) (e : Event) → Happens a e b → b.0.gate.renewed_from ≡ a.0.gate.renewed_from
@@ -111,7 +118,9 @@ module _ {S W J : Type 0} (left : S → List (List Field) → Type 0) (contents 
   same_length a b Not_sent h = ap (λ (c : Compaction). c.renewed_from) h.1.due
   same_length a b (Wrote text) h = ap (λ (c : Compaction). c.renewed_from) h.1.2.due ∙ h.1.1.untouched.length
   same_length a b (Cut front rest) h = ap (λ (c : Compaction). c.renewed_from) h.1.2.due ∙ h.1.1.untouched.length
-  same_length a b (Renewed records) h = h.2.length
+  same_length a b (Renewed Unasked) h = ap (λ (t : Logged S J). t.gate.renewed_from) h.0
+  same_length a b (Renewed (Given records)) h = h.3.length
+  same_length a b (Renewed Lacking) h = h.3.untouched.length
 
   keeps_length : (es : List Event) (a b : Logged S J × Buffered W) → History Happens a es b →
       b.0.gate.renewed_from ≡ a.0.gate.renewed_from
@@ -133,24 +142,24 @@ module _ {S W J : Type 0} (left : S → List (List Field) → Type 0) (contents 
 
   module _ (base : Known) (s : State) where
     abbrev Log : List (List Field) → List Outcome → State → List ℕ → Logged S J × Buffered W → Type 0
-    Log rs os t unwritten m = Logs kept may_leave contents base s rs os t unwritten m.0.gate m.1
+    Log rs os t unwritten m = Logs j.kept j.may_leave contents base s rs os t unwritten m.0.gate m.1
 
     log_passes : (rs : List (List Field)) (os : List Outcome) (t : State) (m n : Logged S J × Buffered W) →
-        Log rs os t [] m → Passes kept may_leave contents m.0.gate m.1 n.0.gate n.1 [] → Log rs os t [] n
+        Log rs os t [] m → Passes j.kept j.may_leave contents m.0.gate m.1 n.0.gate n.1 [] → Log rs os t [] n
     log_passes rs os t m n a p =
-        logs_pass kept may_leave contents base s rs os t [] [] m.0.gate n.0.gate m.1 n.1 a p
+        logs_pass j.kept j.may_leave contents base s rs os t [] [] m.0.gate n.0.gate m.1 n.1 a p
 
     log_took : (rs : List (List Field)) (os : List Outcome) (t : State) (r : List Field) (m n : Logged S J × Buffered W) →
         Log rs os t [] m → Happens m (Took r) n → Log rs os t [] n
     log_took rs os t r m n a h =
-        logs_same kept may_leave contents base s rs os t [] h.0 n.0.gate n.1 h.2.untouched h.2.waits
-        (logs_pass kept may_leave contents base s rs os t [] [] m.0.gate h.0 m.1 n.1 a h.1)
+        logs_same j.kept j.may_leave contents base s rs os t [] h.0 n.0.gate n.1 h.2.untouched h.2.waits
+        (logs_pass j.kept j.may_leave contents base s rs os t [] [] m.0.gate h.0 m.1 n.1 a h.1)
 
     log_lost : (rs : List (List Field)) (os : List Outcome) (t : State) (e : RunFault) (m n : Logged S J × Buffered W) →
         Log rs os t [] m → Happens m (Not_taken e) n → Log rs os t [] n
     log_lost rs os t e m n a h =
-        logs_same kept may_leave contents base s rs os t [] h.0 n.0.gate n.1 h.2.untouched h.2.waits
-        (logs_pass kept may_leave contents base s rs os t [] [] m.0.gate h.0 m.1 n.1 a h.1)
+        logs_same j.kept j.may_leave contents base s rs os t [] h.0 n.0.gate n.1 h.2.untouched h.2.waits
+        (logs_pass j.kept j.may_leave contents base s rs os t [] [] m.0.gate h.0 m.1 n.1 a h.1)
 
     -- a record whose text is written, or only its first bytes
     log_cut : (rs : List (List Field)) (os : List Outcome) (t u : State) (r : List Field) (o : Outcome)
@@ -158,8 +167,8 @@ module _ {S W J : Type 0} (left : S → List (List Field) → Type 0) (contents 
         SoundOutcome t r o u → outcome_text o ≡ front ++ rest → Happens m (Took r) k → Happens k (Cut front rest) n
         → Log (rs ++ r ∷ []) (os ++ o ∷ []) u rest n
     log_cut rs os t u r o front rest m k n size a one is h cut =
-        logs_pass kept may_leave contents base s (rs ++ r ∷ []) (os ++ o ∷ []) u front rest cut.1.0 n.0.gate k.1 n.1
-        (logs_settle kept may_leave contents base s rs os t u r o (front ++ rest) k.0.gate cut.1.0 k.1 size one is
+        logs_pass j.kept j.may_leave contents base s (rs ++ r ∷ []) (os ++ o ∷ []) u front rest cut.1.0 n.0.gate k.1 n.1
+        (logs_settle j.kept j.may_leave contents base s rs os t u r o (front ++ rest) k.0.gate cut.1.0 k.1 size one is
         h.2.effect h.2.line (log_took rs os t r m k a h) cut.1.1) cut.1.2
 
     log_wrote : (rs : List (List Field)) (os : List Outcome) (t u : State) (r : List Field) (o : Outcome)
@@ -167,26 +176,27 @@ module _ {S W J : Type 0} (left : S → List (List Field) → Type 0) (contents 
         SoundOutcome t r o u → outcome_text o ≡ text → Happens m (Took r) k → Happens k (Wrote text) n
         → Log (rs ++ r ∷ []) (os ++ o ∷ []) u [] n
     log_wrote rs os t u r o text m k n size a one is h wrote =
-        logs_pass kept may_leave contents base s (rs ++ r ∷ []) (os ++ o ∷ []) u text [] wrote.1.0 n.0.gate k.1 n.1
-        (subst (λ (x : List ℕ). Logs kept may_leave contents base s (rs ++ r ∷ []) (os ++ o ∷ []) u x wrote.1.0 k.1)
+        logs_pass j.kept j.may_leave contents base s (rs ++ r ∷ []) (os ++ o ∷ []) u text [] wrote.1.0 n.0.gate k.1 n.1
+        (subst (λ (x : List ℕ). Logs j.kept j.may_leave contents base s (rs ++ r ∷ []) (os ++ o ∷ []) u x wrote.1.0 k.1)
         (sym (append-nil text))
-        (logs_settle kept may_leave contents base s rs os t u r o text k.0.gate wrote.1.0 k.1 size one is
+        (logs_settle j.kept j.may_leave contents base s rs os t u r o text k.0.gate wrote.1.0 k.1 size one is
         h.2.effect h.2.line (log_took rs os t r m k a h) wrote.1.1)) wrote.1.2
 
     -- the records of the content may be given
-    log_given : (rs : List (List Field)) (os : List Outcome) (t : State) (d : Option (List ℕ)) (es : List Event)
-        (m b : Logged S J × Buffered W) → Log rs os t [] m → IsContent t.content → IsRenewal t d →
-        History Happens m (renewing d ++ es) b
-        → (n : Logged S J × Buffered W) × Log rs os t [] n × History Happens n es b
-    log_given rs os t None es m b a sound is h = (m, a, h)
-    log_given rs os t (Some records) es m b a sound is h = (
-      h.0,
-      subst (λ (x : Buffered W). Logs kept may_leave contents base s rs os t [] h.0.0.gate x) (sym h.1.1)
-          (logs_renew kept may_leave contents base s rs os t records m.0.gate h.0.0.gate m.1 a sound is.0 is.1 h.1.2),
-      h.2,
-    )
+    log_given : (rs : List (List Field)) (os : List Outcome) (t : State) (d : Renewal) (m n : Logged S J × Buffered W) →
+        Log rs os t [] m → IsContent t.content → IsRenewal t d → Happens m (Renewed d) n → Log rs os t [] n
+    log_given rs os t Unasked m n a sound is h =
+        subst (λ (x : Gate J × Buffered W). Logs j.kept j.may_leave contents base s rs os t [] x.0 x.1)
+        (λ k. ((sym h.0 k).gate, sym h.1 k)) a
+    log_given rs os t (Given records) m n a sound is h =
+        subst (λ (x : Buffered W). Logs j.kept j.may_leave contents base s rs os t [] n.0.gate x) (sym h.1)
+        (logs_renew j contents base s rs os t records m.0.gate n.0.gate m.1 a sound is.0 is.1 h.3)
+    log_given rs os t Lacking m n a sound is h =
+        subst (λ (x : Buffered W). Logs j.kept j.may_leave contents base s rs os t [] n.0.gate x) (sym h.1)
+        (logs_same j.kept j.may_leave contents base s rs os t [] m.0.gate n.0.gate m.1 h.3.untouched
+        (ap waiting h.3.unkept) a)
 
-    log_exchanged : (rs : List (List Field)) (ws : List (List ℕ)) (ds : List (Option (List ℕ))) (es : List Event)
+    log_exchanged : (rs : List (List Field)) (ws : List (List ℕ)) (ds : List Renewal) (es : List Event)
         (m b : Logged S J × Buffered W)
         (dn : List (List Field)) (dos : List Outcome) (t u : State) (os : List Outcome) → length dos ≡ length dn →
         map outcome_text os ≡ ws → length ws ≡ length rs → Log dn dos t [] m → OutcomesRenewed t rs os ds u →
@@ -201,10 +211,9 @@ module _ {S W J : Type 0} (left : S → List (List Field) → Type 0) (contents 
         let rest : map outcome_text os ≡ ws = cc in
         let now = log_wrote dn dos t run.0 r o w m h.0 h.2.0 size a run.1 first h.1 h.2.1 in
         let grown : length (dos ++ o ∷ []) ≡ length (dn ++ r ∷ []) = grind (arith, length-append) in
-        let on = log_given (dn ++ r ∷ []) (dos ++ o ∷ []) run.0 d (exchanges rs ws ds ++ es) h.2.0 b now run.1.1 run.2
-        (subst (λ (fs : List Event). History Happens h.2.0 fs b) (append_assoc (renewing d) (exchanges rs ws ds) es) h.2.2) in
+        let on = log_given (dn ++ r ∷ []) (dos ++ o ∷ []) run.0 d h.2.0 h.2.2.0 now run.1.1 run.2 h.2.2.1 in
         rw (← append_assoc dn (r ∷ []) rs, ← append_assoc dos (o ∷ []) os)
-        (log_exchanged rs ws ds es on.0 b (dn ++ r ∷ []) (dos ++ o ∷ []) run.0 u os grown rest (omega arith) on.1 run.3 on.2)
+        (log_exchanged rs ws ds es h.2.2.0 b (dn ++ r ∷ []) (dos ++ o ∷ []) run.0 u os grown rest (omega arith) on run.3 h.2.2.2)
     log_exchanged [] (w ∷ ws) ds es m b dn dos t u os size is l a run h = absurd (omega arith)
     log_exchanged (r ∷ rs) [] ds es m b dn dos t u os size is l a run h = absurd (omega arith)
     log_exchanged [] [] ds es m b dn dos t u (o ∷ os) size is l a run h = absurd cc
@@ -214,46 +223,46 @@ module _ {S W J : Type 0} (left : S → List (List Field) → Type 0) (contents 
 
   module _ (stop : Bool) (old new : Registered) (a b : Logged S J × Buffered W) (all : List (List Field)) where
     with_rest : (base : Known) (s t : State) (rs0 rs rest : List (List Field)) (os : List Outcome) (unwritten : List ℕ) →
-        all ≡ rs ++ rest → Logs kept may_leave contents base s (rs0 ++ rs) os t unwritten b.0.gate b.1 →
-        Logs kept may_leave contents base s (rs0 ++ all) os t unwritten b.0.gate b.1
+        all ≡ rs ++ rest → Logs j.kept j.may_leave contents base s (rs0 ++ rs) os t unwritten b.0.gate b.1 →
+        Logs j.kept j.may_leave contents base s (rs0 ++ all) os t unwritten b.0.gate b.1
     with_rest base s t rs0 rs rest os unwritten is l =
-        rw (is, ← append_assoc rs0 rs rest) (logs_longer kept may_leave contents base s (rs0 ++ rs) rest os t unwritten b.0.gate b.1 l)
+        rw (is, ← append_assoc rs0 rs rest) (logs_longer j.kept j.may_leave contents base s (rs0 ++ rs) rest os t unwritten b.0.gate b.1 l)
 
     pub gives_whole : (end : Status) (h : RanIn Happens stop old a new b end) →
-        Gives (GoesOn kept may_leave contents a.0.gate a.1 b.0.gate b.1) all h.records h.texts h.renewals
+        Gives (GoesOn j.kept j.may_leave contents a.0.gate a.1 b.0.gate b.1) all h.records h.texts h.renewals
     gives_whole ended.Stopped h s t rest os is claims run texts base s0 rs0 os0 size l =
         let x = log_exchanged base s0 h.records h.texts h.renewals [] a b rs0 os0 s t os size texts h.each l run h.history in
         with_rest base s0 t rs0 h.records rest (os0 ++ os) [] is
         (subst (λ (m : Logged S J × Buffered W).
-        Logs kept may_leave contents base s0 (rs0 ++ h.records) (os0 ++ os) t [] m.0.gate m.1) x.2 x.1)
+        Logs j.kept j.may_leave contents base s0 (rs0 ++ h.records) (os0 ++ os) t [] m.0.gate m.1) x.2 x.1)
     gives_whole end h s t rest os is claims run texts base s0 rs0 os0 size l =
         let x = log_exchanged base s0 h.records h.texts h.renewals (Ended ∷ []) a b rs0 os0 s t os size texts h.each l run h.history in
         let now = log_passes base s0 (rs0 ++ h.records) (os0 ++ os) t x.0 x.2.0 x.1 x.2.1.0 in
         with_rest base s0 t rs0 h.records rest (os0 ++ os) [] is
         (subst (λ (m : Logged S J × Buffered W).
-        Logs kept may_leave contents base s0 (rs0 ++ h.records) (os0 ++ os) t [] m.0.gate m.1) x.2.2 now)
+        Logs j.kept j.may_leave contents base s0 (rs0 ++ h.records) (os0 ++ os) t [] m.0.gate m.1) x.2.2 now)
 
     logs_at : (base : Known) (s0 t : State) (rs qs : List (List Field)) (os ps : List Outcome) (unwritten : List ℕ)
         (m : Logged S J × Buffered W) → rs ≡ qs → os ≡ ps →
-        Logs kept may_leave contents base s0 rs os t unwritten m.0.gate m.1
-        → Logs kept may_leave contents base s0 qs ps t unwritten m.0.gate m.1
+        Logs j.kept j.may_leave contents base s0 rs os t unwritten m.0.gate m.1
+        → Logs j.kept j.may_leave contents base s0 qs ps t unwritten m.0.gate m.1
     logs_at base s0 t rs qs os ps unwritten m e f l =
         subst (λ (x : List (List Field) × List Outcome).
-        Logs kept may_leave contents base s0 x.0 x.1 t unwritten m.0.gate m.1) (λ n. (e n, f n)) l
+        Logs j.kept j.may_leave contents base s0 x.0 x.1 t unwritten m.0.gate m.1) (λ n. (e n, f n)) l
 
     some_logs : (base : Known) (s0 u : State) (rs0 rs rest : List (List Field)) (os0 os first late : List Outcome)
         (unwritten : List ℕ) (m : Logged S J × Buffered W) → all ≡ rs ++ rest → os ≡ first ++ late → m ≡ b →
-        Logs kept may_leave contents base s0 (rs0 ++ rs) (os0 ++ first) u unwritten m.0.gate m.1
-        → LogsSome kept may_leave contents base s0 (rs0 ++ all) (os0 ++ os) b.0.gate b.1
+        Logs j.kept j.may_leave contents base s0 (rs0 ++ rs) (os0 ++ first) u unwritten m.0.gate m.1
+        → LogsSome j.kept j.may_leave contents base s0 (rs0 ++ all) (os0 ++ os) b.0.gate b.1
     some_logs base s0 u rs0 rs rest os0 os first late unwritten m is splits same l =
         some_of (os0 ++ first) late (ap (λ (x : List Outcome). os0 ++ x) splits ∙ sym (append_assoc os0 first late)) u
         unwritten
         (with_rest base s0 u rs0 rs rest (os0 ++ first) unwritten is
         (subst (λ (x : Logged S J × Buffered W).
-        Logs kept may_leave contents base s0 (rs0 ++ rs) (os0 ++ first) u unwritten x.0.gate x.1) same l))
+        Logs j.kept j.may_leave contents base s0 (rs0 ++ rs) (os0 ++ first) u unwritten x.0.gate x.1) same l))
 
     pub gives_part : (e : RunFault) (h : CutIn Happens stop old a new b e) →
-        Gives (EndsIn kept may_leave contents a.0.gate a.1 b.0.gate b.1) all (cut_parts h).0 (cut_parts h).1 (cut_parts h).2
+        Gives (EndsIn j.kept j.may_leave contents a.0.gate a.1 b.0.gate b.1) all (cut_parts h).0 (cut_parts h).1 (cut_parts h).2
     gives_part e (In_taking of rs ws ds each k history answered) s t rest os is claims run texts base s0 rs0 os0 size l =
         let x = log_exchanged base s0 rs ws ds (Not_taken e ∷ []) a b rs0 os0 s t os size texts each l run history in
         some_logs base s0 t rs0 rs rest os0 os os [] [] x.2.0 is (sym (append-nil os)) x.2.2
@@ -270,7 +279,7 @@ module _ {S W J : Type 0} (left : S → List (List Field) → Type 0) (contents 
         let o = last_of os ws w texts in
         let short : length o.0 ≡ length rs = sym (length-map o.0 outcome_text) ∙ ap length o.3 ∙ each in
         let two = renewed_split s t rs r o.0 o.1 ds short k
-        (subst (λ (x : List Outcome). OutcomesRenewed s (rs ++ r ∷ []) x (ds ++ None ∷ []) t) o.2 run) in
+        (subst (λ (x : List Outcome). OutcomesRenewed s (rs ++ r ∷ []) x (ds ++ Unasked ∷ []) t) o.2 run) in
         let x = log_exchanged base s0 rs ws ds (Took r ∷ []) a b rs0 os0 s two.0 o.0 size o.3 each l two.1 history in
         some_logs base s0 two.0 rs0 rs (r ∷ rest) os0 os o.0 (o.1 ∷ []) [] x.2.0
         (is ∙ append_assoc rs (r ∷ []) rest) o.2 x.2.2
@@ -279,7 +288,7 @@ module _ {S W J : Type 0} (left : S → List (List Field) → Type 0) (contents 
         let o = last_of os ws (front ++ late) texts in
         let short : length o.0 ≡ length rs = sym (length-map o.0 outcome_text) ∙ ap length o.3 ∙ each in
         let two = renewed_split s t rs r o.0 o.1 ds short k
-        (subst (λ (x : List Outcome). OutcomesRenewed s (rs ++ r ∷ []) x (ds ++ None ∷ []) t) o.2 run) in
+        (subst (λ (x : List Outcome). OutcomesRenewed s (rs ++ r ∷ []) x (ds ++ Unasked ∷ []) t) o.2 run) in
         let x = log_exchanged base s0 rs ws ds (Took r ∷ Cut front late ∷ []) a b rs0 os0 s two.0 o.0 size o.3 each l two.1 history in
         let grown : length (os0 ++ o.0) ≡ length (rs0 ++ rs) = grind (arith, length-append) in
         let now = log_cut base s0 (rs0 ++ rs) (os0 ++ o.0) two.0 t r o.1 front late x.0 x.2.0 x.2.2.0 grown x.1 two.2 o.4 x.2.1 x.2.2.1 in
@@ -289,29 +298,29 @@ module _ {S W J : Type 0} (left : S → List (List Field) → Type 0) (contents 
         (append_assoc os0 o.0 (o.1 ∷ []) ∙ ap (λ (y : List Outcome). os0 ++ y) (sym o.2)) now)
 
 -- what a run with a log says of the known bytes of its input
-module _ {S W J : Type 0} (left : S → List (List Field) → Type 0) (contents : W → Known) (kept : J → List ℕ)
-    (may_leave : J → List ℕ → Type 0) (stop : Bool) (old new : Registered) (a b : Logged S J × Buffered W) where
+module _ {S W J : Type 0} (left : S → List (List Field) → Type 0) (contents : W → Known)
+    (j : journal.Ghosts J) (stop : Bool) (old new : Registered) (a b : Logged S J × Buffered W) where
   abbrev Whole : State → List (List Field) → List Outcome → State → Type 0
-  Whole s rs os t = LogsOn kept may_leave contents a.0.gate a.1 b.0.gate b.1 s rs os t
+  Whole s rs os t = LogsOn j.kept j.may_leave contents a.0.gate a.1 b.0.gate b.1 s rs os t
 
   abbrev Part : State → List (List Field) → List Outcome → State → Type 0
-  Part s rs os t = LogsUpTo kept may_leave contents a.0.gate a.1 b.0.gate b.1 s rs os t
+  Part s rs os t = LogsUpTo j.kept j.may_leave contents a.0.gate a.1 b.0.gate b.1 s rs os t
 
   pub log_known : (records : Records) (r : Result Status RunFault) (g h : Gate J) → IsContent old.kept.content →
-      IfSome records (left a.0.source) → a.0.gate ≡ g → h ≡ b.0.gate → IfOk r (RanIn (Happens left contents kept may_leave) stop old a new b)
-      → IfErr r (CutIn (Happens left contents kept may_leave) stop old a new b)
-      → LoggedOn kept may_leave contents g a.1 h b.1 stop old records new r
+      IfSome records (left a.0.source) → a.0.gate ≡ g → h ≡ b.0.gate → IfOk r (RanIn (Happens left contents j) stop old a new b)
+      → IfErr r (CutIn (Happens left contents j) stop old a new b)
+      → LoggedOn j.kept j.may_leave contents g a.1 h b.1 stop old records new r
       × IfErr r (λ e. e ≡ fault.TooMany → HasTooMany records)
   log_known records r g h base begins first last ran cut =
       subst (λ (x : Gate J × Gate J).
-      LoggedOn kept may_leave contents x.0 a.1 x.1 b.1 stop old records new r
+      LoggedOn j.kept j.may_leave contents x.0 a.1 x.1 b.1 stop old records new r
       × IfErr r (λ e. e ≡ fault.TooMany → HasTooMany records)) (λ n. (first n, sym last n))
-      (on_records_as (left_of left contents kept may_leave) (written_of left contents kept may_leave)
-      (Happens left contents kept may_leave) (log_sees left contents kept may_leave) stop old new a b Whole Part
+      (on_records_as (left_of left contents j) (written_of left contents j)
+      (Happens left contents j) (log_sees left contents j) stop old new a b Whole Part
       (λ all end h s t rest os is claims run texts.
-      (claims, gives_whole left contents kept may_leave stop old new a b all end h s t rest os is claims run texts))
+      (claims, gives_whole left contents j stop old new a b all end h s t rest os is claims run texts))
       (λ all e h s t rest os is claims run texts.
-      (claims, gives_part left contents kept may_leave stop old new a b all e h s t rest os is claims run texts))
+      (claims, gives_part left contents j stop old new a b all e h s t rest os is claims run texts))
       records r base begins ran cut)
 
 -- ---- two runs

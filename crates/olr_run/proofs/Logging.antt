@@ -7,16 +7,17 @@ use Rattle.std.specs.Prelude.{if◌then◌else◌, ◌==◌, nat_le, cond, is_so
 use Rattle.std.specs.List.{concat, AllByRecursion, join_with_byte}
 use Rattle.std.proofs.KnownBytes.{Appends-trans}
 use Rattle.std.proofs.lemmas.List.Concat.{flat_map-append}
-use Rattle.olr_commands.specs.State.{Content, Change, Command, Make, Show, Report, Dump, Explain, Begin, Commit, Abort, State}
-use Rattle.olr_commands.specs.State.{Fault, Map_fault, with_change, after, step, step_in, start_state, full}
-use Rattle.olr_commands.specs.State.{has_path, is_recordable, text_fault, TextFault, unless_fault, No_path, Not_a_record}
-use Rattle.olr_commands.specs.State.{Show_node, Show_line, Show_margin, Depends, Compact, Preview, Ambiguous, has_asked}
+use Rattle.olr_commands.specs.State.{Content, Change, Command, Make, Show, Report, Dump, Explain, Begin, Commit, Abort}
+use Rattle.olr_commands.specs.State.{State, Fault, Map_fault, with_change, after, step, step_in, start_state, full}
+use Rattle.olr_commands.specs.State.{has_path, is_recordable, text_fault, TextFault, unless_fault, No_path}
+use Rattle.olr_commands.specs.State.{Not_a_record, Show_node, Show_line, Show_margin, Depends, Compact, Preview}
+use Rattle.olr_commands.specs.State.{Ambiguous, has_asked}
 use Rattle.olr_commands.specs.Recordable.{has_node_record, has_line_records}
 use Rattle.std.specs.List.{list_all}
 use Rattle.olr_spec.specs.Map.{has_node, has_line as has_line_of}
 use Rattle.olr_spec.specs.Map.{Node_exists, No_node, Line_exists, No_line, Node_in_use, Bad_shape}
 use Rattle.olr_run.proofs.Common.{CommandOutcome}
-use Rattle.olr_sessions.specs.declared.unkept.Effect.{Effect}
+use Rattle.olr_input.specs.declared.unkept.Effect.{Effect}
 use Rattle.olr_commands.specs.RecordText.{fields_line}
 use Rattle.olr_commands.specs.Dump.{steps}
 use Rattle.olr_commands.specs.Reply.{Reply, Paths, Fields, Held, Dumped, Records, Names, Obstacles}
@@ -25,18 +26,19 @@ use Rattle.olr_records.specs.ReplyText.{fault_text, reply_text}
 use Rattle.olr_run.specs.Logged.{IsKept, closed, Leads, UpTo, Survives}
 use Rattle.olr_run.specs.Logs.{BatchLines, HoldsBatch, Going, Logs}
 use Rattle.olr_run.proofs.Plain.{effect_for, effect_is}
-use Rattle.olr_sessions.specs.Buffers.{held}
-use Rattle.olr_sessions.specs.Gates.{is_closed, ready, batch, Untouched, Keeping, None_sent, None_ready, All_kept}
-use Rattle.olr_sessions.specs.Gates.{Cut_off, Passes, Renewal, Replaced, Left_as_it_was, Renews}
+use Rattle.olr_input.specs.Buffers.{held}
+use Rattle.olr_input.specs.Gates.{is_closed, ready, batch, Untouched, Keeping, None_sent, None_ready, All_kept}
+use Rattle.olr_input.specs.Gates.{Cut_off, Passes, Renewal, Replaced, Left_as_it_was, Renews}
 use Rattle.olr_commands.specs.Dump.{dump_lines}
 use Rattle.olr_commands.specs.State.{IsContent}
 use Rattle.olr_run.proofs.Dumped.{dump_leads, kept_changes}
-use Rattle.olr_sessions.specs.Journals.{IsFront, Only, is_empty}
-use Rattle.olr_sessions.specs.KeptLines.{Waiting, effect_of, kept_line, has_line, line_if, line_of, settled}
-use Rattle.olr_sessions.specs.LoggedRuns.{is_fault, Settles}
-use Rattle.olr_sessions.specs.Unkept.{waiting, next_line}
-use Rattle.olr_sessions.specs.declared.buffered.Buffered.{Buffered}
-use Rattle.olr_sessions.specs.declared.gate.Gate.{Gate}
+use Rattle.olr_input.specs.Journals.{IsFront, Only, is_empty}
+use Rattle.olr_input.specs.KeptLines.{Waiting, effect_of, kept_line, has_line, line_if, line_of, settled}
+use Rattle.olr_input.specs.LoggedRuns.{is_fault, Settles}
+use Rattle.olr_input.specs.Unkept.{waiting, next_line}
+use Rattle.olr_input.specs.declared.buffered.Buffered.{Buffered}
+use Rattle.olr_input.specs.declared.gate.Gate.{Gate}
+use Rattle.olr_input.specs.declared.journal.Journal as journal
 
 -- ---- logs
 
@@ -499,51 +501,6 @@ module _ {J W : Type 0} (kept : J → List ℕ) (may_leave : J → List ℕ → 
             (λ n. (sym u.journal n, sym w n)) (a.going (ap is_some (sym u.fault) ∙ open_now));
       }
 
-  -- the records of the content are kept in the place of the log
-  pub logs_renew : (rs : List (List Field)) (os : List Outcome) (t : State) (records : List ℕ) (g h : Gate J)
-      (o : Buffered W) → Log rs os t [] g o → IsContent t.content → t.batch ≡ None →
-      records ≡ concat (dump_lines t.content) → Renews kept may_leave g records h → Log rs os t [] h o
-  logs_renew rs os t records g h o a sound none is b =
-      record {
-        run = a.run;
-        sent = a.sent;
-        device = a.device;
-        bytes = a.bytes;
-        survives = λ text left. elim (b.cut text left) [
-          | inl before ↦ a.survives text before
-          | inr new ↦ (t.content, subst (λ (x : List ℕ). Leads x t.content) (sym new.0) (leads_now new.1), up_now)
-        ];
-        going = λ still. let c = b.going still in by_renewal c.0 c.1;
-      }
-    where
-      leads_now : is_closed g ≡ false → Leads records t.content
-      leads_now going_on =
-          subst (λ (x : List ℕ). Leads x t.content) (sym is)
-          (dump_leads (kept g.journal ++ ready g) t.content (a.going going_on).all sound)
-
-      up_now : UpTo s rs os t.content a.sent
-      up_now = up_to_all s t rs os a.sent (held o) a.run (a.bytes ∙ append-nil (a.sent ++ held o))
-
-      by_renewal : is_closed g ≡ false → Renewal kept may_leave g records h →
-          Goes rs os t a.sent h.journal (ready h) (batch h)
-      by_renewal going_on (Replaced no_batch same only waits) =
-          let k = a.going going_on in
-          fresh rs os t a.sent h.journal (ready h) (batch h) (only k.only)
-          (subst (λ (x : List ℕ). Leads x t.content) (sym same) (leads_now going_on))
-          (ap (λ (w : Waiting). w.ready) waits)
-          (subst (λ (b : Option (List Change)). HoldsBatch t.content b (batch h)) (sym none)
-          (ap (λ (w : Waiting). w.batch) waits)) up_now
-      by_renewal going_on (Left_as_it_was same only waits) =
-          let k = a.going going_on in
-          subst (λ (w : Waiting). Goes rs os t a.sent h.journal w.ready w.batch) (sym waits)
-          (record {
-            only = only k.only;
-            fronts = λ front f. subst (λ (x : List ℕ). (c : Content) × Leads (x ++ front) c × UpTo s rs os c a.sent)
-                (sym same) (k.fronts front f);
-            all = subst (λ (x : List ℕ). Leads (x ++ ready g) t.content) (sym same) k.all;
-            batches = k.batches;
-          })
-
   -- with more records, of which none was taken
   up_longer : (rs more : List (List Field)) (os : List Outcome) (c : Content) (sent : List ℕ) → UpTo s rs os c sent →
       UpTo s (rs ++ more) os c sent
@@ -582,7 +539,7 @@ module _ {J W : Type 0} (kept : J → List ℕ) (may_leave : J → List ℕ → 
   module _ (rs : List (List Field)) (os : List Outcome) (t u : State) (r : List Field) (oc : Outcome) (text : List ℕ)
       (g h : Gate J) (o : Buffered W) (size : length os ≡ length rs) (one : SoundOutcome t r oc u)
       (is : outcome_text oc ≡ text) (effect : g.unkept.effect ≡ effect_of r) (line : next_line g.unkept ≡ kept_line r)
-      (a : Log rs os t [] g o) (e : Settles g text h) where
+      (a : Log rs os t [] g o) {jn : journal.Ghosts J} (e : Settles jn g text h) where
     run_now : SoundOutcomes s (rs ++ r ∷ []) (os ++ oc ∷ []) u
     run_now = run_more SoundOutcome s t u rs r os oc size a.run one
 
@@ -633,3 +590,51 @@ module _ {J W : Type 0} (kept : J → List ℕ) (may_leave : J → List ℕ → 
               (b.0, b.1, up_more s rs (r ∷ []) os (oc ∷ []) b.0 a.sent b.2);
           going = goes_now;
         }
+
+-- ---- when the log is replaced
+
+module _ {J W : Type 0} (j : journal.Ghosts J) (contents : W → Known) (base : Known) (s : State) where
+  -- the records of the content are kept in the place of the log
+  pub logs_renew : (rs : List (List Field)) (os : List Outcome) (t : State) (records : List ℕ) (g h : Gate J)
+      (o : Buffered W) → Logs j.kept j.may_leave contents base s rs os t [] g o → IsContent t.content → t.batch ≡ None →
+      records ≡ concat (dump_lines t.content) → Renews j g records h → Logs j.kept j.may_leave contents base s rs os t [] h o
+  logs_renew rs os t records g h o a sound none is b =
+      record {
+        run = a.run;
+        sent = a.sent;
+        device = a.device;
+        bytes = a.bytes;
+        survives = λ text left. elim (b.cut text left) [
+          | inl before ↦ a.survives text before
+          | inr new ↦ (t.content, subst (λ (x : List ℕ). Leads x t.content) (sym new.0) (leads_now new.1), up_now)
+        ];
+        going = λ still. let c = b.going still in by_renewal c.0 c.1;
+      }
+    where
+      leads_now : is_closed g ≡ false → Leads records t.content
+      leads_now going_on =
+          subst (λ (x : List ℕ). Leads x t.content) (sym is)
+          (dump_leads (j.kept g.journal ++ ready g) t.content (a.going going_on).all sound)
+
+      up_now : UpTo s rs os t.content a.sent
+      up_now = up_to_all s t rs os a.sent (held o) a.run (a.bytes ∙ append-nil (a.sent ++ held o))
+
+      by_renewal : is_closed g ≡ false → Renewal j g records h →
+          Going j.kept j.may_leave contents s rs os t a.sent h.journal (ready h) (batch h)
+      by_renewal going_on (Replaced no_batch same only waits) =
+          let k = a.going going_on in
+          fresh j.kept j.may_leave contents base s rs os t a.sent h.journal (ready h) (batch h) (only k.only)
+          (subst (λ (x : List ℕ). Leads x t.content) (sym same) (leads_now going_on))
+          (ap (λ (w : Waiting). w.ready) waits)
+          (subst (λ (b : Option (List Change)). HoldsBatch t.content b (batch h)) (sym none)
+          (ap (λ (w : Waiting). w.batch) waits)) up_now
+      by_renewal going_on (Left_as_it_was why same only waits) =
+          let k = a.going going_on in
+          subst (λ (w : Waiting). Going j.kept j.may_leave contents s rs os t a.sent h.journal w.ready w.batch) (sym waits)
+          (record {
+            only = only k.only;
+            fronts = λ front f. subst (λ (x : List ℕ). (c : Content) × Leads (x ++ front) c × UpTo s rs os c a.sent)
+                (sym same) (k.fronts front f);
+            all = subst (λ (x : List ℕ). Leads (x ++ ready g) t.content) (sym same) k.all;
+            batches = k.batches;
+          })

@@ -1,24 +1,24 @@
 -- What the record of an accepted command does to a log, and its line.
-use Rattle.std.proofs.Common.{◌≡◌, ◌∙◌, ℕ, Bool, true, false, List, [], ◌∷◌, ◌++◌, length, Some, Ok, Err, refl, sym, ap, subst}
-use Rattle.std.proofs.Common.{arith}
+use Rattle.std.proofs.Common.{◌≡◌, ◌∙◌, ℕ, Bool, true, false, List, [], ◌∷◌, ◌++◌, length, Some, Ok, Err, refl, sym, ap}
+use Rattle.std.proofs.Common.{subst, arith}
 use Rattle.std.specs.Prelude.{IfOk, codes}
 use Rattle.std.specs.List.{AllByRecursion, join_with_byte}
 use Rattle.std.proofs.lemmas.Bool.{and_parts}
 use Rattle.olr_spec.specs.Map.{Add_node, Move_node, Drop_node, Drop_line, Edit}
 use Rattle.olr_commands.specs.Recordable.{is_name_byte}
-use Rattle.olr_commands.specs.State.{Change, Command, Make, Add_path, Set_path, Drop_path, On_map, same_name, Show, Report}
-use Rattle.olr_commands.specs.State.{Dump, Explain, Begin, Commit, Abort, Show_node, Show_line, Depends, Compact, Preview, Ambiguous}
-use Rattle.olr_commands.specs.State.{Set_margin, Show_margin}
-use Rattle.olr_records.specs.Records.{Field, Read, ◌⊛◌, number, amount, name, numbers, edit, one, none, node_record, max32}
-use Rattle.olr_records.specs.Records.{forms, read, read_by, few_nodes, depends_record, ambiguous_record, line_record}
-use Rattle.olr_records.specs.Records.{set_line_record, path_fields, margin_record, digits, class}
+use Rattle.olr_commands.specs.State.{Change, Command, Make, Add_path, Set_path, Drop_path, On_map, same_name, Show}
+use Rattle.olr_commands.specs.State.{Report, Dump, Explain, Begin, Commit, Abort, Show_node, Show_line, Depends}
+use Rattle.olr_commands.specs.State.{Compact, Preview, Ambiguous, Set_margin, Show_margin}
+use Rattle.olr_records.specs.Records.{Field, Read, ◌⊛◌, number, amount, name, numbers, edit, one, none, node_record}
+use Rattle.olr_records.specs.Records.{max32, forms, read, read_by, few_nodes, depends_record, ambiguous_record}
+use Rattle.olr_records.specs.Records.{line_record, set_line_record, path_fields, margin_record, digits, class}
 use Rattle.olr_records.proofs.TestLemmas.{◌also◌}
 use Rattle.olr_records.proofs.PlainLemmas.{Plain, AllPlain, Where, digits_plain, name_plain, node_plain, one_plain}
 use Rattle.olr_records.proofs.PlainLemmas.{line_plain, set_line_plain, path_fields_plain}
-use Rattle.olr_sessions.specs.KeptLines.{effect_of, word_effect, has_line, is_clean, is_clean_byte}
-use Rattle.olr_sessions.specs.declared.unkept.Effect.{Effect}
-use Rattle.olr_sessions.specs.declared.unkept.Effect.TheVariants as effect
-use Rattle.olr_sessions.proofs.KeptLines.{same_text}
+use Rattle.olr_input.specs.KeptLines.{effect_of, word_effect, has_line, is_clean, is_clean_byte}
+use Rattle.olr_input.specs.declared.unkept.Effect.{Effect}
+use Rattle.olr_input.specs.declared.unkept.Effect.TheVariants as effect
+use Rattle.olr_input.proofs.KeptLines.{same_text}
 use Rattle.olr_run.specs.Logged.{IsKept}
 
 -- ---- commands

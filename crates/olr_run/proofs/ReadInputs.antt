@@ -2,14 +2,14 @@
 use Rattle.olr_run.proofs.Common.{Known, Records, both_records, records_read, exit_code}
 use Rattle.std.proofs.Common.{◌≡◌, ℕ, Bool, true, false, [], Some, Err, refl, inr}
 use Rattle.sqlite_disk.specs.declared.Disk as disk
-use Rattle.olr_journal.specs.declared.folder.Folder as folder
-use Rattle.olr_journal.specs.declared.log_file.LogFile.{LogFile}
+use Rattle.olr_log.specs.declared.folder.Folder as folder
+use Rattle.olr_log.specs.declared.log_file.LogFile.{LogFile}
 use Rattle.olr_run.proofs.FromLogs.{unbegun_read}
 use Rattle.olr_run.specs.ProgramEnds.{FromLog, Not_begun}
-use Rattle.olr_sessions.specs.Inputs.{read_as}
-use Rattle.olr_sessions.specs.SingleLines.{one_a_line_from}
-use Rattle.olr_sessions.specs.declared.buffered.Buffered.{Buffered}
-use Rattle.olr_sessions.specs.declared.ends.RunFault.TheVariants as fault
+use Rattle.olr_input.specs.Inputs.{read_as}
+use Rattle.olr_input.specs.SingleLines.{one_a_line_from}
+use Rattle.olr_input.specs.declared.buffered.Buffered.{Buffered}
+use Rattle.olr_input.specs.declared.ends.RunFault.TheVariants as fault
 
 -- a file that isn't there has no records, however it would be read
 pub nothing_read : (single : Bool) → Some [] ≡ read_as single (Some [])

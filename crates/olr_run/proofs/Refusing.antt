@@ -1,64 +1,54 @@
 -- A log that is rejected leads to no content.
-use Rattle.olr_commands.specs.Reply.{Lacks}
-use Rattle.olr_run.proofs.Common.{IsOutcome, ByState, Field, Registered, Represents, read, records_of}
-use Rattle.std.proofs.Common.{◌≡◌, ◌∙◌, ◌<◌, ◌≤◌, ℕ, Bool, true, false, not, List, [], ◌∷◌, ◌++◌, length, map, Option, Some, None}
-use Rattle.std.proofs.Common.{Ok, Err, Result, refl, sym, ap, subst, arith, eq-eqb, eqb-true}
+use Rattle.olr_run.proofs.Common.{Field, read, records_of}
+use Rattle.std.proofs.Common.{◌≡◌, ◌∙◌, ◌≤◌, ℕ, Bool, true, false, List, [], ◌∷◌, ◌++◌, length, map, Option}
+use Rattle.std.proofs.Common.{Some, None, Ok, Err, Result, refl, sym, ap, subst, arith, eqb-true}
 use Rattle.std.specs.Prelude.{◌==◌, nat_le, IfErr}
 use Rattle.std.specs.List.{AllByRecursion}
 use Rattle.std.proofs.lemmas.Bool.Decides.{nat_tests}
-use Rattle.olr_commands.specs.State.{Change, Command, Content, Make, Begin, Commit, Memory, State, Fault, after, full, start_state, step, with_change}
+use Rattle.olr_commands.specs.State.{Change, Command, Content, Make, Begin, Commit, Memory, State, Fault, after, full, start_state, step, with_change, with_held}
 use Rattle.olr_commands.specs.Dump.{steps}
-use Rattle.olr_records.specs.Records.{Read}
-use Rattle.olr_run.proofs.Restoring.{Loading, by_batch, holding, make_held, make_leads}
+use Rattle.olr_register.specs.BatchChanges.{ByContent, Lacks, MayReport}
+use Rattle.olr_register.specs.Built.{IsChange}
+use Rattle.olr_run.proofs.Restoring.{Loading, holding}
 use Rattle.olr_run.specs.Logged.{IsKept, closed}
-use Rattle.olr_run.specs.Restored.{InPlace, IsChange, IsContentOf, Loads, NeverSteps, Refuses, RefusesRecord, content_now, made_in}
+use Rattle.olr_run.specs.Restored.{InPlace, IsContentOf, Loads, NeverChanges, Refuses, RefusesRecord}
 use Rattle.olr_commands.specs.declared.command.Command.{Command as Rust}
 use Rattle.olr_commands.specs.declared.command.Command.TheVariants as rust
 use Rattle.olr_run.proofs.Common.{command_of}
 use Rattle.olr_run.specs.Restored.{kind_by}
 use Rattle.olr_run.specs.declared.loader.Kind.TheVariants as kind
 use Rattle.olr_run.specs.declared.loader.Loader.{Loader}
-use Rattle.olr_sessions.specs.InMemory.{left_of}
-use Rattle.olr_sessions.specs.Sessions.{HasNone, TakesOne}
-use Rattle.olr_sessions.specs.declared.in_memory.InMemory.{InMemory}
+use Rattle.olr_input.specs.InMemory.{left_of}
+use Rattle.olr_input.specs.Sessions.{HasNone, TakesOne}
+use Rattle.olr_input.specs.declared.in_memory.InMemory.{InMemory}
 
 -- ---- one command
 
-pub not_accepted : (s t u : State) (c : Command) (f : Fault) → IsOutcome s c (Err f) u → (f ≡ Memory → ⊥) →
-    step s c ≡ Ok t → ⊥
-not_accepted s t u c f (ByState e, same) other ok = let never : Err f ≡ Ok t = sym e ∙ ok in absurd cc
-not_accepted s t u c f (Lacks is may, same) other ok = other is
-
--- the register's own batch
-own_batch : (l : Loader) (s : State) (a : Loads l s) → Represents l.register.kept (holding a.state.content a.changes)
-own_batch l s a = subst (Represents l.register.kept) (by_batch a.state a.changes a.batch) a.represents
-
-pub commit_never : (l : Loader) (s : State) → Loads l s → NeverSteps l.register (Commit l.held) → ⊥
-commit_never l s a never =
-    let same : (length a.changes == l.held) ≡ true = eq-eqb (length a.changes) l.held (sym a.held) in
-    never (holding a.state.content a.changes) (own_batch l s a) (closed (after a.state.content a.changes)) (rw same refl)
+pub not_made : (c d : Content) (x : Change) (f : Fault) → MayReport (with_change c x) f → (f ≡ Memory → ⊥) →
+    with_change c x ≡ Ok d → ⊥
+not_made c d x f (ByContent e) other ok = let never : Err f ≡ Ok d = sym e ∙ ok in absurd cc
+not_made c d x f (Lacks is first) other ok = other is
 
 -- a change that is accepted is made
 accepted : (c : Content) (b : Option (List Change)) (x : Change) (t : State) →
-    step (record { content = c; batch = b }) (Make x) ≡ Ok t → (d : Content) × (with_change (made_in c b) x ≡ Ok d)
-accepted c (Some ys) x t e = let m = make_leads c ys x t e in (m.0, m.1)
+    step (record { content = c; batch = b }) (Make x) ≡ Ok t → (d : Content) × (with_change (with_held c b) x ≡ Ok d)
 accepted c None x t e = by_change (with_change c x) refl
   where
     by_change : (q : Result Content Fault) → with_change c x ≡ q → (d : Content) × (with_change c x ≡ Ok d)
     by_change (Ok d) f = (d, f)
     by_change (Err h) f = absurd (let never = rw f at e in cc)
+accepted c (Some xs) x t e = by_room (nat_le full (length xs)) (with_change (after c xs) x) refl refl
+  where
+    by_room : (b : Bool) (q : Result Content Fault) → nat_le full (length xs) ≡ b → with_change (after c xs) x ≡ q
+        → (d : Content) × (with_change (after c xs) x ≡ Ok d)
+    by_room true q f g = absurd (let never = rw f at e in cc)
+    by_room false (Err h) f g = absurd (let never = rw (f, g) at e in cc)
+    by_room false (Ok d) f g = (d, g)
 
-make_never : (l : Loader) (x : Change) → l.held < full → NeverSteps l.register (Make x) → Refuses l (Make x)
-make_never l x room never s a t ok =
-    let one = accepted s.content s.batch x t ok in
-    let here : after a.state.content a.changes ≡ content_now s = ap (made_in a.state.content) (sym a.batch) ∙ a.same in
-    let free : nat_le full (length a.changes) ≡ false = (let is = a.held in grind (arith, nat_tests, is, room)) in
-    never (holding a.state.content a.changes) (own_batch l s a) (holding a.state.content (a.changes ++ x ∷ []))
-    (make_held a.state.content a.changes one.0 x free (subst (λ (d : Content). with_change d x ≡ Ok one.0) (sym here) one.1))
-
-pub change_never : (l : Loader) (c : Command) → IsChange c → l.held < full → NeverSteps l.register c → Refuses l c
-change_never l c change room never =
-    subst (Refuses l) (sym change.1) (make_never l change.0 room (subst (NeverSteps l.register) change.1 never))
+pub change_never : (l : Loader) (c : Command) → IsChange c → NeverChanges l.building c → Refuses l c
+change_never l c change never s a t ok =
+    let one = accepted s.content s.batch change.0 t (subst (λ (k : Command). step s k ≡ Ok t) change.1 ok) in
+    never change.0 change.1 one.0 (subst (λ (d : Content). with_change d change.0 ≡ Ok one.0) (sym a.content) one.1)
 
 -- in a full batch, in an open one, and in none
 full_batch : (l : Loader) (x : Change) → l.in_batch ≡ true → full ≤ l.count → Refuses l (Make x)

@@ -2,8 +2,8 @@
 use Rattle.olr_run.proofs.Common.{length-map, append-nil, append_assoc, count_line, fault_text, outcome_text}
 use Rattle.olr_run.proofs.Common.{Field, read, Outcome, IsOutcome, RecordOutcome, SoundOutcome, may_lack, Represents}
 use Rattle.olr_run.proofs.Common.{Registered, is_ok}
-use Rattle.std.proofs.Common.{◌≡◌, ◌≢◌, ℕ, Bool, List, [], ◌∷◌, ◌++◌, length, map, refl, ap, ◌∙◌, suc, subst, sym, arith}
-use Rattle.std.proofs.Common.{IsTrue, Result, Ok, Err, Option, Some, inl, true, false}
+use Rattle.std.proofs.Common.{◌≡◌, ◌≢◌, ℕ, Bool, List, [], ◌∷◌, ◌++◌, length, map, refl, ap, ◌∙◌, suc, subst, sym}
+use Rattle.std.proofs.Common.{arith, IsTrue, Result, Ok, Err, Option, Some, inl, true, false}
 use Rattle.std.proofs.lemmas.Bool.{ne_eqb}
 use Rattle.std.specs.List.{concat}
 use Rattle.std.specs.Option.{option_map_or}
@@ -12,7 +12,7 @@ use Rattle.olr_spec.specs.Margins.{Margin}
 use Rattle.olr_spec.specs.Encoding.{Refusal}
 use Rattle.olr_commands.specs.State.{Named, Content, IsContent, State, Memory, Report}
 use Rattle.olr_commands.specs.Reply.{Entry, Paths, AllOf, Lacks, entry, published_text}
-use Rattle.olr_list.specs.Items.{Made}
+use Rattle.olr_paths.specs.Items.{Made}
 use Rattle.olr_records.specs.ReplyText.{entry_line}
 use Rattle.olr_register.specs.Registered.{HaveEncodings, AllPublished}
 use Rattle.olr_run.specs.Runs.{IsReport}

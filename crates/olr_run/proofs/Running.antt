@@ -1,23 +1,25 @@
 -- The records that a run has answered so far.
 use Rattle.olr_run.proofs.Common.{◌&&◌, ◌||◌, is_err, is_ok, if◌then◌else◌, ⊤, IfErr, or_parts, append-nil}
 use Rattle.olr_run.proofs.Common.{list_any-append, Outcome, Field, outcome_text, Represents, Registered, SoundOutcome}
-use Rattle.olr_run.proofs.Common.{SoundOutcomes, most_records, Event, Took, Ended, Not_taken, Not_sent, Wrote, Cut, History}
+use Rattle.olr_run.proofs.Common.{SoundOutcomes, most_records, Event, Took, Ended, Not_taken, Not_sent, Wrote, Cut}
+use Rattle.olr_run.proofs.Common.{History}
 use Rattle.olr_run.specs.Runs as runs
 use Rattle.olr_run.proofs.Common.{exchanges, IsOfTaking, status_of, AnsweredOn, RanIn, CutIn, Past_the_most, In_text}
-use Rattle.olr_run.proofs.Common.{RunFault, IsErrAnd, run_more, AnswersRecord, last_events, map-append, Records, Known, FaultedOn, EndedOn}
-use Rattle.std.proofs.Common.{arith, ◌≡◌, ◌∙◌, ◌+◌, ℕ, Bool, true, false, not, List, [], ◌∷◌, ◌++◌, length, map, Option, Some, None, Ok}
-use Rattle.std.proofs.Common.{◌⊎◌, Err, Result, inl, inr, refl, sym, ap, subst, length-append}
+use Rattle.olr_run.proofs.Common.{RunFault, IsErrAnd, run_more, AnswersRecord, last_events, map-append, Records, Known}
+use Rattle.olr_run.proofs.Common.{FaultedOn, EndedOn}
+use Rattle.std.proofs.Common.{arith, ◌≡◌, ◌∙◌, ◌+◌, ℕ, Bool, true, false, not, List, [], ◌∷◌, ◌++◌, length, map, Option}
+use Rattle.std.proofs.Common.{Some, None, Ok, ◌⊎◌, Err, Result, inl, inr, refl, sym, ap, subst, length-append}
 use Rattle.olr_commands.specs.State.{IsContent, State}
 use Rattle.olr_run.specs.Output.{StopsAtFault, any_refused, run_status}
-use Rattle.olr_run.specs.Runs.{In_taking, No_text, OutcomesRenewed, IsRenewal, AreRenewal, RenewedBy}
-use Rattle.olr_sessions.specs.Sessions.{renewing}
-use Rattle.olr_sessions.specs.declared.ends.Status.{Status}
+use Rattle.olr_run.specs.Runs.{In_taking, No_text, OutcomesRenewed, IsRenewal, AreRenewal}
+use Rattle.olr_input.specs.Sessions.{Renewal, Renewed, Unasked}
+use Rattle.olr_input.specs.declared.ends.Status.{Status}
 use Rattle.olr_run.proofs.RunLemmas.{sound_after, claims_of}
-use Rattle.olr_sessions.proofs.SessionLemmas.{history_join, exchanges_more}
+use Rattle.olr_input.proofs.SessionLemmas.{history_join, exchanges_more}
 use Rattle.std.proofs.Math.Bool.{or-true, or-false, and-false}
 use Rattle.olr_run.specs.Output as output
-use Rattle.olr_sessions.specs.declared.ends.Status.TheVariants as ended
-use Rattle.olr_sessions.specs.declared.ends.RunFault.TheVariants as fault
+use Rattle.olr_input.specs.declared.ends.Status.TheVariants as ended
+use Rattle.olr_input.specs.declared.ends.RunFault.TheVariants as fault
 
 -- ---- outcomes
 
@@ -58,7 +60,7 @@ refused_goes os o is = rw (refused_more os o false is, or-true (any_refused os))
 
 -- one more outcome, after which the records of the content may be given
 renewed_more : (s t u : State) (rs : List (List Field)) (r : List Field) (os : List Outcome) (o : Outcome)
-    (renewals : List (Option (List ℕ))) (renewal : Option (List ℕ)) → OutcomesRenewed s rs os renewals t →
+    (renewals : List Renewal) (renewal : Renewal) → OutcomesRenewed s rs os renewals t →
     length os ≡ length rs → SoundOutcome t r o u → IsRenewal u renewal →
     OutcomesRenewed s (rs ++ r ∷ []) (os ++ o ∷ []) (renewals ++ renewal ∷ []) u
 renewed_more s t u [] r [] o [] d a size one is = (u, subst (λ (x : State). SoundOutcome x r o u) (sym a) one, is, refl)
@@ -73,13 +75,13 @@ one_longer : {A B : Type 0} (xs : List A) (ys : List B) (x : A) (y : B) → leng
     length (xs ++ x ∷ []) ≡ length (ys ++ y ∷ [])
 one_longer xs ys x y e = grind (arith, length-append)
 
--- the records of the register were given, or none were
+-- the records of the register were given, if they were asked for
 abbrev pub Renews : {S : Type 0} → (S → Event → S → Type 0) → Registered → S → S → Type 0
 Renews happens register before later =
-    (renewal : Option (List ℕ)) × AreRenewal register renewal × RenewedBy happens before renewal later
+    (renewal : Renewal) × AreRenewal register renewal × happens before (Renewed renewal) later
 
 pub record Answered (stop : Bool) (And : List Outcome → Type 0) (s : State) (records : List (List Field))
-    (texts : List (List ℕ)) (renewals : List (Option (List ℕ))) (t : State) : Type 0 where
+    (texts : List (List ℕ)) (renewals : List Renewal) (t : State) : Type 0 where
   pub outcomes : List Outcome
   pub each : SoundOutcomes s records outcomes t
   pub stops : StopsAtFault stop outcomes
@@ -90,7 +92,7 @@ pub record Answered (stop : Bool) (And : List Outcome → Type 0) (s : State) (r
 
 -- from each state that the register represented
 abbrev pub Answers : Bool → (List Outcome → Type 0) → Registered → List (List Field) → List (List ℕ) →
-    List (Option (List ℕ)) → Registered → Type 0
+    List Renewal → Registered → Type 0
 Answers stop And old records texts renewals now =
     (s : State) → Represents old.kept s → IsContent s.content → (t : State) × Represents now.kept t
     × Answered stop And s records texts renewals t
@@ -99,7 +101,7 @@ pub record SoFar {S : Type 0} (happens : S → Event → S → Type 0) (stop : B
     (now : Registered) (later : S) (end : Status) (n : ℕ) : Type 0 where
   pub records : List (List Field)
   pub texts : List (List ℕ)
-  pub renewals : List (Option (List ℕ))
+  pub renewals : List Renewal
   pub count : length records ≡ n
   pub each : length texts ≡ length records
   pub each_renewal : length renewals ≡ length records
@@ -113,7 +115,7 @@ pub represented : (old : Registered) (s : State) → IsContent old.kept.content 
 represented old s sound represents = subst IsContent represents.0 sound
 
 answered_on : (stop : Bool) (And Then : List Outcome → Type 0) (old now : Registered) (records : List (List Field))
-    (texts : List (List ℕ)) (renewals : List (Option (List ℕ))) → IsContent old.kept.content →
+    (texts : List (List ℕ)) (renewals : List Renewal) → IsContent old.kept.content →
     Answers stop And old records texts renewals now → ((os : List Outcome) → And os → Then os) →
     AnsweredOn stop Then old records texts renewals now
 answered_on stop And Then old now records texts renewals base h give s represents =
@@ -187,7 +189,7 @@ module _ {S : Type 0} (happens : S → Event → S → Type 0) (stop : Bool) (ol
 
     module _ (new : Registered) (taken later : S) (fields : List Field) (took : happens mid (Took fields) taken) where
       answers_more : (And : List Outcome → Type 0) (r : Result Bool RunFault)
-          (reported : AnswersRecord happens now fields new taken later r) (renewal : Option (List ℕ))
+          (reported : AnswersRecord happens now fields new taken later r) (renewal : Renewal)
           → AreRenewal new renewal → ((os : List Outcome) (o : Outcome) → is_ok o ≡ reported.accepts → Going stop end os → And (os ++ o ∷ []))
           → Answers stop And old (a.records ++ fields ∷ []) (a.texts ++ reported.text ∷ []) (a.renewals ++ renewal ∷ []) new
       answers_more And r reported renewal are give s represents sound =
@@ -209,21 +211,18 @@ module _ {S : Type 0} (happens : S → Event → S → Type 0) (stop : Bool) (ol
           )
 
       -- the history with its events
-      history_more : (text : List ℕ) (renewal : Option (List ℕ)) (last : S) → happens taken (Wrote text) later →
-          RenewedBy happens later renewal last
+      history_more : (text : List ℕ) (renewal : Renewal) (last : S) → happens taken (Wrote text) later →
+          happens later (Renewed renewal) last
           → History happens before (exchanges (a.records ++ fields ∷ []) (a.texts ++ text ∷ []) (a.renewals ++ renewal ∷ [])) last
       history_more text renewal last wrote renewed =
           rw (exchanges_more a.records a.texts a.renewals fields text renewal a.each a.each_renewal)
-          (and_then last (Took fields ∷ Wrote text ∷ renewing renewal) (taken, took, (later, wrote, by_renewal renewal renewed)))
-        where
-          by_renewal : (d : Option (List ℕ)) → RenewedBy happens later d last → History happens later (renewing d) last
-          by_renewal None h = h
-          by_renewal (Some records) h = (last, h, refl)
+          (and_then last (Took fields ∷ Wrote text ∷ Renewed renewal ∷ [])
+          (taken, took, (later, wrote, (last, renewed, refl))))
 
       -- one that does not end the run
-      one_more : (next : Status) (b : Bool) (renewal : Option (List ℕ)) (on : S) →
+      one_more : (next : Status) (b : Bool) (renewal : Renewal) (on : S) →
           AnswersRecord happens now fields new taken later (Ok b) → AreRenewal new renewal →
-          RenewedBy happens later renewal on → last_events next ≡ Ended ∷ []
+          happens later (Renewed renewal) on → last_events next ≡ Ended ∷ []
           → ((os : List Outcome) (o : Outcome) → is_ok o ≡ b → Going stop end os → Going stop next (os ++ o ∷ []))
           → SoFar happens stop old before new on next (n + 1)
       one_more next b renewal on reported are renewed last goes =
@@ -276,7 +275,7 @@ module _ {S : Type 0} (happens : S → Event → S → Type 0) (stop : Bool) (ol
       cut_in_answer e base reported =
           let more =
           answered_on stop (λ os. ⊤) (λ os. ⊤) old new _ _ _ base
-          (answers_more (λ os. ⊤) (Err e) reported None (λ t h. tt) (λ os o is g. tt)) (λ os h. h) in
+          (answers_more (λ os. ⊤) (Err e) reported Unasked (λ t h. tt) (λ os o is g. tt)) (λ os h. h) in
           elim reported.writes [
             | inl none ↦
                 No_text none.0 a.records a.texts a.renewals a.each a.each_renewal fields reported.text
@@ -285,7 +284,7 @@ module _ {S : Type 0} (happens : S → Event → S → Type 0) (stop : Bool) (ol
                 In_text cut.5 a.records a.texts a.renewals a.each a.each_renewal fields cut.0 cut.1 cut.3
                 (and_then later (Took fields ∷ Cut cut.0 cut.1 ∷ []) (taken, took, (later, cut.4, refl)))
                 (subst (λ (text : List ℕ).
-                AnsweredOn stop (λ os. ⊤) old (a.records ++ fields ∷ []) (a.texts ++ text ∷ []) (a.renewals ++ None ∷ []) new) cut.2 more)
+                AnsweredOn stop (λ os. ⊤) old (a.records ++ fields ∷ []) (a.texts ++ text ∷ []) (a.renewals ++ Unasked ∷ []) new) cut.2 more)
           ]
 
 -- a fault that `?` passes on

@@ -1,13 +1,13 @@
 -- The end of a run once its answers were sent, or could not be, with what is known of its outcomes from more.
-use Rattle.olr_run.proofs.Common.{Field, Keeps, Known, LeadsOn, Outcome, Records, RanOn, FaultedOn, Registered, RunFault}
-use Rattle.olr_run.proofs.Common.{status_of}
+use Rattle.olr_run.proofs.Common.{Field, Keeps, Known, LeadsOn, Outcome, Records, RanOn, FaultedOn, Registered}
+use Rattle.olr_run.proofs.Common.{RunFault, status_of}
 use Rattle.std.proofs.Common.{◌≡◌, ℕ, Bool, List, None, Some}
 use Rattle.std.proofs.KnownBytes.{Appends-kept}
 use Rattle.olr_commands.specs.State.{State}
 use Rattle.olr_run.specs.Output.{Faulted, Ran}
 use Rattle.olr_run.specs.Output as output
-use Rattle.olr_sessions.specs.declared.ends.RunFault.TheVariants as fault
-use Rattle.olr_sessions.specs.declared.ends.Status.{Status}
+use Rattle.olr_input.specs.declared.ends.RunFault.TheVariants as fault
+use Rattle.olr_input.specs.declared.ends.Status.{Status}
 
 module _ (Before After : State → List (List Field) → List Outcome → State → Type 0)
     (f : (s : State) (rs : List (List Field)) (os : List Outcome) (t : State) → Before s rs os t → After s rs os t)

@@ -11,12 +11,12 @@ use Rattle.olr_arguments.specs.Options.{Options, keep_app, options}
 use Rattle.olr_register.specs.Registered.{Registered}
 use Rattle.olr_run.specs.Output.{Claims}
 use Rattle.olr_run.specs.Runs.{input_records, records_read, RanOn, FaultedOn, HasTooMany}
-use Rattle.olr_sessions.specs.Inputs.{read_as}
-use Rattle.olr_sessions.specs.Sessions.{Known}
-use Rattle.olr_sessions.specs.Statuses.{exit_code}
-use Rattle.olr_sessions.specs.declared.ends.RunFault.{RunFault}
-use Rattle.olr_sessions.specs.declared.ends.RunFault.TheVariants as fault
-use Rattle.olr_sessions.specs.declared.ends.Status.{Status}
+use Rattle.olr_input.specs.Inputs.{read_as}
+use Rattle.olr_input.specs.Sessions.{Known}
+use Rattle.olr_input.specs.Statuses.{exit_code}
+use Rattle.olr_input.specs.declared.ends.RunFault.{RunFault}
+use Rattle.olr_input.specs.declared.ends.RunFault.TheVariants as fault
+use Rattle.olr_input.specs.declared.ends.Status.{Status}
 
 -- it ends as it ended, or with a fault of writing in place of a status
 abbrev pub SendsAnswers : Result Status RunFault → Known → Known → Result Status RunFault → Type 0

@@ -12,9 +12,9 @@ use Rattle.sqlite_disk.specs.declared.Disk as disk
 use Rattle.olr_commands.specs.Dump.{dump_lines}
 use Rattle.olr_commands.specs.Reply.{Outcome}
 use Rattle.olr_commands.specs.State.{Content, State}
-use Rattle.olr_journal.specs.Logs.{kept_of, left_of, is_own_of, is_clean}
-use Rattle.olr_journal.specs.declared.folder.Folder as folder
-use Rattle.olr_journal.specs.declared.log_file.LogFile.{LogFile}
+use Rattle.olr_log.specs.Logs.{kept_of, left_of, is_own_of, is_clean}
+use Rattle.olr_log.specs.declared.folder.Folder as folder
+use Rattle.olr_log.specs.declared.log_file.LogFile.{LogFile}
 use Rattle.olr_records.specs.Records.{Field}
 use Rattle.olr_register.specs.RegisterState.{Represents}
 use Rattle.olr_register.specs.Registered.{Registered}
@@ -24,9 +24,9 @@ use Rattle.olr_run.specs.Output.{Claims}
 use Rattle.olr_run.specs.Restored.{IsContentOf}
 use Rattle.olr_run.specs.declared.starts.StartFault.{StartFault}
 use Rattle.olr_run.specs.declared.starts.StartFault.TheVariants as start
-use Rattle.olr_sessions.specs.Journals.{Only}
-use Rattle.olr_sessions.specs.Sessions.{Known}
-use Rattle.olr_sessions.specs.declared.buffered.Buffered.{Buffered}
+use Rattle.olr_input.specs.Journals.{Only}
+use Rattle.olr_input.specs.Sessions.{Known}
+use Rattle.olr_input.specs.declared.buffered.Buffered.{Buffered}
 
 abbrev pub AreRecordsOf : Registered → List ℕ → Type 0
 AreRecordsOf register text = (c : Content) → Represents register.kept (closed c) → text ≡ concat (dump_lines c)

@@ -16,14 +16,14 @@ use Rattle.olr_register.specs.Registered.{Registered}
 use Rattle.olr_run.specs.Logged.{closed, Leads, UpTo, Survives}
 use Rattle.olr_run.specs.Output.{Claims, SoundOutcomes, texts}
 use Rattle.olr_run.specs.Runs.{EndedOn, Records}
-use Rattle.olr_sessions.specs.Buffers.{held, written}
-use Rattle.olr_sessions.specs.Gates.{is_closed, ready, batch}
-use Rattle.olr_sessions.specs.Journals.{IsFront, Only}
-use Rattle.olr_sessions.specs.Sessions.{Known}
-use Rattle.olr_sessions.specs.declared.buffered.Buffered.{Buffered}
-use Rattle.olr_sessions.specs.declared.ends.RunFault.{RunFault}
-use Rattle.olr_sessions.specs.declared.ends.Status.{Status}
-use Rattle.olr_sessions.specs.declared.gate.Gate.{Gate}
+use Rattle.olr_input.specs.Buffers.{held, written}
+use Rattle.olr_input.specs.Gates.{is_closed, ready, batch}
+use Rattle.olr_input.specs.Journals.{IsFront, Only}
+use Rattle.olr_input.specs.Sessions.{Known}
+use Rattle.olr_input.specs.declared.buffered.Buffered.{Buffered}
+use Rattle.olr_input.specs.declared.ends.RunFault.{RunFault}
+use Rattle.olr_input.specs.declared.ends.Status.{Status}
+use Rattle.olr_input.specs.declared.gate.Gate.{Gate}
 
 -- the records of the lines open a batch and make its changes
 pub record BatchLines (c : Content) (xs : List Change) (text : List ℕ) : Type 0 where

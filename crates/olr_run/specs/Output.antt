@@ -23,8 +23,8 @@ use Rattle.olr_commands.specs.History.{Run, Headline}
 use Rattle.olr_records.specs.Records.{Field, ReadFault, read, read_fault, TakesMemory}
 use Rattle.olr_records.specs.Recorded.{StaysRecorded}
 use Rattle.olr_records.specs.ReplyText.{count_line, reply_text, outcome_text}
-use Rattle.olr_sessions.specs.declared.ends.RunFault.{RunFault}
-use Rattle.olr_sessions.specs.declared.ends.RunFault.TheVariants as fault
+use Rattle.olr_input.specs.declared.ends.RunFault.{RunFault}
+use Rattle.olr_input.specs.declared.ends.RunFault.TheVariants as fault
 
 -- with commas, quotes and line ends as is csv's default, no header, and any number of fields
 abbrev pub records_of : List ℕ → List (List Field)

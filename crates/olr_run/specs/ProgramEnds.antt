@@ -9,26 +9,27 @@ use Rattle.olr_arguments.specs.Explains.{Explains}
 use Rattle.olr_arguments.specs.Opens.{IsFile}
 use Rattle.olr_arguments.specs.Options.{Options, keep_app, options}
 use Rattle.olr_arguments.specs.Sizes.{IsLength, NoSize}
-use Rattle.olr_journal.specs.declared.folder.Folder as folder
-use Rattle.olr_journal.specs.declared.log_file.LogFile.{LogFile}
-use Rattle.olr_journal.specs.declared.place.OpenError.{OpenError}
-use Rattle.olr_journal.specs.declared.place.OpenError.TheVariants as unopened
+use Rattle.olr_log.specs.declared.folder.Folder as folder
+use Rattle.olr_log.specs.declared.log_file.LogFile.{LogFile}
+use Rattle.olr_log.specs.declared.place.OpenError.{OpenError}
+use Rattle.olr_log.specs.declared.place.OpenError.TheVariants as unopened
 use Rattle.olr_register.specs.Registered.{Registered}
 use Rattle.olr_run.specs.LogEnds.{Begins, LastsOn, Unbegun}
 use Rattle.olr_run.specs.Runs.{Records, RanOn, FaultedOn, records_read}
 use Rattle.std.specs.Result.{result_ok}
-use Rattle.olr_sessions.specs.Buffers.{written}
-use Rattle.olr_sessions.specs.Sessions.{Known}
-use Rattle.olr_sessions.specs.Statuses.{exit_code}
-use Rattle.olr_sessions.specs.declared.buffered.Buffered.{Buffered}
-use Rattle.olr_sessions.specs.declared.ends.RunFault.{RunFault}
-use Rattle.olr_sessions.specs.declared.ends.Status.{Status}
+use Rattle.olr_input.specs.Buffers.{written}
+use Rattle.olr_input.specs.Sessions.{Known}
+use Rattle.olr_input.specs.Statuses.{exit_code}
+use Rattle.olr_input.specs.declared.buffered.Buffered.{Buffered}
+use Rattle.olr_input.specs.declared.ends.RunFault.{RunFault}
+use Rattle.olr_input.specs.declared.ends.Status.{Status}
 
 -- of a log that can't be opened
 abbrev pub UnopenedCode : OpenError → ℕ → Type 0
 UnopenedCode unopened.Missing code = code ≡ 2
 UnopenedCode unopened.Exists code = code ≡ 2
 UnopenedCode (unopened.InUse process) code = code ≡ 7
+UnopenedCode (unopened.Lock error) code = code ≡ 3
 UnopenedCode (unopened.Io error) code = (code ≡ 3) ⊎ (code ≡ 4)
 
 -- of a log from which no run began: 5 exactly if it was rejected

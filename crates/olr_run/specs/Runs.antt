@@ -1,7 +1,7 @@
 -- Runs on a register in terms of Rust's values: in a session, and by the known bytes of a reader and a writer.
 --     CarriedOut old fields new r      the effect of a record on the register, and its answer
 --     AnswersRecord      the same, and its text was written
---     IsRenewal t renewal      no records were given, or those of the content
+--     IsRenewal t renewal      the records that were given are those of the content
 --     RanIn, CutIn      a run in a session: each record was taken and answered before the next
 --     input_records known      the records of known bytes
 --     both_records file input      those of a file followed by those of the input
@@ -25,14 +25,15 @@ use Rattle.olr_register.specs.Registered.{Registered}
 use Rattle.olr_run.specs.Output as output
 use Rattle.olr_run.specs.Output.{SoundOutcome, Claims, StopsAtFault, any_refused, run_status, Ran, Faulted, records_of}
 use Rattle.olr_run.specs.Output.{most_records}
-use Rattle.olr_sessions.specs.Inputs.{read_as}
-use Rattle.olr_sessions.specs.Sessions.{Known, Event, Took, Ended, Not_taken, Wrote, Cut, Renewed, History, exchanges}
-use Rattle.olr_sessions.specs.Sessions.{IsOfTaking}
-use Rattle.olr_sessions.specs.Sessions as event
-use Rattle.olr_sessions.specs.declared.ends.RunFault.{RunFault}
-use Rattle.olr_sessions.specs.declared.ends.RunFault.TheVariants as fault
-use Rattle.olr_sessions.specs.declared.ends.Status.{Status}
-use Rattle.olr_sessions.specs.declared.ends.Status.TheVariants as status
+use Rattle.olr_input.specs.Inputs.{read_as}
+use Rattle.olr_input.specs.Sessions.{Known, Event, Took, Ended, Not_taken, Wrote, Cut, Renewal, Unasked, Given, Lacking}
+use Rattle.olr_input.specs.Sessions.{Renewed, History, exchanges}
+use Rattle.olr_input.specs.Sessions.{IsOfTaking}
+use Rattle.olr_input.specs.Sessions as event
+use Rattle.olr_input.specs.declared.ends.RunFault.{RunFault}
+use Rattle.olr_input.specs.declared.ends.RunFault.TheVariants as fault
+use Rattle.olr_input.specs.declared.ends.Status.{Status}
+use Rattle.olr_input.specs.declared.ends.Status.TheVariants as status
 
 -- ---- one record
 
@@ -75,23 +76,20 @@ pub record AnswersRecord {S : Type 0} (happens : S → Event → S → Type 0) (
       × Represents new.kept t
       × SoundOutcome s fields o t × (outcome_text o ≡ text) × (is_ok o ≡ accepts)
 
--- no records are given to be kept in the place of a log, or those of the content, while no batch is open
-abbrev pub IsRenewal : State → Option (List ℕ) → Type 0
-IsRenewal t None = ⊤
-IsRenewal t (Some records) = (t.batch ≡ None) × (records ≡ concat (dump_lines t.content))
+-- the records that are given, to be kept in the place of a log, are those of the content, while no batch is open
+abbrev pub IsRenewal : State → Renewal → Type 0
+IsRenewal t Unasked = ⊤
+IsRenewal t (Given records) = (t.batch ≡ None) × (records ≡ concat (dump_lines t.content))
+IsRenewal t Lacking = ⊤
 
--- the records of the register were given to be kept in the place of a log, or none were
-abbrev pub RenewedBy : {S : Type 0} → (S → Event → S → Type 0) → S → Option (List ℕ) → S → Type 0
-RenewedBy happens before None later = before ≡ later
-RenewedBy happens before (Some records) later = happens before (Renewed records) later
-
-abbrev pub AreRenewal : Registered → Option (List ℕ) → Type 0
+abbrev pub AreRenewal : Registered → Renewal → Type 0
 AreRenewal register renewal = (t : State) → Represents register.kept t → IsRenewal t renewal
 
+-- the records of the register were given if they were asked for, or it was said that they are lacking
 abbrev pub RenewsFrom : {S W : Type 0} → (S × W → Event → S × W → Type 0) → Registered → S → S → Type 0
 RenewsFrom {S} {W} happens register before later =
-    (renewal : Option (List ℕ)) × AreRenewal register renewal
-    × ((output : W) → RenewedBy happens (before, output) renewal (later, output))
+    (renewal : Renewal) × AreRenewal register renewal
+    × ((output : W) → happens (before, output) (Renewed renewal) (later, output))
 
 -- ---- runs in a session
 
@@ -100,16 +98,16 @@ status_of status.AllAccepted = output.All_accepted
 status_of status.SomeRefused = output.Some_refused
 status_of status.Stopped = output.Stopped
 
-abbrev pub OutcomesRenewed : State → List (List Field) → List Outcome → List (Option (List ℕ)) → State → Type 0
+abbrev pub OutcomesRenewed : State → List (List Field) → List Outcome → List Renewal → State → Type 0
 OutcomesRenewed s rs [] [] t = s ≡ t
 OutcomesRenewed s (r ∷ rs) (o ∷ os) (renewal ∷ renewals) t =
     (mid : State) × SoundOutcome s r o mid × IsRenewal mid renewal × OutcomesRenewed mid rs os renewals t
 OutcomesRenewed s rs os renewals t = ⊥
 
 -- from each state that the register represented, these records have outcomes of these texts, and lead to a state that
--- it represents; after some of them the records of the content are given
+-- it represents; after each of them the records of the content are given, if they are asked for
 abbrev pub AnsweredOn : Bool → (List Outcome → Type 0) → Registered → List (List Field) → List (List ℕ) →
-    List (Option (List ℕ)) → Registered → Type 0
+    List Renewal → Registered → Type 0
 AnsweredOn stop And old rs texts renewals new =
     (s : State) → Represents old.kept s → (t : State) × Represents new.kept t × (os : List Outcome) × Claims s rs os t
     × (map outcome_text os ≡ texts) × StopsAtFault stop os × And os × OutcomesRenewed s rs os renewals t
@@ -124,7 +122,7 @@ pub record RanIn {S : Type 0} (happens : S → Event → S → Type 0) (stop : B
     (new : Registered) (later : S) (end : Status) : Type 0 where
   pub records : List (List Field)
   pub texts : List (List ℕ)
-  pub renewals : List (Option (List ℕ))
+  pub renewals : List Renewal
   pub each : length texts ≡ length records
   pub each_renewal : length renewals ≡ length records
   pub history : History happens before (exchanges records texts renewals ++ last_events end) later
@@ -134,33 +132,33 @@ pub record RanIn {S : Type 0} (happens : S → Event → S → Type 0) (stop : B
 -- greatest number; or up to a record whose text was not made, out of memory, or not written completely
 pub data CutIn {S : Type 0} (happens : S → Event → S → Type 0) (stop : Bool) (old : Registered) (before : S)
     (new : Registered) (later : S) (e : RunFault) : Type 0 where
-  In_taking : IsOfTaking e → (rs : List (List Field)) (texts : List (List ℕ)) (renewals : List (Option (List ℕ))) →
+  In_taking : IsOfTaking e → (rs : List (List Field)) (texts : List (List ℕ)) (renewals : List Renewal) →
       length texts ≡ length rs → length renewals ≡ length rs →
       History happens before (exchanges rs texts renewals ++ Not_taken e ∷ []) later
       → AnsweredOn stop (λ os. IsFalse (stop && any_refused os)) old rs texts renewals new
       → CutIn happens stop old before new later e
-  Not_sent : e ≡ fault.Write → (rs : List (List Field)) (texts : List (List ℕ)) (renewals : List (Option (List ℕ))) →
+  Not_sent : e ≡ fault.Write → (rs : List (List Field)) (texts : List (List ℕ)) (renewals : List Renewal) →
       length texts ≡ length rs → length renewals ≡ length rs →
       History happens before (exchanges rs texts renewals ++ event.Not_sent ∷ []) later
       → AnsweredOn stop (λ os. IsFalse (stop && any_refused os)) old rs texts renewals new
       → CutIn happens stop old before new later e
-  Past_the_most : e ≡ fault.TooMany → (rs : List (List Field)) (texts : List (List ℕ)) (renewals : List (Option (List ℕ))) →
+  Past_the_most : e ≡ fault.TooMany → (rs : List (List Field)) (texts : List (List ℕ)) (renewals : List Renewal) →
       length texts ≡ length rs → length renewals ≡ length rs →
       length rs ≡ most_records → (r : List Field) → History happens before (exchanges rs texts renewals ++ Took r ∷ []) later
       → AnsweredOn stop (λ os. IsFalse (stop && any_refused os)) old rs texts renewals new
       → CutIn happens stop old before new later e
-  No_text : e ≡ fault.Memory → (rs : List (List Field)) (texts : List (List ℕ)) (renewals : List (Option (List ℕ))) →
+  No_text : e ≡ fault.Memory → (rs : List (List Field)) (texts : List (List ℕ)) (renewals : List Renewal) →
       length texts ≡ length rs → length renewals ≡ length rs →
       (r : List Field) (text : List ℕ) → History happens before (exchanges rs texts renewals ++ Took r ∷ []) later
       → AnsweredOn stop (λ os. ⊤) old (rs ++ r ∷ []) (texts ++ text ∷ [])
-      (renewals ++ None ∷ []) new
+      (renewals ++ Unasked ∷ []) new
       → CutIn happens stop old before new later e
-  In_text : e ≡ fault.Write → (rs : List (List Field)) (texts : List (List ℕ)) (renewals : List (Option (List ℕ))) →
+  In_text : e ≡ fault.Write → (rs : List (List Field)) (texts : List (List ℕ)) (renewals : List Renewal) →
       length texts ≡ length rs → length renewals ≡ length rs →
       (r : List Field) (front rest : List ℕ) → rest ≢ []
       → History happens before (exchanges rs texts renewals ++ Took r ∷ Cut front rest ∷ []) later
       → AnsweredOn stop (λ os. ⊤) old (rs ++ r ∷ []) (texts ++ (front ++ rest) ∷ [])
-      (renewals ++ None ∷ []) new
+      (renewals ++ Unasked ∷ []) new
       → CutIn happens stop old before new later e
 
 -- ---- runs over known records

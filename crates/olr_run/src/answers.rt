@@ -1,19 +1,20 @@
 //! The answer to one record.
 
-ghost use Rattle.std.specs.Prelude.{◌≡◌, ◌≢◌, ◌++◌, length, Ok, Some, IfOk, OnOk, is_ok};
+ghost use Rattle.std.specs.Prelude.{◌≡◌, ◌≢◌, ◌++◌, length, Ok, IfOk, OnOk, is_ok};
 ghost use Rattle.csv.specs.Records.{fields_of};
 ghost use Rattle.olr_commands.specs.State.{Explain, Report};
 ghost use Rattle.olr_records.specs.Records.{read};
+ghost use Rattle.olr_input.specs.Sessions.{Given};
 ghost use Rattle.olr_run.specs.Runs.{CarriedOut, IsReport, answer_text, WritesText, AnswersRecord, AreRenewal, RenewsFrom};
 
 use csv::ByteRecord;
 use olr_commands::{CommandFault, Reply};
+use olr_input::{RunFault, Session};
 use olr_records::{
     append_count, append_entry, append_reply, dump_text, fault_text, is_report, read_command,
     read_fault_text, text_to_explain,
 };
 use olr_register::Register;
-use olr_sessions::{RunFault, Session};
 use std::alloc::{AllocError, Global};
 
 /// Carries out a record that decodes to the command `explain` with this text, which isn't copied.
@@ -128,7 +129,7 @@ fn write_report<W, S: Session<W>>(
 
 /// The records of the register, as a text. There are none while a batch is open.
 pub fn records_text(register: &Register) -> Result<Vec<u8>, CommandFault>
-    ensures { IfOk result (λ text. AreRenewal register.now (Some text.items)) }
+    ensures { IfOk result (λ text. AreRenewal register.now (Given text.items)) }
 {
     match register.dump() {
         Ok(Reply::Dump(dump)) => Ok(dump.text),
@@ -137,17 +138,17 @@ pub fn records_text(register: &Register) -> Result<Vec<u8>, CommandFault>
     }
 }
 
-/// Gives the records of the register to a session that wants them, unless a batch is open, or memory runs out.
+/// Gives the records of the register to a session that asks for them. If they can't be made, the session says so.
 pub fn renew<W, S: Session<W>>(register: &Register, session: &mut S)
     ensures { RenewsFrom S.happens register.now session.old session.new }
 {
     if !session.wants_records() {
         return;
     }
-    let Ok(text) = records_text(register) else {
-        return;
-    };
-    session.renew(text.as_slice());
+    match records_text(register) {
+        Ok(text) => session.renew(text.as_slice()),
+        Err(_fault) => session.lack_records(),
+    }
 }
 
 /// Carries out the command of a record and writes the answer, whose text is made in `text`. Returns whether the command

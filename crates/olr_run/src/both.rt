@@ -3,12 +3,12 @@
 ghost use Rattle.std.specs.Prelude.{◌≡◌, ◌⊎◌, IfOk, IfErr};
 ghost use Rattle.olr_run.specs.Output.{greater, Claims};
 ghost use Rattle.olr_run.specs.Runs.{both_records, file_bytes, input_records, records_read, status_of, EndedOn, HasTooMany};
-ghost use Rattle.olr_sessions.specs.Inputs.{read_as, read_from};
+ghost use Rattle.olr_input.specs.Inputs.{read_as, read_from};
 
 use crate::records::run;
 use olr_arguments::Options;
+use olr_input::{Input, RunFault, Status};
 use olr_register::Register;
-use olr_sessions::{Input, RunFault, Status};
 use std::alloc::{AllocError, Global};
 use std::io::{Read, Write};
 

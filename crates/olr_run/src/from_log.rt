@@ -3,22 +3,22 @@
 ghost use Rattle.std.specs.Prelude.{◌≡◌, ◌≤◌, ◌⊎◌, ℕ, List, [], Ok, Err, true, length, IfOk, IfErr, IsTrue, is_ok};
 ghost use Rattle.olr_arguments.specs.Opens.{Opens};
 ghost use Rattle.olr_arguments.specs.Options.{options_of};
-ghost use Rattle.olr_journal.specs.Logs.{kept_of, left_of};
+ghost use Rattle.olr_log.specs.Logs.{kept_of, left_of};
 ghost use Rattle.olr_run.specs.LogEnds.{is_rejected};
 ghost use Rattle.olr_run.specs.ProgramEnds.{FromLog, LogEnds, UnbegunCode, UnopenedCode, ended_code};
 ghost use Rattle.olr_run.specs.Runs.{both_records, file_bytes};
-ghost use Rattle.olr_sessions.specs.Buffers.{held};
-ghost use Rattle.olr_sessions.specs.Statuses.{exit_code};
-ghost use Rattle.olr_sessions.specs.Sessions.{most_held};
+ghost use Rattle.olr_input.specs.Buffers.{held};
+ghost use Rattle.olr_input.specs.Statuses.{exit_code};
+ghost use Rattle.olr_input.specs.Sessions.{most_held};
 
 use crate::both::read_inputs;
 use crate::logged::run_with_log;
 use crate::starts::{RejectedRecord, StartFault, begin_with};
 use crate::streams::NO_FILE;
 use olr_arguments::{CompactionLength, Options, WRONG_ARGUMENTS, compaction_length, open_file};
-use olr_journal::{Folder, LogFile, OpenError};
+use olr_input::{Buffered, LogFault, RunFault, Status, end_status, report_fault};
+use olr_log::{Folder, LogFile, OpenError};
 use olr_register::Register;
-use olr_sessions::{Buffered, LogFault, RunFault, Status, end_status, report_fault};
 use sqlite_disk::Disk;
 use std::alloc::Global;
 use std::io::{self, Read, Write};
@@ -60,6 +60,10 @@ fn report_unopened<E: Write>(name: &str, error: OpenError, errors: &mut E) -> u8
         OpenError::InUse(None) => {
             let _ = writeln!(errors, "olr-keep: {name} is in use by another process");
             IN_USE
+        }
+        OpenError::Lock(error) => {
+            let _ = writeln!(errors, "olr-keep: the lock file of {name}: {error}");
+            NO_LOG
         }
         OpenError::Io(error) => report_unusable(name, error, errors),
     }

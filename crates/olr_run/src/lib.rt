@@ -14,7 +14,7 @@ pub use both::run_both;
 pub use loader::{RestoreFault, restore};
 pub use logged::run_with_log;
 pub use olr_arguments::{CompactionLength, WRONG_ARGUMENTS, compaction_length};
-pub use olr_sessions::{
+pub use olr_input::{
     Buffered, Gate, Journal, LogFault, RunFault, Session, Status, exit_code, report_fault,
 };
 pub use records::{Room, run, run_bytes, run_session};

@@ -1,28 +1,26 @@
 //! A start from a log.
 
-ghost use Rattle.std.specs.Prelude.{◌≡◌, ◌<◌, ◌≤◌, true, IfOk, IfErr, OnOk};
+ghost use Rattle.std.specs.Prelude.{◌≡◌, true, IfOk, IfErr, OnOk};
 ghost use Rattle.csv.specs.Records.{fields_of};
 ghost use Rattle.olr_commands.specs.State as state;
 ghost use Rattle.olr_commands.specs.State.{start_state, Content, Begin, Commit};
 ghost use Rattle.olr_commands.specs.Words.{command_of, command_fault_of};
+ghost use Rattle.olr_register.specs.Built.{Changes, EncodedOnce, IsChange};
 ghost use Rattle.olr_register.specs.RegisterState.{Represents};
 ghost use Rattle.olr_run.specs.Logged.{closed, IsKept, Leads};
-ghost use Rattle.olr_run.specs.Restored.{IsChange, IsContentOf, Loaded, Loads, LoadsRecord, NeverSteps, Refuses, RefusesRecord, Steps, is_rejection, kind_by};
+ghost use Rattle.olr_run.specs.Restored.{IsContentOf, Loaded, Loads, LoadsRecord, NeverChanges, Refuses, RefusesRecord, is_rejection, kind_by};
 ghost use Rattle.olr_run.specs.declared.loader.RestoreFault.TheVariants as restore;
 
 use csv::ByteRecord;
 use olr_commands::{Command, CommandFault};
+use olr_input::{InMemory, RunFault, Source};
 use olr_records::{ReadFault, fault_text, read_command, read_fault_text};
-use olr_register::Register;
-use olr_sessions::{InMemory, RunFault, Source};
+use olr_register::{Building, Register};
 use std::alloc::Global;
 use thiserror::Error;
 
 /// The greatest number of changes in a batch.
 const FULL: u32 = 100_000;
-
-/// The same of the register's own batch while it has no path. A large one costs more for each change, and saves encodings alone.
-const FULL_WITHOUT_PATHS: u32 = 1_000;
 
 /// The greatest number of records of a log, 2^40.
 const MOST_RECORDS: u64 = 1 << 40;
@@ -56,13 +54,11 @@ impl From<RunFault> for RestoreFault {
     }
 }
 
-/// A register on its way to the content of a log. A batch of its own is always open, and batches of the log join it: so
-/// each path is encoded once a batch, and not after each edit.
+/// A register on its way to the content of a log. The changes of the log's batches are made as they come, too: a log that
+/// ends in a batch gives no register.
 #[derive(Drop)]
 pub struct Loader {
-    register: Register,
-    /// How many changes the register's batch holds.
-    held: u32,
+    building: Building,
     /// Whether a batch of the log is open.
     in_batch: bool,
     /// How many changes it holds.
@@ -110,90 +106,45 @@ fn kind_of(command: &Command) -> Kind
     }
 }
 
-/// Carries out a command, which has to be accepted.
-fn apply(register: &mut Register, command: Command) -> Result<(), RestoreFault>
-    ensures steps { OnOk result (Steps register.old (command_of command) register.new) }
-    ensures refused { IfErr result (λ e. is_rejection e ≡ true → NeverSteps register.old (command_of command)) }
+/// Makes a change, which has to be accepted.
+fn change(building: &mut Building, command: Command) -> Result<(), RestoreFault>
+    requires { IsChange (command_of command) }
+    ensures made { OnOk result (Changes building.old (command_of command) building.new) }
+    ensures refused { IfErr result (λ e. is_rejection e ≡ true → NeverChanges building.old (command_of command)) }
 {
-    match register.apply(command) {
-        Ok(reply) => {
-            drop(reply);
-            Ok(())
-        }
+    match building.change(command) {
+        Ok(()) => Ok(()),
         Err(fault) => Err(restore_fault(fault)),
     }
 }
 
 impl Loader {
-    /// Before the first record.
-    fn new(alloc: Global) -> Result<Loader, RestoreFault>
-        ensures loads { IfOk result (λ l. Loads l start_state) }
-        ensures fails { IfErr result (λ e. is_rejection e ≡ true → ⊥) }
+    /// Before the first record. Takes no memory.
+    fn new(alloc: Global) -> Loader
+        ensures { Loads result start_state }
     {
-        let mut register = Register::new(alloc);
-        apply(&mut register, Command::Begin)?;
-        Ok(Loader {
-            register,
-            held: 0,
+        Loader {
+            building: Building::new(alloc),
             in_batch: false,
             count: 0,
-        })
-    }
-
-    /// Accepts the register's batch, and opens another.
-    fn renew(&mut self) -> Result<(), RestoreFault>
-        ensures loads { OnOk result ((s : state.State) → Loads self.old s → Loads self.new s) }
-        ensures held { OnOk result (self.new.held ≡ 0) }
-        ensures fails { IfErr result (λ e. (s : state.State) → Loads self.old s → is_rejection e ≡ true → ⊥) }
-    {
-        apply(&mut self.register, Command::Commit(self.held))?;
-        apply(&mut self.register, Command::Begin)?;
-        self.held = 0;
-        Ok(())
-    }
-
-    /// Makes a change, which the register's batch has room for.
-    fn make(&mut self, command: Command) -> Result<(), RestoreFault>
-        requires change { IsChange (command_of command) }
-        requires room { self.old.held < 100000 }
-        ensures loaded { OnOk result (Loaded self.old (command_of command) self.new) }
-        ensures refused { IfErr result (λ e. is_rejection e ≡ true → Refuses self.old (command_of command)) }
-    {
-        if !self.in_batch {
-            apply(&mut self.register, command)?;
-            self.held += 1;
-            return Ok(());
         }
-        if self.count >= FULL {
-            return Err(rejected(CommandFault::BatchFull));
-        }
-        apply(&mut self.register, command)?;
-        self.held += 1;
-        self.count += 1;
-        Ok(())
     }
 
-    /// How many changes the register's batch may hold.
-    fn most_held(&self) -> u32
-        ensures { result ≤ 100000 }
-    {
-        if self.register.is_empty() {
-            return FULL_WITHOUT_PATHS;
-        }
-        FULL
-    }
-
-    /// Makes a change. A full batch of the register is accepted first.
+    /// Makes a change, which the log's batch has to have room for, if one is open.
     fn change(&mut self, command: Command) -> Result<(), RestoreFault>
         requires { IsChange (command_of command) }
         ensures loaded { OnOk result (Loaded self.old (command_of command) self.new) }
         ensures refused { IfErr result (λ e. is_rejection e ≡ true → Refuses self.old (command_of command)) }
     {
-        if self.held < self.most_held() {
-            return self.make(command);
+        if !self.in_batch {
+            return change(&mut self.building, command);
         }
-        self.renew()?;
-        self.make(command)
+        if self.count >= FULL {
+            return Err(rejected(CommandFault::BatchFull));
+        }
+        change(&mut self.building, command)?;
+        self.count += 1;
+        Ok(())
     }
 
     /// A batch of the log begins.
@@ -254,20 +205,22 @@ impl Loader {
     fn finish(self) -> Result<Register, RestoreFault>
         ensures finished { IfOk result (λ r. (s : state.State) → Loads self s
             → (c : Content) × (s ≡ closed c) × Represents r.kept (closed c)) }
+        ensures counted { IfOk result (λ r. EncodedOnce r) }
         ensures refused { IfErr result (λ e. is_rejection e ≡ true
             → (s : state.State) → Loads self s → (c : Content) → s ≡ closed c → ⊥) }
     {
         let Loader {
-            mut register,
-            held,
+            building,
             in_batch,
             count: _,
         } = self;
         if in_batch {
             return Err(RestoreFault::Open);
         }
-        apply(&mut register, Command::Commit(held))?;
-        Ok(register)
+        match building.finish() {
+            Ok(register) => Ok(register),
+            Err(_) => Err(RestoreFault::Memory),
+        }
     }
 }
 
@@ -291,12 +244,13 @@ impl Progress {
 }
 
 /// The register with the content of a log: that to which its records lead from the empty register, each accepted, with no
-/// batch open at the end. `count` has the number of records that were taken: after a fault, the number of the record that
-/// is rejected. A log holds changes, `begin` and `commit`, and no other records. One that leads to a content is rejected only out
+/// batch open at the end. Each of its paths is encoded once. `count` has the number of records that were taken: after a fault,
+/// the number of the record that is rejected. A log holds changes, `begin` and `commit`, and no other records. One that leads to a content is rejected only out
 /// of memory, or if it has more than 2^40 records.
 pub fn restore(alloc: Global, text: &[u8], count: &mut u64) -> Result<Register, RestoreFault>
     ensures content { IfOk result (λ r. (c : Content) × IsContentOf text.now c × Represents r.kept (closed c)) }
     ensures leads { IfOk result (λ r. (c : Content) → Leads text.now c → Represents r.kept (closed c)) }
+    ensures counted { IfOk result (λ r. EncodedOnce r) }
     ensures refused { IfErr result (λ e. is_rejection e ≡ true → (c : Content) → IsContentOf text.now c → ⊥) }
 {
     let mut progress = Progress::none();
@@ -313,9 +267,10 @@ pub(crate) fn restore_noting(
 ) -> Result<Register, RestoreFault>
     ensures content { IfOk result (λ r. (c : Content) × IsContentOf text.now c × Represents r.kept (closed c)) }
     ensures leads { IfOk result (λ r. (c : Content) → Leads text.now c → Represents r.kept (closed c)) }
+    ensures counted { IfOk result (λ r. EncodedOnce r) }
     ensures refused { IfErr result (λ e. is_rejection e ≡ true → (c : Content) → IsContentOf text.now c → ⊥) }
 {
-    let mut loader = Loader::new(alloc)?;
+    let mut loader = Loader::new(alloc);
     let mut records = InMemory::new(alloc, text);
     let mut fields = ByteRecord::new(alloc);
     let mut taken: u64 = 0;

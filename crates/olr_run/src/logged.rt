@@ -3,14 +3,14 @@
 ghost use Rattle.std.specs.Prelude.{◌≡◌, ◌⊎◌, [], IfOk, IfErr, OnOk};
 ghost use Rattle.olr_run.specs.Logs.{LoggedOn, LastsWhole, LastsCut};
 ghost use Rattle.olr_run.specs.Runs.{both_records, file_bytes, input_records, once_sent, EndedOn, HasTooMany};
-ghost use Rattle.olr_sessions.specs.Buffers.{held, written};
-ghost use Rattle.olr_sessions.specs.Gates.{compaction};
+ghost use Rattle.olr_input.specs.Buffers.{held, written};
+ghost use Rattle.olr_input.specs.Gates.{compaction};
 
 use crate::both::greater_of;
 use crate::records::run_session;
 use olr_arguments::CompactionLength;
+use olr_input::{Buffered, Gate, Journal, Logged, Records, RunFault, Status};
 use olr_register::Register;
-use olr_sessions::{Buffered, Gate, Journal, Logged, Records, RunFault, Status};
 use std::alloc::Global;
 use std::io::{Read, Write};
 

@@ -6,8 +6,8 @@ ghost use Rattle.olr_run.specs.Runs.{input_records, RanIn, CutIn, EndedOn, HasTo
 
 use crate::answers::{renew, write_outcome};
 use csv::ByteRecord;
+use olr_input::{InMemory, Plain, Records, RunFault, Session, Status};
 use olr_register::Register;
-use olr_sessions::{InMemory, Plain, Records, RunFault, Session, Status};
 use std::alloc::Global;
 use std::io::{Read, Write};
 

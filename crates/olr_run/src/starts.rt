@@ -2,19 +2,19 @@
 
 ghost use Rattle.std.specs.Prelude.{◌≡◌, ◌⊎◌, true, false, ℕ, List, IfOk, IfErr, OnOk};
 ghost use Rattle.olr_commands.specs.State.{Content};
-ghost use Rattle.olr_journal.specs.Logs.{kept_of, left_of, is_own_of, is_clean};
+ghost use Rattle.olr_log.specs.Logs.{kept_of, left_of, is_own_of, is_clean};
 ghost use Rattle.olr_register.specs.RegisterState.{Represents};
 ghost use Rattle.olr_run.specs.Logged.{closed, Leads};
 ghost use Rattle.olr_run.specs.LogEnds.{AreRecordsOf, BegunFrom, Unbegun, is_rejected};
 ghost use Rattle.olr_run.specs.Restored.{IsContentOf, is_rejection};
-ghost use Rattle.olr_sessions.specs.Journals.{Only};
+ghost use Rattle.olr_input.specs.Journals.{Only};
 
 use crate::answers::records_text;
 use crate::loader::{Progress, RestoreFault, restore_noting};
 use olr_arguments::CompactionLength;
-use olr_journal::{Folder, LogFile};
+use olr_input::{Journal, is_whole};
+use olr_log::{Folder, LogFile};
 use olr_register::Register;
-use olr_sessions::{Journal, is_whole};
 use sqlite_disk::Disk;
 use std::alloc::Global;
 use std::io;

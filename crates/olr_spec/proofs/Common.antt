@@ -10,38 +10,42 @@ pub use Rattle.olr_spec.specs.Coordinates.{is_latitude, is_longitude, nearest}
 pub use Rattle.olr_spec.specs.Decoded.{IsNear, decoded_bound, decoded, steps_sum}
 pub use Rattle.olr_spec.specs.Degrees.{before_point, digits_value}
 pub use Rattle.olr_spec.specs.Detours.{AccountsFor, ChangedLine, Detour, Near, IsChangedLine, changes_of}
-pub use Rattle.olr_spec.specs.Encoding.{Answer, Encodes, EncodesWith, Encoding, EncodingWith, Points, Refusal, Refused, answer_by_points, answer_by_points_with}
-pub use Rattle.olr_spec.specs.Encoding.{first_break, first_unknown, path_fault, IsPoint, IsPointWith, No_next_point, Unknown_line}
+pub use Rattle.olr_spec.specs.Encoding.{Answer, Encodes, EncodesWith, Encoding, EncodingWith, Points, Refusal, Refused}
+pub use Rattle.olr_spec.specs.Encoding.{answer_by_points, answer_by_points_with, first_break, first_unknown, path_fault}
+pub use Rattle.olr_spec.specs.Encoding.{IsPoint, IsPointWith, No_next_point, Unknown_line}
 pub use Rattle.olr_spec.specs.Extension.{AreJoined, EndRun, LongestEnd, LongestStart, MayFollow, MayPrecede, Path}
 pub use Rattle.olr_spec.specs.Extension.{StartRun, Tried, extended_path, first, from_start, is_path, last, limit}
 pub use Rattle.olr_spec.specs.Extension.{none_twice, passes_between, passing, taken_end, taken_start}
 pub use Rattle.olr_spec.specs.Footprint.{Foot, FootWith, Sees}
 pub use Rattle.olr_spec.specs.Joins.{JoinsLast, JoinsTo, Joined, JoinedWith, Joins}
-pub use Rattle.olr_spec.specs.Laws.{AnswerFits, AnswersRetained, DecodedNear, DecodedPoints}
-pub use Rattle.olr_spec.specs.Laws.{DifferencesAdd, Distances, EditsDiffer, EditsKeep, EditsUndo, EmptyIsLeast}
-pub use Rattle.olr_spec.specs.Laws.{EmptyIsSound, EmptyIsUnique, FootAffected, FootIsQueried, KnownRetained, KnownStays, LinesAscend}
-pub use Rattle.olr_spec.specs.Laws.{LinesIn, LinesOut, NearStays, Nearest, NoDifference, NoFault, NoLongerSuffix}
-pub use Rattle.olr_spec.specs.Laws.{Offsets, OneAnswer, OneEndRun, OneLastTested, OneLeast, OneNext}
-pub use Rattle.olr_spec.specs.Laws.{OnePoints, OneQueries, OneSector, OneStartRun, OneUnique}
-pub use Rattle.olr_spec.specs.Laws.{PrefixOfLeast, PrefixOfUnique, Recovered, RoutesJoin, SomeAnswer, SomeLastTested}
-pub use Rattle.olr_spec.specs.Laws.{SomeQueries, SomeReceiver, SomeSector, SomeWeighted, StretchesJoin, TwoKept}
-pub use Rattle.olr_spec.specs.Laws.{UniqueIsLeast, UntouchedRetained}
+pub use Rattle.olr_spec.specs.Laws.{AnswerFits, AnswersRetained, DecodedNear, DecodedPoints, DifferencesAdd, Distances}
+pub use Rattle.olr_spec.specs.Laws.{EditsDiffer, EditsKeep, EditsUndo, EmptyIsLeast, EmptyIsSound, EmptyIsUnique}
+pub use Rattle.olr_spec.specs.Laws.{FootAffected, FootIsQueried, KnownRetained, KnownStays, LinesAscend, LinesIn}
+pub use Rattle.olr_spec.specs.Laws.{LinesOut, NearStays, Nearest, NoDifference, NoFault, NoLongerSuffix, Offsets}
+pub use Rattle.olr_spec.specs.Laws.{OneAnswer, OneEndRun, OneLastTested, OneLeast, OneNext, OnePoints, OneQueries}
+pub use Rattle.olr_spec.specs.Laws.{OneSector, OneStartRun, OneUnique, PrefixOfLeast, PrefixOfUnique, Recovered}
+pub use Rattle.olr_spec.specs.Laws.{RoutesJoin, SomeAnswer, SomeLastTested, SomeQueries, SomeReceiver, SomeSector}
+pub use Rattle.olr_spec.specs.Laws.{SomeWeighted, StretchesJoin, TwoKept, UniqueIsLeast, UntouchedRetained}
 pub use Rattle.olr_spec.specs.Map.{Add_line, Add_node, Agree, Drop_line, Drop_node, Edit, IsMap, Line, Map, Move_node}
 pub use Rattle.olr_spec.specs.Map.{SameLine, SameRound, Set_line, coord_at, dm, edited, end, has, has_line, has_node}
 pub use Rattle.olr_spec.specs.Map.{in_use, is_good, line_at, lines_in, lines_out, lines_where, start, touched_nodes}
 pub use Rattle.olr_spec.specs.Map.{ShapePoint, are_coords, ascends_between, no_coord, no_line, touched_lines, unless}
-pub use Rattle.olr_spec.specs.Points.{Candidate, CandidateWith, Covered, CoveredWith, Follow, FollowWith, Greatest, Next, NextWith, OfPath, OfPathWith, To_end, To_passing, To_valid}
-pub use Rattle.olr_spec.specs.Points.{ValidCandidate, ValidCandidateWith, fit16, last_position, node_at, stretch, NoNext, NoNextWith}
+pub use Rattle.olr_spec.specs.Points.{Candidate, CandidateWith, Covered, CoveredWith, Follow, FollowWith, Greatest}
+pub use Rattle.olr_spec.specs.Points.{Next, NextWith, OfPath, OfPathWith, To_end, To_passing, To_valid, ValidCandidate}
+pub use Rattle.olr_spec.specs.Points.{ValidCandidateWith, fit16, last_position, node_at, stretch, NoNext, NoNextWith}
 pub use Rattle.olr_spec.specs.Queries.{CoverageQuery, IsClear, IsLastTested, IsLastTestedWith, IsQuery, IsQueryWith}
-pub use Rattle.olr_spec.specs.Queries.{KnownQuery, Needed, NodeOf, QueriesOf, QueriesOfWith, QueriesOfExtended, QueriesOfExtendedWith}
-pub use Rattle.olr_spec.specs.Queries.{Traversed, TraversedOf, TraversedOfExtended, query_to, query_to_with, querying}
+pub use Rattle.olr_spec.specs.Queries.{KnownQuery, Needed, NodeOf, QueriesOf, QueriesOfWith, QueriesOfExtended}
+pub use Rattle.olr_spec.specs.Queries.{QueriesOfExtendedWith, Traversed, TraversedOf, TraversedOfExtended, query_to}
+pub use Rattle.olr_spec.specs.Queries.{query_to_with, querying}
 pub use Rattle.olr_spec.specs.Receiver.{Measure, Receiver, RecoversLast, RecoversTo, Side, Within, candidates}
 pub use Rattle.olr_spec.specs.Receiver.{coordinate_on, has_no_twin, is_nearest, node_on}
 pub use Rattle.olr_spec.specs.Recovery.{IsClose, IsCut, IsWeighted, is_spaced}
-pub use Rattle.olr_spec.specs.Reference.{First, Last, Middle, Reference, attrs, attrs_with, dm_along, dm_between, first_kept}
-pub use Rattle.olr_spec.specs.Reference.{first_where, from_front, kept_points, last_kept, last_point, last_two}
-pub use Rattle.olr_spec.specs.Reference.{last_where, leg, leg_at, legs, middle_points, middle_points_with, no_leg, offset, position}
-pub use Rattle.olr_spec.specs.Reference.{reference, reference_with, reference_by, reference_by_with, reference_by_kept, reference_by_kept_with, to_back, Attrs, middle_point, middle_point_with}
+pub use Rattle.olr_spec.specs.Reference.{First, Last, Middle, Reference, attrs, attrs_with, dm_along, dm_between}
+pub use Rattle.olr_spec.specs.Reference.{first_kept, first_where, from_front, kept_points, last_kept, last_point}
+pub use Rattle.olr_spec.specs.Reference.{last_two, last_where, leg, leg_at, legs, middle_points, middle_points_with}
+pub use Rattle.olr_spec.specs.Reference.{no_leg, offset, position, reference, reference_with, reference_by}
+pub use Rattle.olr_spec.specs.Reference.{reference_by_with, reference_by_kept, reference_by_kept_with, to_back, Attrs}
+pub use Rattle.olr_spec.specs.Reference.{middle_point, middle_point_with}
 pub use Rattle.olr_spec.specs.Routes.{FirstSmaller, IsRoute, LrpRoute, PrecedesInTieOrder, Reaches, UniqueShortest}
 pub use Rattle.olr_spec.specs.Routes.{dm_of, Least}
 pub use Rattle.std.proofs.Common.{All, Bool, Contains, IfSome, IsTrue, List, MatchOption, None, Ok, Option, Result}

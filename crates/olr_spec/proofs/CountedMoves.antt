@@ -1,7 +1,7 @@
 -- What counts the same on two maps, and what the front of a route counts.
 use Rattle.olr_spec.proofs.Common.{inl, inr, ◌≡◌, ℕ, ◌+◌, ◌≤◌, ◌↔◌, cond, List, [], ◌∷◌, ◌++◌, refl, sym, ap, subst}
-use Rattle.olr_spec.proofs.Common.{◌∙◌, Option, Some, is_some, unwrap_or, arith, IsTrue, ◌&&◌, ◌==◌, cases_Bool, has, get}
-use Rattle.olr_spec.proofs.Common.{Line, no_line, Map, has_line, dm_of, SameLine, IsRoute, append-nil}
+use Rattle.olr_spec.proofs.Common.{◌∙◌, Option, Some, is_some, unwrap_or, arith, IsTrue, ◌&&◌, ◌==◌, cases_Bool, has}
+use Rattle.olr_spec.proofs.Common.{get, Line, no_line, Map, has_line, dm_of, SameLine, IsRoute, append-nil}
 use Rattle.olr_spec.proofs.Common.{list_any-append, or_left, ChangedLine, AccountsFor, Detour}
 use Rattle.olr_spec.specs.Margins.{Margin, counted, counted_dm_of, CountedRoute}
 use Rattle.olr_spec.proofs.ListLemmas.{Each, Each-head, Each-tail, Each-left, Each-right}

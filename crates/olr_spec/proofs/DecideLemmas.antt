@@ -6,9 +6,10 @@ use Rattle.olr_spec.proofs.Common.{◌≤◌, None, IsTrue, refl, ap, subst, ari
 use Rattle.olr_spec.proofs.Common.{dec_le, Map, IsMap, has_line, end, dm, coord_at, lines_where, has, IsRoute, dm_of}
 use Rattle.olr_spec.proofs.Common.{UniqueShortest, Path, is_path, first, last, passing, MayPrecede, MayFollow}
 use Rattle.olr_spec.proofs.Common.{LongestStart, LongestEnd, Tried, from_start, taken_start, extended_path, limit}
-use Rattle.olr_spec.proofs.Common.{node_at, stretch, CoveredWith, fit16, CandidateWith, ValidCandidateWith, Greatest, NextWith, To_end}
-use Rattle.olr_spec.proofs.Common.{To_valid, To_passing, FollowWith, Answer, Refused, path_fault, answer_by_points_with}
-use Rattle.olr_spec.proofs.Common.{EncodingWith, Bool-discrete, NoNextWith, OneUnique, SomeAnswer}
+use Rattle.olr_spec.proofs.Common.{node_at, stretch, CoveredWith, fit16, CandidateWith, ValidCandidateWith, Greatest}
+use Rattle.olr_spec.proofs.Common.{NextWith, To_end, To_valid, To_passing, FollowWith, Answer, Refused, path_fault}
+use Rattle.olr_spec.proofs.Common.{answer_by_points_with, EncodingWith, Bool-discrete, NoNextWith, OneUnique}
+use Rattle.olr_spec.proofs.Common.{SomeAnswer}
 use Rattle.olr_spec.proofs.ListLemmas.{dec_same}
 use Rattle.olr_spec.proofs.CountedLemmas.{counted_known, counted_least}
 use Rattle.olr_spec.proofs.Common.{min, slice_index, start, ◌-◌, sym, ◌∙◌}

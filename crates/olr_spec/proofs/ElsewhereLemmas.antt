@@ -1,7 +1,9 @@
 -- A route that is the unique shortest one where its own lines count longer is so on a map whose lengths are nearly the
 -- same.
-use Rattle.olr_spec.proofs.Common.{inl, inr, ◌≡◌, ◌≢◌, ◌⊎◌, ℕ, ◌+◌, ◌-◌, ◌*◌, ◌≤◌, ◌<◌, Bool, true, false, List, [], ◌∷◌, ◌++◌, refl, sym, ap, ◌∙◌, not, subst}
-use Rattle.olr_spec.proofs.Common.{arith, IsTrue, ◌&&◌, ◌==◌, cases_Bool, has, none_twice, and_parts, and_from, Map, IsMap, has_line, end, dm, dm_of, IsRoute, LrpRoute, leb-true, le-leb, list_any-append, append_assoc, UniqueShortest}
+use Rattle.olr_spec.proofs.Common.{inl, inr, ◌≡◌, ◌≢◌, ◌⊎◌, ℕ, ◌+◌, ◌-◌, ◌*◌, ◌≤◌, ◌<◌, Bool, true, false, List, []}
+use Rattle.olr_spec.proofs.Common.{◌∷◌, ◌++◌, refl, sym, ap, ◌∙◌, not, subst, arith, IsTrue, ◌&&◌, ◌==◌, cases_Bool}
+use Rattle.olr_spec.proofs.Common.{has, none_twice, and_parts, and_from, Map, IsMap, has_line, end, dm, dm_of, IsRoute}
+use Rattle.olr_spec.proofs.Common.{LrpRoute, leb-true, le-leb, list_any-append, append_assoc, UniqueShortest}
 use Rattle.olr_spec.proofs.ListLemmas.{Each, Each-head, Each-tail, Each-nil, Each-cons, has_cases, dec_same}
 use Rattle.olr_spec.proofs.RouteLemmas.{positive, IsRoute-split, IsRoute-append, dm_of-append, prefix_of_unique}
 use Rattle.olr_spec.proofs.WayLemmas.{route_known}

@@ -1,10 +1,12 @@
 -- The lemmas that most proofs of olr_spec cite, passed on from one place. Declares nothing.
 pub use Rattle.olr_spec.proofs.AgreeLemmas.{by_entering, known_record, same_coord, same_dm_of, same_end, same_known}
 pub use Rattle.olr_spec.proofs.AgreeLemmas.{same_passing, same_record, same_start, some_is}
-pub use Rattle.olr_spec.proofs.AnswerLemmas.{all_first, all_last, by_fault, map_None, one_answer, one_answer_with, one_follow, one_next}
-pub use Rattle.olr_spec.proofs.AnswerLemmas.{or_None, path_also, path_at, path_nonempty, same_by, sound_lines}
-pub use Rattle.olr_spec.proofs.JoinLemmas.{Linked, LinkedWith, RouteTo, between, between_is, empty_stretch, follow_linked_with}
-pub use Rattle.olr_spec.proofs.JoinLemmas.{joins_last, joins_to, kept_linked_with, routes_join, stretch_first}
+pub use Rattle.olr_spec.proofs.AnswerLemmas.{all_first, all_last, by_fault, map_None, one_answer, one_answer_with}
+pub use Rattle.olr_spec.proofs.AnswerLemmas.{one_follow, one_next, or_None, path_also, path_at, path_nonempty, same_by}
+pub use Rattle.olr_spec.proofs.AnswerLemmas.{sound_lines}
+pub use Rattle.olr_spec.proofs.JoinLemmas.{Linked, LinkedWith, RouteTo, between, between_is, empty_stretch}
+pub use Rattle.olr_spec.proofs.JoinLemmas.{follow_linked_with, joins_last, joins_to, kept_linked_with, routes_join}
+pub use Rattle.olr_spec.proofs.JoinLemmas.{stretch_first}
 pub use Rattle.olr_spec.proofs.KeptLemmas.{back_within, dm_along-append, dm_along-legs, front_within, two_kept, whole}
 pub use Rattle.olr_spec.proofs.ListLemmas.{Contains-cases, Contains-here, Contains-later, Each, Each-append, Each-cons}
 pub use Rattle.olr_spec.proofs.ListLemmas.{Each-from, Each-head, Each-left, Each-nil, Each-push, Each-range, Each-right}

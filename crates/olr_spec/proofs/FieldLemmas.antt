@@ -5,10 +5,11 @@ use Rattle.olr_spec.proofs.Common.{take, drop, map, ◌<◌, ◌≤◌, Some, No
 use Rattle.olr_spec.proofs.Common.{◌==◌, take-add, [], ltb-true, fold, find, slice_range, cases_Bool, cases_lt}
 use Rattle.olr_spec.proofs.Common.{and_parts, and_from, cond_both, nat_tests, length-map, get_or-map, AllByRecursion}
 use Rattle.olr_spec.proofs.Common.{Coord, is_coord, abs24, relative, fits16, Map, IsMap, line_at, coord_at, has, dm_of}
-use Rattle.olr_spec.proofs.Common.{node_at, stretch, CandidateWith, Leg, up_to, vector, boundary, lies_between, leg, legs}
-use Rattle.olr_spec.proofs.Common.{no_leg, leg_at, position, dm_along, dm_between, from_front, last_where, first_where}
-use Rattle.olr_spec.proofs.Common.{attrs_with, last_two, middle_points_with, offset, last_point, AreAttrs, IsMiddle, IsLast}
-use Rattle.olr_spec.proofs.Common.{fits24, get_or_past, take-map, drop-map, Scaled, scaled_coord, bearing, sector}
+use Rattle.olr_spec.proofs.Common.{node_at, stretch, CandidateWith, Leg, up_to, vector, boundary, lies_between, leg}
+use Rattle.olr_spec.proofs.Common.{legs, no_leg, leg_at, position, dm_along, dm_between, from_front, last_where}
+use Rattle.olr_spec.proofs.Common.{first_where, attrs_with, last_two, middle_points_with, offset, last_point, AreAttrs}
+use Rattle.olr_spec.proofs.Common.{IsMiddle, IsLast, fits24, get_or_past, take-map, drop-map, Scaled, scaled_coord}
+use Rattle.olr_spec.proofs.Common.{bearing, sector}
 use Rattle.olr_spec.proofs.Facts.{Each, Each-nil, Each-cons, Each-head, Each-tail, Each-range, has_index, has_here}
 use Rattle.olr_spec.proofs.Facts.{last_index, has_there, has_cases, Known, LinkedWith, dm_along-legs, dm_along-append}
 use Rattle.std.proofs.Common.{div-lt_iff_lt-mul}

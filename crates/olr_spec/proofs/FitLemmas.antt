@@ -5,12 +5,12 @@ use Rattle.olr_spec.proofs.Common.{subst, arith, nat_le, length-append, [], eqb-
 use Rattle.olr_spec.proofs.Common.{length-map, Map, IsMap, has, dm_of, Path, Tried, is_path, extended_path, from_start}
 use Rattle.olr_spec.proofs.Common.{taken_start, taken_end, FollowWith, last_position, Reference, leg, legs, dm_between}
 use Rattle.olr_spec.proofs.Common.{from_front, to_back, first_kept, last_kept, kept_points, last_two, reference_by_with}
-use Rattle.olr_spec.proofs.Common.{reference_with, Points, path_fault, answer_by_points_with, EncodingWith, EncodesWith, IsReference}
-use Rattle.olr_spec.proofs.Common.{AnswerFits}
+use Rattle.olr_spec.proofs.Common.{reference_with, Points, path_fault, answer_by_points_with, EncodingWith, EncodesWith}
+use Rattle.olr_spec.proofs.Common.{IsReference, AnswerFits}
 use Rattle.olr_spec.proofs.Facts.{dm_of-append, Each, Each-append, Each-from, has_here, has_there, has_cases}
 use Rattle.olr_spec.proofs.Facts.{has_filter, filter_has, Known, sound_lines, path_nonempty, or_None, by_fault}
-use Rattle.olr_spec.proofs.Facts.{StartRun-known, EndRun-known, LinkedWith, follow_linked_with, kept_linked_with, between, between_is}
-use Rattle.olr_spec.proofs.Facts.{whole, front_within, back_within, two_kept}
+use Rattle.olr_spec.proofs.Facts.{StartRun-known, EndRun-known, LinkedWith, follow_linked_with, kept_linked_with}
+use Rattle.olr_spec.proofs.Facts.{between, between_is, whole, front_within, back_within, two_kept}
 use Rattle.olr_spec.proofs.PointMoves.{Each-cond}
 use Rattle.olr_spec.proofs.FieldLemmas.{linked_above, linked_last, has_last_two, last_two_linked, has_last_where}
 use Rattle.olr_spec.proofs.FieldLemmas.{none_after, none_before, attrs_fit, first_fits, middles_fit, last_fits}

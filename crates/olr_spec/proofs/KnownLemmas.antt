@@ -3,9 +3,9 @@ use Rattle.olr_spec.specs.Margins.{Margin, counted_dm_of, CountedRoute}
 use Rattle.olr_spec.proofs.WayLemmas.{route_known}
 use Rattle.olr_spec.proofs.CountedLemmas.{route_counted}
 use Rattle.olr_spec.proofs.CountedMoves.{counted_longer, counted_length_same, clear_front, clear_whole}
-use Rattle.olr_spec.proofs.Common.{◌≡◌, ℕ, ◌+◌, List, ◌∷◌, ◌<◌, ◌≤◌, sym, ap, ◌∙◌, subst, arith, slice_index, [], Map, start}
-use Rattle.olr_spec.proofs.Common.{end, SameLine, IsRoute, stretch, ChangedLine, AccountsFor}
-use Rattle.olr_spec.proofs.Common.{Detour, IsClear, KnownQuery, KnownRetained, All-contains, get_or}
+use Rattle.olr_spec.proofs.Common.{◌≡◌, ℕ, ◌+◌, List, ◌∷◌, ◌<◌, ◌≤◌, sym, ap, ◌∙◌, subst, arith, slice_index, [], Map}
+use Rattle.olr_spec.proofs.Common.{start, end, SameLine, IsRoute, stretch, ChangedLine, AccountsFor, Detour, IsClear}
+use Rattle.olr_spec.proofs.Common.{KnownQuery, KnownRetained, All-contains, get_or}
 use Rattle.olr_spec.proofs.Facts.{Each, Each-head, Each-right, IsRoute-split, same_start, IsRoute-moves}
 use Rattle.olr_spec.proofs.Facts.{same_there, stretch_first}
 use Rattle.olr_spec.specs.Queries.{IsKnownWith}

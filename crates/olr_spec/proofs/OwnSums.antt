@@ -1,6 +1,6 @@
 -- Sums over the lines of a list, and over those of them that are also lines of another one.
-use Rattle.olr_spec.proofs.Common.{◌≡◌, ℕ, ◌+◌, ◌≤◌, true, false, cond, List, [], ◌∷◌, refl, not}
-use Rattle.olr_spec.proofs.Common.{arith, ◌&&◌, cases_eq, cases_Bool, eq-eqb, ne_eqb, has, none_twice, and_parts, not-true}
+use Rattle.olr_spec.proofs.Common.{◌≡◌, ℕ, ◌+◌, ◌≤◌, true, false, cond, List, [], ◌∷◌, refl, not, arith, ◌&&◌, cases_eq}
+use Rattle.olr_spec.proofs.Common.{cases_Bool, eq-eqb, ne_eqb, has, none_twice, and_parts, not-true}
 use Rattle.olr_spec.proofs.ListLemmas.{Each, Each-head, Each-tail}
 
 abbrev pub total : (ℕ → ℕ) → List ℕ → ℕ

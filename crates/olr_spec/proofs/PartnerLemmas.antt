@@ -1,6 +1,7 @@
 -- The routes between the LRPs on another map.
-use Rattle.olr_spec.proofs.Common.{inr, ◌≡◌, ℕ, ◌+◌, ◌≤◌, ◌<◌, true, List, [], ◌∷◌, length, sym, ap, subst, arith, IsTrue}
-use Rattle.olr_spec.proofs.Common.{slice_index, Map, IsMap, has_line, start, end, has, stretch, legs, first_kept, last_kept, LrpRoute}
+use Rattle.olr_spec.proofs.Common.{inr, ◌≡◌, ℕ, ◌+◌, ◌≤◌, ◌<◌, true, List, [], ◌∷◌, length, sym, ap, subst, arith}
+use Rattle.olr_spec.proofs.Common.{IsTrue, slice_index, Map, IsMap, has_line, start, end, has, stretch, legs}
+use Rattle.olr_spec.proofs.Common.{first_kept, last_kept, LrpRoute}
 use Rattle.olr_spec.specs.Margins.{Margin, allowed}
 use Rattle.olr_spec.specs.Elsewhere.{HasNoOther, IsNearly, IsNearlyAlong, HasClasses, RecoversLegs, suffices}
 use Rattle.olr_spec.specs.Laws.{RoutesJoinElsewhere, RecoveredElsewhere}

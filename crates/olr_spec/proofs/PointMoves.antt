@@ -6,9 +6,9 @@ use Rattle.olr_spec.proofs.CountedLemmas.{counted_nil}
 use Rattle.olr_spec.proofs.Common.{◌≡◌, ℕ, ◌+◌, ◌-◌, min, Bool, true, cond, List, ◌∷◌, length, ◌<◌, ◌≤◌, refl, sym, ◌∙◌}
 use Rattle.olr_spec.proofs.Common.{arith, ◌==◌, ◌↔◌, suc, Some, [], ltb-true, slice_index, Map, IsMap, start, end}
 use Rattle.olr_spec.proofs.Common.{coord_at, SameLine, SameRound, has, IsRoute, dm_of, LrpRoute, Path, passing, limit}
-use Rattle.olr_spec.proofs.Common.{node_at, stretch, CoveredWith, fit16, CandidateWith, ValidCandidateWith, Greatest, NextWith, To_end}
-use Rattle.olr_spec.proofs.Common.{To_valid, To_passing, FollowWith, legs, first_unknown, first_break, path_fault}
-use Rattle.olr_spec.proofs.Common.{Traversed}
+use Rattle.olr_spec.proofs.Common.{node_at, stretch, CoveredWith, fit16, CandidateWith, ValidCandidateWith, Greatest}
+use Rattle.olr_spec.proofs.Common.{NextWith, To_end, To_valid, To_passing, FollowWith, legs, first_unknown, first_break}
+use Rattle.olr_spec.proofs.Common.{path_fault, Traversed}
 use Rattle.olr_spec.proofs.Facts.{empty_unique, empty_stretch, Each, Each-nil, Each-head, Each-tail, Each-range}
 use Rattle.olr_spec.proofs.Facts.{has_last, has_index, map_same, Alike, same_record, same_start, same_end, same_dm_of}
 use Rattle.olr_spec.proofs.Facts.{same_coord, same_passing, same_known}

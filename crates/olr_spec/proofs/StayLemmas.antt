@@ -5,13 +5,12 @@ use Rattle.olr_spec.proofs.Common.{◌⊎◌, inl, inr, ◌≡◌, ℕ, ◌+◌,
 use Rattle.olr_spec.proofs.Common.{All, Contains, sym, ◌∙◌, subst, arith, MatchOption, ◌↔◌, ◌++◌, length-append, cond}
 use Rattle.olr_spec.proofs.Common.{T, [], ap, ◌==◌, cases_lt, cases_Bool, both_ways, Map, IsMap, start, end, SameLine}
 use Rattle.olr_spec.proofs.Common.{SameRound, has, IsRoute, dm_of, Path, is_path, first, last, Tried, extended_path}
-use Rattle.olr_spec.proofs.Common.{taken_start, limit, from_start, taken_end, AreJoined, LongestEnd, stretch, CoveredWith}
-use Rattle.olr_spec.proofs.Common.{FollowWith, OfPathWith, last_position, Answer, Refused, Refusal, path_fault}
-use Rattle.olr_spec.proofs.Common.{answer_by_points_with, EncodingWith, Points, ChangedLine, AccountsFor, NodeOf, Traversed}
-use Rattle.olr_spec.proofs.Common.{TraversedOfExtended, IsLastTestedWith, CoverageQuery, query_to_with, IsQueryWith}
-use Rattle.olr_spec.proofs.Common.{IsClear, querying, QueriesOfExtendedWith}
-use Rattle.olr_spec.proofs.Common.{reference_with, All-contains, No_next_point, UntouchedRetained}
-use Rattle.olr_spec.proofs.Common.{AnswersRetained}
+use Rattle.olr_spec.proofs.Common.{taken_start, limit, from_start, taken_end, AreJoined, LongestEnd, stretch}
+use Rattle.olr_spec.proofs.Common.{CoveredWith, FollowWith, OfPathWith, last_position, Answer, Refused, Refusal}
+use Rattle.olr_spec.proofs.Common.{path_fault, answer_by_points_with, EncodingWith, Points, ChangedLine, AccountsFor}
+use Rattle.olr_spec.proofs.Common.{NodeOf, Traversed, TraversedOfExtended, IsLastTestedWith, CoverageQuery}
+use Rattle.olr_spec.proofs.Common.{query_to_with, IsQueryWith, IsClear, querying, QueriesOfExtendedWith, reference_with}
+use Rattle.olr_spec.proofs.Common.{All-contains, No_next_point, UntouchedRetained, AnswersRetained}
 use Rattle.olr_spec.proofs.Facts.{Each, Each-from, has_first, has_last, Known, Each-append, Each-left, Each-right}
 use Rattle.olr_spec.proofs.Facts.{Each-to, Each-cons, Each-push, sound_lines, path_nonempty, path_at, by_fault}
 use Rattle.olr_spec.proofs.Facts.{one_tried, extended_keeps, Alike, same_begin, same_finish, longest_start_moves}

@@ -5,9 +5,9 @@ use Rattle.olr_spec.proofs.Common.{inl, inr, ◌≡◌, ℕ, zero, suc, ◌+◌,
 use Rattle.olr_spec.proofs.Common.{IsTrue, Contains, refl, sym, ap, ◌∙◌, subst, arith, MatchOption, ◌⊎◌, T, []}
 use Rattle.olr_spec.proofs.Common.{cases_lt, cases_eq, cases_order, dec_le, AllZip, Map, IsMap, has, dm_of, Path}
 use Rattle.olr_spec.proofs.Common.{is_path, extended_path, limit, stretch, CoveredWith, Greatest, path_fault, Sees}
-use Rattle.olr_spec.proofs.Common.{Traversed, TraversedOfExtended, Needed, IsLastTestedWith, CoverageQuery, query_to_with}
-use Rattle.olr_spec.proofs.Common.{IsQueryWith, querying, QueriesOfExtendedWith, Near, OneLastTested, SomeLastTested}
-use Rattle.olr_spec.proofs.Common.{OneQueries, SomeQueries, FootIsQueried, FootAffected}
+use Rattle.olr_spec.proofs.Common.{Traversed, TraversedOfExtended, Needed, IsLastTestedWith, CoverageQuery}
+use Rattle.olr_spec.proofs.Common.{query_to_with, IsQueryWith, querying, QueriesOfExtendedWith, Near, OneLastTested}
+use Rattle.olr_spec.proofs.Common.{SomeLastTested, OneQueries, SomeQueries, FootIsQueried, FootAffected}
 use Rattle.olr_spec.proofs.Facts.{path_also, path_at, same_by, by_fault, has_here, has_there, near_same, empty_stretch}
 use Rattle.olr_spec.specs.Footprint.{TouchedWith, On_path, On_start_run, On_end_run, Within_reach, FootOfWith}
 use Rattle.olr_spec.proofs.DecideLemmas.{dec_and, dec_Covered, greatest_or_none, some_follow, some_encoding}

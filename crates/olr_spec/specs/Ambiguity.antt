@@ -8,16 +8,16 @@
 --     Obstacle      what stands in the way at an LRP
 --     obstacles_at M s p x      what stands in the way of line x at an LRP that is decoded as p
 --     obstacles M r xs      the same of the lines xs at all LRPs of a reference, each with the number of the LRP
-use Rattle.std.specs.Prelude.{ℕ, suc, ◌+◌, ◌-◌, ◌*◌, ◌/◌, max, ℤ, nat_abs, Bool, not, ◌&&◌, ◌||◌, ◌==◌, nat_lt, List, []}
-use Rattle.std.specs.Prelude.{◌∷◌, ◌++◌, map, filter, if◌then◌else◌}
+use Rattle.std.specs.Prelude.{ℕ, suc, ◌+◌, ◌-◌, ◌*◌, ◌/◌, max, ℤ, nat_abs, Bool, not, ◌&&◌, ◌||◌, ◌==◌, nat_lt, List}
+use Rattle.std.specs.Prelude.{[], ◌∷◌, ◌++◌, map, filter, if◌then◌else◌}
 use Rattle.std.specs.List.{list_any}
 use Rattle.std.specs.FinMap.{entries}
 use Rattle.olr_spec.specs.Coordinates.{Coord}
 use Rattle.olr_spec.specs.Map.{Map, lines_in, lines_out}
 use Rattle.olr_spec.specs.Bearings.{Leg}
 use Rattle.olr_spec.specs.Reference.{Reference, leg}
-use Rattle.olr_spec.specs.Receiver.{Side, Outgoing, Incoming, node_on, coordinate_on, sector_on, are_twins, decoded_coord}
-use Rattle.olr_spec.specs.Receiver.{last_number}
+use Rattle.olr_spec.specs.Receiver.{Side, Outgoing, Incoming, node_on, coordinate_on, sector_on, are_twins}
+use Rattle.olr_spec.specs.Receiver.{decoded_coord, last_number}
 use Rattle.olr_spec.specs.Recovery.{lon_apart, lat_apart}
 use Rattle.olr_spec.specs.Directions.{direction_on, is_direction, is_beyond}
 

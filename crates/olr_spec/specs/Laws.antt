@@ -39,8 +39,8 @@ use Rattle.olr_spec.specs.Decoded.{decoded, IsNear}
 use Rattle.olr_spec.specs.Joins.{Joins}
 use Rattle.olr_spec.specs.Receiver.{Outgoing, Incoming, Measure, Receiver, Recovers, attributes, candidates}
 use Rattle.olr_spec.specs.Receiver.{last_number, decoded_coord, is_nearest}
-use Rattle.olr_spec.specs.Recovery.{DistinctWith, IsLineAt, IsStretches, IsStretchesWith, IsKeptPart, IsLeft, IsCut, IsClose, IsStep}
-use Rattle.olr_spec.specs.Recovery.{IsWeighted, are_cosines, are_spaced, lon_apart, lat_apart}
+use Rattle.olr_spec.specs.Recovery.{DistinctWith, IsLineAt, IsStretches, IsStretchesWith, IsKeptPart, IsLeft, IsCut}
+use Rattle.olr_spec.specs.Recovery.{IsClose, IsStep, IsWeighted, are_cosines, are_spaced, lon_apart, lat_apart}
 use Rattle.olr_spec.specs.Footprint.{Sees, FootWith}
 use Rattle.olr_spec.specs.Detours.{ChangedLine, changes_of, AccountsFor, Difference, Detour, Near}
 use Rattle.olr_spec.specs.Queries.{TraversedOf, IsLastTestedWith, CoverageQuery, query_to_with, QueriesOfWith, IsClear}

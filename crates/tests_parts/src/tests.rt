@@ -15,13 +15,20 @@ macro_rules! same {
     };
 }
 
+mod again;
 mod ambiguity;
 mod bearing;
 mod binary;
+mod choices;
 mod coords;
 mod distance_bounds;
+mod extension;
 mod grid;
 mod index;
 mod map;
+mod maps;
+mod margins;
+mod queries;
+mod records;
 mod routes;
 mod searches;

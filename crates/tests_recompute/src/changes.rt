@@ -2,8 +2,7 @@
 
 use olr_map::{Edit, Footprint, LineId, MapRead, NodeId, RoadMap};
 use olr_refs::CoverageQuery;
-use olr_route::{Labels, search};
-use olr_search::{GREATEST_LIMIT, Work};
+use olr_route::{GREATEST_LIMIT, Labels, Work, search};
 use std::alloc::Global;
 use std::test::Fail;
 

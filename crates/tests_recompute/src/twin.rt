@@ -4,7 +4,7 @@ use crate::changes::{ChangedLine, changed_line, is_clear};
 use olr_commands::Command;
 use olr_map::{Edit, Footprint, LineId, MapRead, NodeId, RoadMap, judge};
 use olr_refs::{CoverageQuery, Encoding, Margin, Path, encode, refer_with};
-use olr_search::{Dijkstra, Work};
+use olr_route::{Dijkstra, Work};
 use std::alloc::Global;
 use std::test::Fail;
 

@@ -7,12 +7,12 @@ use Rattle.olr_spec.specs.Extension.{Path, is_path}
 use Rattle.olr_spec.specs.Margins.{no_margin}
 use Rattle.olr_commands.specs.State.{ArePaths, same_name}
 use Rattle.olr_commands.proofs.NameLemmas.{paths_push, paths_filter}
-use Rattle.olr_near.specs.declared.distance_bounds.DistanceBounds.{DistanceBounds}
-use Rattle.olr_list.specs.Items.{Item, all_named}
-use Rattle.olr_list.specs.Origins.{AreBoundsOf}
-use Rattle.olr_paths.specs.Changes.{IsBefore, AreRemade}
-use Rattle.olr_list.specs.ChangeSets.{nodes_of, lines_of, changed_of}
-use Rattle.olr_list.specs.declared.change_set.ChangeSet.{ChangeSet}
+use Rattle.olr_renewal.specs.declared.distance_bounds.DistanceBounds.{DistanceBounds}
+use Rattle.olr_paths.specs.Items.{Item, all_named}
+use Rattle.olr_renewal.specs.AffectedSearches.{AreBoundsOf}
+use Rattle.olr_renewal.specs.Changes.{IsBefore, AreRemade}
+use Rattle.olr_renewal.specs.ChangeSets.{nodes_of, lines_of, changed_of}
+use Rattle.olr_renewal.specs.declared.change_set.ChangeSet.{ChangeSet}
 use Rattle.olr_register.specs.EditNotes.{IsNotedOf}
 use Rattle.olr_register.proofs.Listed.{names_add, names_drop, each_add, each_left, each_if_any}
 use Rattle.olr_register.proofs.Noted.{noted_edit, is_before}

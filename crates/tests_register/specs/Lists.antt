@@ -8,8 +8,8 @@ use Rattle.olr_spec.specs.Margins.{no_margin}
 use Rattle.olr_map.specs.RoadMaps.{map_of}
 use Rattle.olr_map.specs.declared.road_map.RoadMap.{RoadMap}
 use Rattle.olr_commands.specs.State.{ArePaths}
-use Rattle.olr_list.specs.Items.{Item, AreEncodingsIfAny, all_named, items}
-use Rattle.olr_list.specs.declared.path_list.PathList.{PathList}
+use Rattle.olr_paths.specs.Items.{Item, AreEncodingsIfAny, all_named, items}
+use Rattle.olr_paths.specs.declared.path_list.PathList.{PathList}
 
 pub record IsRight (M : Map) (is : List Item) : Type 0 where
   pub paths : ArePaths (all_named is)

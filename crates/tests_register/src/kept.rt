@@ -7,7 +7,7 @@ use made_maps::{STRAIGHT, line, new_node, node, other_line, plain_line};
 use olr_commands::{Command, CommandFault};
 use olr_map::Edit;
 use olr_register::Register;
-use olr_search::Work;
+use olr_route::Work;
 use std::alloc::Global;
 use std::process::Abort;
 

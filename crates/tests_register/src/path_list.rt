@@ -2,14 +2,14 @@
 ghost use Rattle.std.specs.Prelude.{◌≡◌, string_bytes, map as list_map};
 ghost use Rattle.std.specs.Option.{option_to_list};
 ghost use Rattle.olr_map.specs.EditPlans.{planned_changes};
-ghost use Rattle.olr_list.specs.ChangeSets.{change_of};
+ghost use Rattle.olr_renewal.specs.ChangeSets.{change_of};
 ghost use Rattle.tests_register.specs.Lists.{IsRightAnywhere, IsRightOn};
 
 use made_maps::{Plain, STRAIGHT, line, lines, new_node, node, other_line, plain_map};
 use olr_map::{Edit, EditPlan, RoadMap, judge};
-use olr_near::DistanceBounds;
-use olr_paths::{ChangeSet, ChangedLine, Overlay, PathList, Searches, renew_over};
+use olr_paths::{Overlay, PathList};
 use olr_refs::{Margin, Path};
+use olr_renewal::{ChangeSet, ChangedLine, DistanceBounds, MapUpdate, Searches, renew_over};
 use std::alloc::Global;
 use std::process::Abort;
 
@@ -95,17 +95,13 @@ fn renew(rt: &impl Abort, alloc: Global, list: &mut PathList, map: &mut RoadMap,
     let mut searches = Searches::new(alloc);
     let none = Overlay::new(alloc);
     let _names = list.len();
-    let renewed = renew_over(
-        list,
-        alloc,
-        &*map,
-        Margin::none(),
-        &none,
-        false,
-        &touched,
-        &bounds,
-        &mut searches,
-    );
+    let update = MapUpdate {
+        map: &*map,
+        margin: Margin::none(),
+        sets_margin: false,
+        touched: &touched,
+    };
+    let renewed = renew_over(list, alloc, &update, &none, &bounds, &mut searches);
     let report = renewed.expect(rt, "memory");
     assert!(rt; report.entries.len() <= list.len());
 }

@@ -1,7 +1,9 @@
-//! Tests of runs over records in memory, with readers and writers that fail. The expected replies were derived from the
-//! formats.
+//! Tests of runs over records in memory, with readers and writers that fail, and of logs in files of the operating
+//! system. The expected replies were derived from the formats.
 #![tactic(auto)]
 
+#[cfg(test)]
+mod files;
 #[cfg(test)]
 mod logs;
 #[cfg(test)]

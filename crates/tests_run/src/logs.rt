@@ -1,6 +1,6 @@
 //! Tests of runs with a log. The log is one in memory that fails at a call.
 
-ghost use Rattle.std.specs.Prelude.{◌≡◌, vec_len};
+ghost use Rattle.std.specs.Prelude.{◌≡◌, vec_len, ⊤};
 
 use olr_register::Register;
 use olr_run::{
@@ -26,6 +26,8 @@ impl Journal for Kept {
     ghost size = { λ k. vec_len k.text };
 
     ghost may_leave = { λ k c. c ≡ k.text.items };
+
+    ghost refuses = { λ _ _ _. ⊤ };
 
     fn keep(&mut self, records: &[u8]) -> io::Result<()> {
         let call = self.calls;
@@ -123,7 +125,8 @@ fn what_is_kept(rt: HostRuntime) -> Result<(), AllocError> {
     let left = run_logged(rt.alloc(), RECORDS, 100, true)?;
     assert_eq!(rt; left.log.as_slice(), LOG);
     assert_eq!(rt; left.answers.as_slice(), REPLIES);
-    assert_eq!(rt; left.ended, (Ok(Status::SomeRefused), None));
+    let (ended, fault) = left.ended;
+    assert_eq!(rt; (ended, fault.is_none()), (Ok(Status::SomeRefused), true));
     Ok(())
 }
 
@@ -135,7 +138,8 @@ fn expect_log<R: Abort + AllocGlobal>(
 ) -> Result<(), AllocError> {
     let left = run_logged(rt.alloc(), records, 100, true)?;
     assert_eq!(rt; left.log.as_slice(), wanted);
-    assert_eq!(rt; (left.ended.0.is_ok(), left.ended.1), (true, None));
+    let (ended, fault) = left.ended;
+    assert_eq!(rt; (ended.is_ok(), fault.is_none()), (true, true));
     Ok(())
 }
 
@@ -147,30 +151,34 @@ fn logs_that_are_replaced(rt: HostRuntime) -> Result<(), AllocError> {
     expect_log(&rt, in_batch, b"node,1,0,0\nbegin\nmove,1,0,1\ncommit,1\n")
 }
 
-/// Runs `RECORDS` with a log that can't be used, and asserts that nothing is written and how the run ends.
-fn expect_fault<R: Abort + AllocGlobal>(
+/// Runs `RECORDS` with a log that can't be used, and asserts that nothing is written. Returns what is said of the log.
+fn fault_of<R: Abort + AllocGlobal>(
     rt: &R,
     fails_from: usize,
     in_place: bool,
-    fault: LogFault,
-) -> Result<(), AllocError> {
+) -> Result<Option<LogFault>, AllocError> {
     let left = run_logged(rt.alloc(), RECORDS, fails_from, in_place)?;
     assert_eq!(rt;
         (left.log.len() <= LOG.len(), left.answers.len()),
         (true, 0)
     );
-    assert_eq!(rt; left.ended, (Err(RunFault::Write), Some(fault)));
-    Ok(())
+    let (ended, fault) = left.ended;
+    assert_eq!(rt; ended, Err(RunFault::Write));
+    Ok(fault)
 }
 
 #[test]
 fn log_that_fails(rt: HostRuntime) -> Result<(), AllocError> {
-    expect_fault(&rt, 0, true, LogFault::Unwritten)
+    let fault = fault_of(&rt, 0, true)?;
+    assert!(rt; matches!(fault, Some(LogFault::Unwritten(_))));
+    Ok(())
 }
 
 #[test]
 fn log_that_is_moved(rt: HostRuntime) -> Result<(), AllocError> {
-    expect_fault(&rt, 100, false, LogFault::Moved)
+    let fault = fault_of(&rt, 100, false)?;
+    assert!(rt; matches!(fault, Some(LogFault::Moved)));
+    Ok(())
 }
 
 /// Starts from a log, and asserts the reply to `dump`.

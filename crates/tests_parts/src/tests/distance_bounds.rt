@@ -2,8 +2,8 @@
 
 use made_maps::{Plain, STRAIGHT, line, make, new_node, node, other_line, plain_line, plain_map};
 use olr_map::{Edit, RoadMap};
-use olr_near::DistanceBounds;
-use olr_search::LEG_LIMIT;
+use olr_renewal::DistanceBounds;
+use olr_route::LEG_LIMIT;
 use std::alloc::Global;
 use std::process::Abort;
 

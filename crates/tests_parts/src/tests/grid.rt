@@ -3,7 +3,7 @@ ghost use Rattle.std.specs.Prelude.{◌≤◌};
 
 use made_maps::{make, new_node, node, plain_line};
 use olr_map::{Edit, RoadMap};
-use olr_search::{Direction, settled_search};
+use olr_route::{Direction, settled_search};
 use std::alloc::Global;
 use std::collections::HashMap;
 use std::process::Abort;

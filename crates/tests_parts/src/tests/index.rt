@@ -1,4 +1,4 @@
-use olr_index::Index;
+use olr_paths::Index;
 use std::test::Fail;
 
 #[test]

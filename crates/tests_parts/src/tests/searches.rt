@@ -3,7 +3,7 @@ ghost use Rattle.std.specs.Prelude.{◌≤◌};
 
 use made_maps::{WORKED, diamond, line, make, map_of, node, parallel, plain_line, plain_map};
 use olr_map::{MapRead, RoadMap};
-use olr_search::{Dijkstra, Direction, GREATEST_LIMIT, resolve_line, settled_search};
+use olr_route::{Dijkstra, Direction, GREATEST_LIMIT, resolve_line, settled_search};
 use std::alloc::Global;
 use std::process::Abort;
 use std::test::Fail;

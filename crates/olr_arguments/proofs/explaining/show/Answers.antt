@@ -3,7 +3,7 @@ use Rattle.std.proofs.Common.{◌≡◌, ◌∙◌, ℕ, List, [], ◌++◌, Opt
 use Rattle.std.proofs.KnownBytes.{Appends-kept}
 use Rattle.std.proofs.lemmas.List.{append-nil}
 use Rattle.std.specs.Prelude.{IfSome}
-use Rattle.olr_sessions.specs.Buffers.{written}
+use Rattle.olr_input.specs.Buffers.{written}
 use Rattle.olr_arguments.proofs.explaining.show.Goals as goal
 
 all_of : (text : Option (List ℕ)) (t : List ℕ) → IfSome text (λ x. t ≡ x) → IfSome text (λ x. x ≡ t ++ [])

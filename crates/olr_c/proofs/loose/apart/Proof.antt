@@ -1,14 +1,14 @@
 -- A box is taken apart: its pointer, its allocator, and what it owns.
-use Rattle.olr_c.proofs.Common.{◌≡◌, List, [], ◌∷◌, ◌++◌, refl, ap, ◌∙◌, true, ◌&&◌, T, a_type, dcons, dnil, inst_fn, Val}
-use Rattle.olr_c.proofs.Common.{vptr, vstruct, of_list, has_ty, WT, SProp, emp, never, id⊢, fst∗, ftrue, flft, fact}
-use Rattle.olr_c.proofs.Common.{fact_i, tables, WpFn, sem, ‵, raw, ◌⊛◌, some, later, ◌$◌, ◌∵◌, !, qed, by, move, keep}
-use Rattle.olr_c.proofs.Common.{drop, split, split3, join, use0, use1, fsplit, fjoin, fpick, fpack, pick, await, feq_i}
-use Rattle.olr_c.proofs.Common.{feq_l, prop, regoal, rewrite, stop, fld, of_opd, no_more, and_then, returns, enter}
-use Rattle.olr_c.proofs.Common.{alloc_all, pass_all, free_all, look_at, get, get_in, sets, agg, sub, whole, RattleType}
-use Rattle.olr_c.proofs.Common.{Valss, owns, layout, bounded, types_at, plain, Ptr, RawPtr, block_ptr, null_ptr, ptr_val}
-use Rattle.olr_c.proofs.Common.{in_a_block, nothing, only, heard, within, shape, triple_of, framed, Stays, stay_dropped}
-use Rattle.olr_c.proofs.Common.{walk_of, no, Goes-blank, handle_tells, proved_at, leaves, box_out, box_in, box_owns, met}
-use Rattle.olr_c.proofs.Common.{fsep, lands_as, calls_at, pair, and_tt, bare}
+use Rattle.olr_c.proofs.Common.{◌≡◌, List, [], ◌∷◌, ◌++◌, refl, ap, ◌∙◌, true, ◌&&◌, T, a_type, dcons, dnil, inst_fn}
+use Rattle.olr_c.proofs.Common.{Val, vptr, vstruct, of_list, has_ty, WT, SProp, emp, never, id⊢, fst∗, ftrue, flft}
+use Rattle.olr_c.proofs.Common.{fact, fact_i, tables, WpFn, sem, ‵, raw, ◌⊛◌, some, later, ◌$◌, ◌∵◌, !, qed, by, move}
+use Rattle.olr_c.proofs.Common.{keep, drop, split, split3, join, use0, use1, fsplit, fjoin, fpick, fpack, pick, await}
+use Rattle.olr_c.proofs.Common.{feq_i, feq_l, prop, regoal, rewrite, stop, fld, of_opd, no_more, and_then, returns}
+use Rattle.olr_c.proofs.Common.{enter, alloc_all, pass_all, free_all, look_at, get, get_in, sets, agg, sub, whole}
+use Rattle.olr_c.proofs.Common.{RattleType, Valss, owns, layout, bounded, types_at, plain, Ptr, RawPtr, block_ptr}
+use Rattle.olr_c.proofs.Common.{null_ptr, ptr_val, in_a_block, nothing, only, heard, within, shape, triple_of, framed}
+use Rattle.olr_c.proofs.Common.{Stays, stay_dropped, walk_of, no, Goes-blank, handle_tells, proved_at, leaves, box_out}
+use Rattle.olr_c.proofs.Common.{box_in, box_owns, met, fsep, lands_as, calls_at, pair, and_tt, bare}
 use denote.Struct.Tuple.{Tuple}
 use Rattle.olr_c.proofs.loose.apart.Statement.{statement}
 use Rattle.std.proofs.BoxSteps.Form as box

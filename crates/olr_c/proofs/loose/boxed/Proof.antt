@@ -1,14 +1,14 @@
 -- A box that was taken apart is a box again.
 use Rattle.olr_c.proofs.Common.{◌≡◌, List, [], ◌∷◌, ◌++◌, refl, sym, ap, subst, ◌∙◌, true, ◌&&◌, T, a_type, dcons, dnil}
 use Rattle.olr_c.proofs.Common.{inst_fn, Val, vptr, vstruct, of_list, has_ty, WT, SProp, never, id⊢, fst∗, ftrue, flft}
-use Rattle.olr_c.proofs.Common.{fact, tables, WpFn, sem, ‵, raw, ◌⊛◌, some, later, ◌$◌, ◌∵◌, !, qed, by, move, keep, drop}
-use Rattle.olr_c.proofs.Common.{split, split3, join, use1, fsplit, fjoin, fpick, pick, await, feq_i, feq_l, prop, regoal}
-use Rattle.olr_c.proofs.Common.{rewrite, stop, fld, of_opd, no_more, and_then, returns, enter, alloc_all, pass_all}
-use Rattle.olr_c.proofs.Common.{free_all, look_at, get, get_in, sets, sub, whole, RattleType, owns, layout, bounded}
-use Rattle.olr_c.proofs.Common.{types_at, plain, Ptr, block_ptr, null_ptr, ptr_val, in_a_block, nothing, only, triple_of}
-use Rattle.olr_c.proofs.Common.{framed, Stays, stay_dropped, walk_of, no, Goes-blank, handle_tells, proved_at, leaves}
-use Rattle.olr_c.proofs.Common.{box_out, box_in, box_owns, at_ret, first, blocks, exec, lands_last, env, calls_at_last}
-use Rattle.olr_c.proofs.Common.{pair, and_tt, bare}
+use Rattle.olr_c.proofs.Common.{fact, tables, WpFn, sem, ‵, raw, ◌⊛◌, some, later, ◌$◌, ◌∵◌, !, qed, by, move, keep}
+use Rattle.olr_c.proofs.Common.{drop, split, split3, join, use1, fsplit, fjoin, fpick, pick, await, feq_i, feq_l, prop}
+use Rattle.olr_c.proofs.Common.{regoal, rewrite, stop, fld, of_opd, no_more, and_then, returns, enter, alloc_all}
+use Rattle.olr_c.proofs.Common.{pass_all, free_all, look_at, get, get_in, sets, sub, whole, RattleType, owns, layout}
+use Rattle.olr_c.proofs.Common.{bounded, types_at, plain, Ptr, block_ptr, null_ptr, ptr_val, in_a_block, nothing, only}
+use Rattle.olr_c.proofs.Common.{triple_of, framed, Stays, stay_dropped, walk_of, no, Goes-blank, handle_tells}
+use Rattle.olr_c.proofs.Common.{proved_at, leaves, box_out, box_in, box_owns, at_ret, first, blocks, exec, lands_last}
+use Rattle.olr_c.proofs.Common.{env, calls_at_last, pair, and_tt, bare}
 use denote.Triple.Clauses.{Lasts, lasts}
 use contract.BorrowLft.{◌⊑◌}
 use Rattle.std.proofs.VecSteps.Shapes.{after}

@@ -2,8 +2,8 @@ use Rattle.olr_spec.proofs.Common.{SameLine}
 use Rattle.olr_spec.proofs.Facts.{Each-from}
 use Rattle.olr_spec.proofs.QueryLemmas.{to_same, clear_routes, query_stays, covered_stays}
 use Rattle.olr_spec.proofs.StayLemmas.{kept, untouched_retained_with}
-use Rattle.olr_spec.proofs.TestedLemmas.{one_last_tested_with, some_last_tested, one_queries_with, some_queries, foot_queried_with}
-use Rattle.olr_spec.proofs.TestedLemmas.{foot_affected_with}
+use Rattle.olr_spec.proofs.TestedLemmas.{one_last_tested_with, some_last_tested, one_queries_with, some_queries}
+use Rattle.olr_spec.proofs.TestedLemmas.{foot_queried_with, foot_affected_with}
 use Rattle.olr_spec.proofs.KnownLemmas.{known_stays, known_kept}
 use Rattle.olr_spec.specs.Laws.{QueriesStay}
 use Rattle.olr_spec.specs.Margins.{Margin}

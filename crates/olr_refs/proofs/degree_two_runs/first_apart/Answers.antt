@@ -1,6 +1,6 @@
 use Rattle.olr_refs.proofs.Common.{◌≡◌, ◌≢◌, ℕ, sym, ◌∙◌, subst, arith, IsTrue, has_line, near_end, far_end}
 use Rattle.std.proofs.lemmas.Grind.{get_or_default_zero}
-use Rattle.olr_search.proofs.WayLemmas.{has_end, entry_is}
+use Rattle.olr_route.proofs.WayLemmas.{has_end, entry_is}
 use Rattle.olr_refs.proofs.degree_two_runs.first_apart.Goals as goal
 
 pub returns-then-end-other : goal.returns-then-end-other

@@ -1,8 +1,9 @@
-use Rattle.olr_refs.proofs.Common.{◌≡◌, ◌≢◌, ℕ, Map, Option, Some, None, MatchOption, IsTrue, has_node, has_line, ap, sym, ◌∙◌, subst}
-use Rattle.olr_refs.proofs.Common.{arith, both_ways, passing, near_end, far_end, LeadsOn, length, IsMap}
-use Rattle.olr_search.specs.Distances.{lines_at, ends_at}
-use Rattle.olr_search.specs.declared.distances.Direction.{Direction}
-use Rattle.olr_search.proofs.WayLemmas.{far_node, near_node, as_many}
+use Rattle.olr_refs.proofs.Common.{◌≡◌, ◌≢◌, ℕ, Map, Option, Some, None, MatchOption, IsTrue, has_node, has_line, ap}
+use Rattle.olr_refs.proofs.Common.{sym, ◌∙◌, subst, arith, both_ways, passing, near_end, far_end, LeadsOn, length}
+use Rattle.olr_refs.proofs.Common.{IsMap}
+use Rattle.olr_route.specs.Distances.{lines_at, ends_at}
+use Rattle.olr_route.specs.declared.distances.Direction.{Direction}
+use Rattle.olr_route.proofs.WayLemmas.{far_node, near_node, as_many}
 use Rattle.olr_refs.proofs.degree_two_runs.line_beyond.Given.{Over}
 use Rattle.olr_refs.proofs.degree_two_runs.line_beyond.Goals.{After-lines_from-leaving}
 use Rattle.olr_refs.proofs.degree_two_runs.line_beyond.Goals as goal

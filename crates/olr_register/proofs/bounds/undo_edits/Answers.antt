@@ -1,6 +1,6 @@
 use Rattle.olr_register.proofs.Common.{◌≡◌, sym, subst, arith, Map, map_of, slot_of, nodes_of}
 use Rattle.olr_map.specs.Undos.{dropped_nodes}
-use Rattle.olr_near.specs.Bounds.{SameBut}
+use Rattle.olr_renewal.specs.Bounds.{SameBut}
 use Rattle.olr_register.proofs.Bounded.{bounded_unknown, bounds_undone}
 use Rattle.olr_register.proofs.bounds.undo_edits.Goals as goal
 

@@ -1,6 +1,7 @@
 use Rattle.std.proofs.lemmas.Grind.{common_steps}
-use Rattle.olr_register.proofs.Common.{List, ℕ, [], ◌++◌, ap, arith, ◌∙◌, flat_map, entries, map_of, Content, record_line}
-use Rattle.olr_register.proofs.Common.{node_change, line_change, path_change, items, concat, content_on, map}
+use Rattle.olr_register.proofs.Common.{List, ℕ, [], ◌++◌, ap, arith, ◌∙◌, flat_map, entries, map_of, Content}
+use Rattle.olr_register.proofs.Common.{record_line, node_change, line_change, path_change, items, concat, content_on}
+use Rattle.olr_register.proofs.Common.{map}
 use Rattle.olr_commands.specs.Dump.{margin_changes}
 use Rattle.olr_register.proofs.DumpTexts.{dump_text}
 use Rattle.olr_register.proofs.dumps.dump_of.Goals as goal

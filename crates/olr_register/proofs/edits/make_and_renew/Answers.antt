@@ -1,7 +1,7 @@
 use Rattle.olr_register.proofs.Common.{items, map_of, slot_of, nodes_of, edit_of, refl}
 use Rattle.olr_register.proofs.Bounded.{bounds_stay, is_edit, settled_bounds}
 use Rattle.olr_register.proofs.EditsMade.{edit_unmade}
-use Rattle.olr_list.specs.Origins.{AreBoundsOf}
+use Rattle.olr_renewal.specs.AffectedSearches.{AreBoundsOf}
 use Rattle.olr_register.proofs.edits.make_and_renew.Goals as goal
 
 pub returns-in_err-make_kept : goal.returns-in_err-make_kept
@@ -17,7 +17,7 @@ returns c =
     let done = c.in_ok-make_kept.ensures.done in
     let can = c.requires.renewable (map_of new) done in
     let edit =
-    is_edit old new c.make_kept.ensures.slots (edit_of c.args.edit) done (nodes_of c.args.touched.now)
+    is_edit old new c.make_kept.ensures.slots (edit_of c.args.noted.edit) done (nodes_of c.args.noted.touched.now)
     can.before.difference.nodes in
     let right : AreBoundsOf (map_of new) (slot_of new) c.args.bounds.now (items c.args.paths.now) = record {
       right = c.in-Some.ensures.right refl (map_of new) (slot_of new) edit c.requires.bounded.under_way;

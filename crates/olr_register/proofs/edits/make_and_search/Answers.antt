@@ -13,7 +13,7 @@ renew-renewed-requires c =
     rw (c.new-none.ensures (items c.args.paths.now)) (record {
       renewable = (map_of old, can);
       bounded = bounds_edited old new slots
-          (is_edit old new slots (edit_of c.args.edit) done (nodes_of c.args.touched.now) can.before.difference.nodes)
+          (is_edit old new slots (edit_of c.args.noted.edit) done (nodes_of c.args.noted.touched.now) can.before.difference.nodes)
           c.requires.bounded;
     })
 

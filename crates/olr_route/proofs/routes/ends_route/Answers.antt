@@ -1,4 +1,4 @@
-use Rattle.olr_route.proofs.Common.{◌≡◌, ◌∷◌, [], ℕ, ◌-◌, Along, sym, subst, ◌∙◌, arith, IsDistance}
+use Rattle.olr_route.proofs.LabelNames.{◌≡◌, ◌∷◌, [], ℕ, ◌-◌, Along, sym, subst, ◌∙◌, arith, IsDistance}
 use Rattle.std.proofs.Common.{ap, Option, unwrap_or}
 use Rattle.olr_spec.specs.Map.{Line, no_line}
 use Rattle.olr_route.proofs.EndLemmas.{option_is}

@@ -1,5 +1,6 @@
-use Rattle.olr_route.proofs.Common.{ℕ, Some, get_or, arith, sym, subst, ◌∙◌, ◌↔◌, IsTrue, IsFound, IsLast, EndsRoute, enters}
-use Rattle.olr_route.proofs.Common.{get_or_default_zero, below_more, false≢true}
+use Rattle.olr_route.proofs.LabelNames.{ℕ, Some, get_or, arith, sym, subst, ◌∙◌, ◌↔◌, IsTrue, IsFound, IsLast}
+use Rattle.olr_route.proofs.LabelNames.{EndsRoute, enters}
+use Rattle.olr_route.proofs.LabelNames.{get_or_default_zero, below_more, false≢true}
 use Rattle.olr_route.proofs.EndLemmas.{first_is_last, none_is_last}
 use Rattle.olr_route.proofs.routes.last_line.Given.{Over}
 use Rattle.olr_route.proofs.routes.last_line.Goals.{After-ends_route}

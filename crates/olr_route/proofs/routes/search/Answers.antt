@@ -1,5 +1,5 @@
-use Rattle.olr_route.proofs.Common.{◌∷◌, [], ◌⊎◌, ◌↔◌, ℕ, List, Contains, length, refl, sym, subst, inl, inr}
-use Rattle.olr_route.proofs.Common.{Along, IsStrictlyIncreasing, LiesWithin, Counts, ◌∙◌}
+use Rattle.olr_route.proofs.LabelNames.{◌∷◌, [], ◌⊎◌, ◌↔◌, ℕ, List, Contains, length, refl, sym, subst, inl, inr}
+use Rattle.olr_route.proofs.LabelNames.{Along, IsStrictlyIncreasing, LiesWithin, Counts, ◌∙◌}
 use Rattle.std.proofs.Common.{rules}
 use Rattle.std.proofs.lemmas.Bool.{eqb-true}
 use Rattle.std.proofs.lemmas.Map.Views.{Contains-from_any, list_any-from_Contains}

@@ -1,9 +1,10 @@
-use Rattle.olr_route.proofs.Common.{◌∷◌, [], ◌++◌, ◌+◌, ◌≤◌, ◌↔◌, ℕ, IsTrue, ap, subst, start, end, UniqueShortest, dm_of, limit_of}
-use Rattle.olr_route.proofs.Common.{last_step, dm, false≢true}
-use Rattle.olr_route.proofs.Common.{arith, sym, ◌∙◌}
+use Rattle.olr_route.proofs.LabelNames.{◌∷◌, [], ◌++◌, ◌+◌, ◌≤◌, ◌↔◌, ℕ, IsTrue, ap, subst, start, end, UniqueShortest}
+use Rattle.olr_route.proofs.LabelNames.{dm_of, limit_of}
+use Rattle.olr_route.proofs.LabelNames.{last_step, dm, false≢true}
+use Rattle.olr_route.proofs.LabelNames.{arith, sym, ◌∙◌}
 use Rattle.olr_spec.specs.Margins.{no_margin}
-use Rattle.olr_search.specs.ResolvedLines.{ResolvedLine}
-use Rattle.olr_search.proofs.ReadLemmas.{resolved_as}
+use Rattle.olr_route.specs.ResolvedLines.{ResolvedLine}
+use Rattle.olr_route.proofs.ReadLemmas.{resolved_as}
 use Rattle.olr_route.proofs.shortest.extends_unique.Goals as goal
 
 pub extends_unique_shortest-requires : goal.extends_unique_shortest-requires

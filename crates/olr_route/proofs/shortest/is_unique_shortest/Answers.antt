@@ -1,4 +1,4 @@
-use Rattle.olr_route.proofs.Common.{arith, limit_of, UniqueShortest}
+use Rattle.olr_route.proofs.LabelNames.{arith, limit_of, UniqueShortest}
 use Rattle.std.proofs.Common.{rules, tests}
 use Rattle.std.proofs.lemmas.Iterator.{cases_from_all, YieldsList-from_slice}
 use Rattle.olr_spec.proofs.RouteLemmas.{empty_unique, prefix_of_unique, unique_least}

@@ -1,5 +1,5 @@
-use Rattle.olr_list.specs.Items.{made_of}
-use Rattle.olr_list.specs.Iterated.{left}
+use Rattle.olr_paths.specs.Items.{made_of}
+use Rattle.olr_paths.specs.Iterated.{left}
 use Rattle.olr_answers.specs.Answers.{refusal_of}
 use Rattle.std.specs.Result.{result_map_both}
 use Rattle.olr_run.proofs.Reports.{one_more, report_of}

@@ -1,18 +1,18 @@
--- The records of the register are given, or none are.
-use Rattle.std.proofs.Common.{Some, sym, subst, ℕ, List}
+-- The records of the register are given if they are asked for.
+use Rattle.std.proofs.Common.{sym, subst, ℕ, List}
+use Rattle.olr_input.specs.Sessions.{Unasked, Given, Lacking}
 use Rattle.olr_run.specs.Runs.{AreRenewal}
-use Rattle.olr_run.proofs.Renewals.{none_renewed}
 use Rattle.olr_run.proofs.answers.renew.Goals as goal
 
 pub returns-then-not-wants_records : goal.returns-then-not-wants_records
-returns-then-not-wants_records g c = none_renewed g.S.Session.happens c.args.register.now c.args.session.now
+returns-then-not-wants_records g c = (Unasked, λ t h. tt, c.wants_records.ensures.unasked c.if-not-wants_records.true)
 
-pub returns-in_default : goal.returns-in_default
-returns-in_default g c = none_renewed g.S.Session.happens c.args.register.now c.args.session.now
+pub returns-in-Err : goal.returns-in-Err
+returns-in-Err g c = (Lacking, λ t h. tt, c.lack_records.ensures)
 
-pub returns : goal.returns
-returns g c = (
-  Some c.as_slice.result.now,
-  subst (λ (x : List ℕ). AreRenewal c.args.register.now (Some x)) (sym c.as_slice.ensures.value) c.in-Ok.ensures,
+pub returns-in-Ok : goal.returns-in-Ok
+returns-in-Ok g c = (
+  Given c.as_slice.result.now,
+  subst (λ (x : List ℕ). AreRenewal c.args.register.now (Given x)) (sym c.as_slice.ensures.value) c.in-Ok.ensures,
   c.renew.ensures,
 )

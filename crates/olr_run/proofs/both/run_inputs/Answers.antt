@@ -4,8 +4,8 @@ use Rattle.olr_run.proofs.InputRuns.{cut_at_first}
 use Rattle.olr_run.proofs.Joining.{longer, both_faulted_first_as}
 use Rattle.olr_run.proofs.RunLemmas.{none_claimed}
 use Rattle.olr_run.proofs.Running.{cut_by}
-use Rattle.olr_sessions.specs.Inputs.{read_as}
-use Rattle.olr_sessions.specs.declared.ends.RunFault.TheVariants as fault
+use Rattle.olr_input.specs.Inputs.{read_as}
+use Rattle.olr_input.specs.declared.ends.RunFault.TheVariants as fault
 use Rattle.olr_run.proofs.both.run_inputs.Goals as goal
 
 pub returns-in_err-file-clause-ended : goal.returns-in_err-file-clause-ended

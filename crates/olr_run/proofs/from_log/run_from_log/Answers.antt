@@ -4,7 +4,7 @@ use Rattle.std.specs.Prelude.{IfOk, is_ok}
 use Rattle.olr_run.proofs.Common.{both_records, file_bytes}
 use Rattle.olr_run.specs.LogEnds.{is_rejected}
 use Rattle.olr_run.specs.ProgramEnds.{Not_begun, ended_code}
-use Rattle.olr_sessions.specs.declared.ends.Status.{Status}
+use Rattle.olr_input.specs.declared.ends.Status.{Status}
 use Rattle.olr_run.proofs.FromLogs.{cut_from, ended_from, on_true}
 use Rattle.olr_run.proofs.from_log.run_from_log.Goals as goal
 

@@ -5,7 +5,7 @@ use Rattle.olr_run.proofs.Common.{Records, file_bytes, options_of, records_read}
 use Rattle.olr_run.proofs.Ending.{file_is, name_of}
 use Rattle.olr_run.proofs.ReadInputs.{both_read, not_read}
 use Rattle.olr_run.specs.ProgramEnds.{FromLog, Log_not_opened, No_size, Not_opened, From_log}
-use Rattle.olr_sessions.specs.Inputs.{read_from}
+use Rattle.olr_input.specs.Inputs.{read_from}
 use Rattle.olr_run.proofs.from_log.with_log.Goals as goal
 
 pub returns-in_default-clause-ends : goal.returns-in_default-clause-ends

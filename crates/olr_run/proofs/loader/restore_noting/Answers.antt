@@ -13,8 +13,8 @@ use Rattle.olr_run.proofs.loader.restore_noting.Goals as goal
 pub records-init : goal.records-init
 records-init c = record {
   few = omega arith;
-  loading = loading_start (records_of c.args.text.now) c.new-records.result c.in_ok-loader.loader c.new-records.ensures.left
-      c.in_ok-loader.ensures.loads;
+  loading = loading_start (records_of c.args.text.now) c.new-records.result c.new-loader.result c.new-records.ensures.left
+      c.new-loader.ensures;
 }
 
 pub records-preserved : goal.records-preserved

@@ -1,7 +1,7 @@
 use Rattle.olr_run.proofs.Common.{false≢true, file_bytes, input_records}
 use Rattle.std.proofs.Common.{◌≡◌, ◌≢◌, arith}
 use Rattle.olr_run.proofs.LoggedRuns.{both_cut_first, both_stopped_first, both_went, both_cut_second}
-use Rattle.olr_sessions.specs.declared.ends.Status.TheVariants as status
+use Rattle.olr_input.specs.declared.ends.Status.TheVariants as status
 use Rattle.olr_run.proofs.logged.run_both_logged.Goals as goal
 
 pub returns-in-Err-clause-ended : goal.returns-in-Err-clause-ended

@@ -3,10 +3,10 @@ use Rattle.std.proofs.Common.{◌∙◌, Option, sym, ap, subst}
 use Rattle.olr_run.proofs.Common.{file_bytes, input_records, IfSome}
 use Rattle.olr_run.proofs.InputRuns.{known_left}
 use Rattle.olr_run.proofs.LoggedRuns.{cut_logged, log_known, none_logged, run_length}
-use Rattle.olr_sessions.specs.Buffers.{unread}
-use Rattle.olr_sessions.specs.Sessions.{csv_left}
-use Rattle.olr_sessions.specs.declared.gate.Gate.{Gate}
-use Rattle.olr_sessions.specs.declared.sources.Records.{Records}
+use Rattle.olr_input.specs.Buffers.{unread}
+use Rattle.olr_input.specs.Sessions.{csv_left}
+use Rattle.olr_input.specs.declared.gate.Gate.{Gate}
+use Rattle.olr_input.specs.declared.sources.Records.{Records}
 use Rattle.olr_run.proofs.logged.run_logged.Goals as goal
 
 pub returns : goal.returns
@@ -15,7 +15,7 @@ returns g c =
     let left = λ (s : Records g.row.R.Denot). csv_left (unread g.R.Read.remaining) s.reader in
     let begins = known_left (left c.in-Ok.records) (g.R.Read.remaining c.in-Some.input) c.in-Ok.ensures in
     let k =
-    log_known left g.W.Write.contents g.J.Journal.kept g.J.Journal.may_leave c.args.stop c.args.register.now
+    log_known left g.W.Write.contents g.J.Journal c.args.stop c.args.register.now
     c.run_session-ended.new.register (c.new-session.result, c.args.output.now)
     (c.run_session-ended.new.session, c.run_session-ended.new.output) records c.run_session-ended.result c.args.gate
     c.into_gate.result c.is_sound.ensures
@@ -25,7 +25,7 @@ returns g c =
     (sym c.new-session.ensures.source) begins)) c.new-session.ensures.gate
     c.into_gate.ensures c.run_session-ended.ensures.ran c.run_session-ended.ensures.cut in
     let length =
-    run_length left g.W.Write.contents g.J.Journal.kept g.J.Journal.may_leave c.args.stop c.args.register.now
+    run_length left g.W.Write.contents g.J.Journal c.args.stop c.args.register.now
     c.run_session-ended.new.register (c.new-session.result, c.args.output.now)
     (c.run_session-ended.new.session, c.run_session-ended.new.output) c.run_session-ended.result
     c.run_session-ended.ensures.ran c.run_session-ended.ensures.cut in

@@ -1,7 +1,7 @@
 use Rattle.olr_run.proofs.Common.{both_records, file_bytes}
 use Rattle.olr_run.proofs.LoggedRuns.{held_sent, lasting, many_sent}
-use Rattle.olr_sessions.specs.Buffers.{written}
-use Rattle.olr_sessions.specs.Gates.{Compaction}
+use Rattle.olr_input.specs.Buffers.{written}
+use Rattle.olr_input.specs.Gates.{Compaction}
 use Rattle.std.proofs.Common.{◌∙◌, ap}
 use Rattle.olr_run.proofs.logged.run_with_log.Goals as goal
 

@@ -5,10 +5,10 @@ use Rattle.olr_run.proofs.Common.{Claims, IfSome, input_records}
 use Rattle.olr_run.proofs.InputRuns.{OfPlain, left_at, written_at, plain_sees, known_left, on_records, cut_at_first}
 use Rattle.olr_run.proofs.RunLemmas.{none_claimed}
 use Rattle.olr_run.proofs.Running.{cut_by}
-use Rattle.olr_sessions.specs.Buffers.{unread}
-use Rattle.olr_sessions.specs.Sessions.{csv_left}
-use Rattle.olr_sessions.specs.declared.sources.Records.{Records}
-use Rattle.olr_sessions.specs.declared.ends.RunFault.TheVariants as fault
+use Rattle.olr_input.specs.Buffers.{unread}
+use Rattle.olr_input.specs.Sessions.{csv_left}
+use Rattle.olr_input.specs.declared.sources.Records.{Records}
+use Rattle.olr_input.specs.declared.ends.RunFault.TheVariants as fault
 use Rattle.olr_run.proofs.records.run.Goals as goal
 
 pub returns : goal.returns

@@ -1,7 +1,7 @@
 -- A run over bytes in memory, from its session.
 use Rattle.std.proofs.Common.{Some, Bool, subst, sym}
-use Rattle.olr_sessions.specs.InMemory.{left_of}
-use Rattle.olr_sessions.specs.declared.in_memory.InMemory.{InMemory}
+use Rattle.olr_input.specs.InMemory.{left_of}
+use Rattle.olr_input.specs.declared.in_memory.InMemory.{InMemory}
 use Rattle.olr_run.proofs.Common.{records_of}
 use Rattle.olr_run.proofs.InputRuns.{OfPlain, left_at, written_at, plain_sees, on_records}
 use Rattle.olr_run.proofs.records.run_bytes.Goals as goal

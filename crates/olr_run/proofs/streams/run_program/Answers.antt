@@ -1,7 +1,7 @@
 -- The state at the end is that of the program's register.
 use Rattle.olr_run.proofs.Common.{Registered, Ends, Opens}
 use Rattle.std.proofs.Common.{map, subst}
-use Rattle.olr_sessions.specs.Buffers.{written}
+use Rattle.olr_input.specs.Buffers.{written}
 use Rattle.olr_run.proofs.streams.run_program.Goals as goal
 
 pub returns-clause-ends : goal.returns-clause-ends

@@ -1,9 +1,9 @@
 use Rattle.std.proofs.Common.{Ok, ap, ◌∙◌, sym}
-use Rattle.olr_roads.specs.Edits.{edit_of}
+use Rattle.olr_model.specs.Edits.{edit_of}
 use Rattle.olr_map.specs.RoadMaps.{map_of, slot_of}
 use Rattle.olr_map.specs.declared.road_map.RoadMap.{RoadMap}
-use Rattle.olr_list.specs.Items.{items}
-use Rattle.olr_paths.proofs.Following.{follows_self}
+use Rattle.olr_paths.specs.Items.{items}
+use Rattle.olr_renewal.proofs.Following.{follows_self}
 use Rattle.olr_register.proofs.Noted.{noted_plan}
 use Rattle.tests_register.proofs.RightLists.{bounds_unknown, on_ok_at, if_ok_at, right_before, right_renewed}
 use Rattle.tests_register.proofs.path_list.renew.Goals as goal
@@ -24,13 +24,15 @@ renew_over-renewed-requires g c =
     let e = c.new-none.ensures is in
     record {
       names = rw e c.len-names.ensures.names;
-      follows = rw e (follows_self is c.len-names.ensures.names);
-      bounds = rw e (bounds_unknown (map_of c.keep.new.self) (slot_of c.keep.new.self) is c.forget.new.self c.forget.ensures);
-      before = rw c.none.ensures (rw e (
-        M,
-        right_before M (map_of c.keep.new.self) (edit_of c.args.edit) c.note.new.self is c.args.map.now.kept.sound
-            (done ∙ ap (λ (m : RoadMap). Ok (map_of m)) (sym c.keep.ensures)) noted c.requires,
-      ));
+      renewable = rw c.none.ensures (rw e (record {
+        follows = follows_self is c.len-names.ensures.names;
+        bounds = bounds_unknown (map_of c.keep.new.self) (slot_of c.keep.new.self) is c.forget.new.self c.forget.ensures;
+        before = (
+          M,
+          right_before M (map_of c.keep.new.self) (edit_of c.args.edit) c.note.new.self is c.args.map.now.kept.sound
+              (done ∙ ap (λ (m : RoadMap). Ok (map_of m)) (sym c.keep.ensures)) noted c.requires,
+        );
+      }));
     }
 
 pub returns : goal.returns

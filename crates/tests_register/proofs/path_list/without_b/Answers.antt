@@ -1,5 +1,5 @@
 use Rattle.std.proofs.Common.{sym, subst}
-use Rattle.olr_list.specs.Items.{items}
+use Rattle.olr_paths.specs.Items.{items}
 use Rattle.tests_register.specs.Lists.{IsRight}
 use Rattle.tests_register.proofs.RightLists.{right_drop}
 use Rattle.tests_register.proofs.path_list.without_b.Goals as goal

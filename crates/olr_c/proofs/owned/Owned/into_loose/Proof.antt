@@ -1,12 +1,12 @@
 -- A full handle, as a box that was taken apart.
 use Rattle.olr_c.proofs.Common.{◌≡◌, List, [], ◌∷◌, ◌++◌, refl, ap, ◌∙◌, Val, vptr, vstruct, of_list, has_ty, WT, T}
-use Rattle.olr_c.proofs.Common.{layout, SProp, emp, never, fst∗, ftrue, fact, fact_i, tables, WpFn, sem, ‵, raw, ◌⊛◌, ◌$◌}
-use Rattle.olr_c.proofs.Common.{◌∵◌, !, qed, by, move, keep, split, use0, fsplit, fjoin, fpick, fpack, feq_i, feq_l, prop}
-use Rattle.olr_c.proofs.Common.{regoal, rewrite, stop, fld, of_opd, no_more, and_then, returns, enter, alloc_all}
-use Rattle.olr_c.proofs.Common.{pass_all, free_all, look_at, get, get_in, sets, agg, sub, whole, Valss, owns, lone}
-use Rattle.olr_c.proofs.Common.{types_at, plain, Ptr, RawPtr, block_ptr, null_ptr, ptr_val, in_a_block, nothing, heard}
-use Rattle.olr_c.proofs.Common.{within, shape, Stays, stay_dropped, walk_of, Goes-blank, handle_tells, Some, box_owns}
-use Rattle.olr_c.proofs.Common.{ghosts, proved_at, leaves, Keep, al, pair, and_tt, bare, Option, IsSome}
+use Rattle.olr_c.proofs.Common.{layout, SProp, emp, never, fst∗, ftrue, fact, fact_i, tables, WpFn, sem, ‵, raw, ◌⊛◌}
+use Rattle.olr_c.proofs.Common.{◌$◌, ◌∵◌, !, qed, by, move, keep, split, use0, fsplit, fjoin, fpick, fpack, feq_i}
+use Rattle.olr_c.proofs.Common.{feq_l, prop, regoal, rewrite, stop, fld, of_opd, no_more, and_then, returns, enter}
+use Rattle.olr_c.proofs.Common.{alloc_all, pass_all, free_all, look_at, get, get_in, sets, agg, sub, whole, Valss, owns}
+use Rattle.olr_c.proofs.Common.{lone, types_at, plain, Ptr, RawPtr, block_ptr, null_ptr, ptr_val, in_a_block, nothing}
+use Rattle.olr_c.proofs.Common.{heard, within, shape, Stays, stay_dropped, walk_of, Goes-blank, handle_tells, Some}
+use Rattle.olr_c.proofs.Common.{box_owns, ghosts, proved_at, leaves, Keep, al, pair, and_tt, bare, Option, IsSome}
 use Rattle.olr_c.specs.Held.{owns_keep}
 use Rattle.olr_spec.proofs.OptionLemmas.{some_of}
 use Rattle.olr_c.proofs.owned.Owned.into_loose.Statement.{statement}

@@ -1,10 +1,10 @@
 -- A handle that owns nothing.
 use Rattle.olr_c.proofs.Common.{◌≡◌, List, [], ◌∷◌, ◌++◌, refl, Val, has_ty, WT, T, layout, SProp, emp, ftrue, fact}
-use Rattle.olr_c.proofs.Common.{fact_i, tables, WpFn, ‵, raw, ◌⊛◌, ◌$◌, ◌∵◌, !, qed, by, move, keep, split, use0, fsplit}
-use Rattle.olr_c.proofs.Common.{fjoin, fpack, feq_i, prop, regoal, no_more, and_then, returns, enter, alloc_all, pass_all}
-use Rattle.olr_c.proofs.Common.{free_all, look_at, get, sets, agg, Valss, owns, types_at, plain, null_ptr, ptr_val}
-use Rattle.olr_c.proofs.Common.{nothing, within, shape, to, Stays, stay_dropped, walk_of, Goes-blank, handle_tells}
-use Rattle.olr_c.proofs.Common.{proved_at, leaves, lit<, vint, w64, lit, None, al, pair, and_tt}
+use Rattle.olr_c.proofs.Common.{fact_i, tables, WpFn, ‵, raw, ◌⊛◌, ◌$◌, ◌∵◌, !, qed, by, move, keep, split, use0}
+use Rattle.olr_c.proofs.Common.{fsplit, fjoin, fpack, feq_i, prop, regoal, no_more, and_then, returns, enter, alloc_all}
+use Rattle.olr_c.proofs.Common.{pass_all, free_all, look_at, get, sets, agg, Valss, owns, types_at, plain, null_ptr}
+use Rattle.olr_c.proofs.Common.{ptr_val, nothing, within, shape, to, Stays, stay_dropped, walk_of, Goes-blank}
+use Rattle.olr_c.proofs.Common.{handle_tells, proved_at, leaves, lit<, vint, w64, lit, None, al, pair, and_tt}
 use Rattle.olr_c.proofs.owned.Owned.none.Statement.{statement}
 use Rattle.std.specs.contracts.alloc.Global as heap
 use Rattle.olr_c.specs.contracts.owned.Owned as owned

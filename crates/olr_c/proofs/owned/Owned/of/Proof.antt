@@ -1,12 +1,12 @@
 -- A box that was taken apart, as a handle.
 use Rattle.olr_c.proofs.Common.{◌≡◌, List, [], ◌∷◌, ◌++◌, refl, ap, ◌∙◌, Val, vptr, vstruct, of_list, has_ty, WT, T}
-use Rattle.olr_c.proofs.Common.{layout, SProp, emp, never, fst∗, ftrue, fact, fact_i, tables, WpFn, sem, ‵, raw, ◌⊛◌, ◌$◌}
-use Rattle.olr_c.proofs.Common.{◌∵◌, !, qed, by, move, keep, split, use0, fsplit, fjoin, fpick, fpack, feq_i, feq_l, prop}
-use Rattle.olr_c.proofs.Common.{regoal, stop, fld, of_opd, no_more, and_then, returns, enter, alloc_all, pass_all}
-use Rattle.olr_c.proofs.Common.{free_all, look_at, get, get_in, sets, agg, sub, whole, Valss, owns, lone, types_at, plain}
-use Rattle.olr_c.proofs.Common.{Ptr, block_ptr, null_ptr, ptr_val, in_a_block, nothing, within, shape, to, Stays}
-use Rattle.olr_c.proofs.Common.{stay_dropped, walk_of, Goes-blank, handle_tells, Some, box_owns, ghosts, proved_at}
-use Rattle.olr_c.proofs.Common.{leaves, al, pair, and_tt, bare}
+use Rattle.olr_c.proofs.Common.{layout, SProp, emp, never, fst∗, ftrue, fact, fact_i, tables, WpFn, sem, ‵, raw, ◌⊛◌}
+use Rattle.olr_c.proofs.Common.{◌$◌, ◌∵◌, !, qed, by, move, keep, split, use0, fsplit, fjoin, fpick, fpack, feq_i}
+use Rattle.olr_c.proofs.Common.{feq_l, prop, regoal, stop, fld, of_opd, no_more, and_then, returns, enter, alloc_all}
+use Rattle.olr_c.proofs.Common.{pass_all, free_all, look_at, get, get_in, sets, agg, sub, whole, Valss, owns, lone}
+use Rattle.olr_c.proofs.Common.{types_at, plain, Ptr, block_ptr, null_ptr, ptr_val, in_a_block, nothing, within, shape}
+use Rattle.olr_c.proofs.Common.{to, Stays, stay_dropped, walk_of, Goes-blank, handle_tells, Some, box_owns, ghosts}
+use Rattle.olr_c.proofs.Common.{proved_at, leaves, al, pair, and_tt, bare}
 use Rattle.olr_c.proofs.owned.Owned.of.Statement.{statement}
 use Rattle.std.specs.contracts.alloc.Global as heap
 use Rattle.olr_c.specs.contracts.keep.Keep as kept

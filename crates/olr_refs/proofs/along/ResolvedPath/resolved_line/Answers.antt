@@ -1,5 +1,5 @@
 use Rattle.olr_refs.proofs.Common.{ap, ResolvedLine}
-use Rattle.olr_search.proofs.ReadLemmas.{resolved_as}
+use Rattle.olr_route.proofs.ReadLemmas.{resolved_as}
 use Rattle.olr_refs.proofs.Joined.{known_at, start_known, end_known}
 use Rattle.olr_refs.proofs.Resolving.{record_at}
 use Rattle.olr_refs.proofs.along.ResolvedPath.resolved_line.Goals as goal

@@ -1,7 +1,7 @@
-use Rattle.olr_register.proofs.Common.{not, refl, sym, ap, ◌∙◌, anew, subst, under_batch, map_of, same_name, Drop_path, Item, items}
-use Rattle.olr_register.proofs.Common.{under_overlay, begins_drop, ByContent, No_memory}
+use Rattle.olr_register.proofs.Common.{not, refl, sym, ap, ◌∙◌, to_renew, subst, under_batch, map_of, same_name, Drop_path}
+use Rattle.olr_register.proofs.Common.{Item, items, under_overlay, begins_drop, ByContent, No_memory}
 use Rattle.olr_register.proofs.Changing.{drop_missing, drop_lacks, drop_ok}
-use Rattle.olr_register.proofs.Listed.{anew_drop, each_left, each_given, each_if_any, each_follows, given_none, has_anew, named_anew}
+use Rattle.olr_register.proofs.Listed.{to_renew_drop, each_left, each_given, each_if_any, each_follows, given_none, has_to_renew, named_to_renew}
 use Rattle.olr_commands.specs.State.{NamesDiffer}
 use Rattle.olr_register.proofs.Making.{path_unmade, path_made}
 use Rattle.olr_register.proofs.batch.Batch.drop_path.Goals as goal
@@ -9,7 +9,7 @@ use Rattle.olr_register.proofs.batch.Batch.drop_path.Goals as goal
 pub returns-then-not-has : goal.returns-then-not-has
 returns-then-not-has c = λ roads.
     path_unmade roads (items c.args.list.now) c.args.self.now c.args.self.now.overlay _ _ _ refl refl
-    (ByContent (drop_missing _ c.args.name.now (has_anew _ _ c.args.name.now ∙ sym c.if-not-has.ensures)))
+    (ByContent (drop_missing _ c.args.name.now (has_to_renew _ _ c.args.name.now ∙ sym c.if-not-has.ensures)))
 
 pub returns : goal.returns
 returns c = λ roads.
@@ -18,11 +18,11 @@ returns c = λ roads.
     let b = c.args.self.now in
     let us = under_overlay is b.overlay in
     let ks = under_batch is b in
-    let names = subst NamesDiffer (named_anew b.all us) c.requires in
+    let names = subst NamesDiffer (named_to_renew b.all us) c.requires in
     let keep = λ (i : Item). not (same_name i.name name) in
     path_made roads is b c.drop_path.new.self (Drop_path name) _
-    (ap (anew b.all) (c.in_ok-drop_path.ensures.ok is names) ∙ anew_drop b.all name us)
-    (drop_ok b.margin (map_of roads) ks name (has_anew b.all us name ∙ sym c.if-not-has.ensures)) tt refl refl
+    (ap (to_renew b.all) (c.in_ok-drop_path.ensures.ok is names) ∙ to_renew_drop b.all name us)
+    (drop_ok b.margin (map_of roads) ks name (has_to_renew b.all us name ∙ sym c.if-not-has.ensures)) tt refl refl
     (λ xs g. given_none xs (Drop_path name) _ (λ q. refl) (each_left (each_given xs) keep ks g))
     (λ M. each_left (each_if_any b.margin M) keep ks) (each_left (each_follows is) keep ks) (begins_drop keep ks)
 
@@ -30,5 +30,5 @@ pub returns-in_err-drop_path : goal.returns-in_err-drop_path
 returns-in_err-drop_path c = λ roads.
     let is = items c.args.list.now in
     path_unmade roads is c.args.self.now c.drop_path.new.self _ _ No_memory c.from_residual.ensures.1
-    (ap (anew c.args.self.now.all) (c.in_err-drop_path.ensures.err is))
-    (drop_lacks _ c.args.name.now (has_anew _ _ c.args.name.now ∙ sym c.if-not-has.ensures))
+    (ap (to_renew c.args.self.now.all) (c.in_err-drop_path.ensures.err is))
+    (drop_lacks _ c.args.name.now (has_to_renew _ _ c.args.name.now ∙ sym c.if-not-has.ensures))

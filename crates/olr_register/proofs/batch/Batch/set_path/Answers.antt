@@ -1,9 +1,9 @@
 use Rattle.olr_register.proofs.Common.{inl, inr, not, refl, sym, ap, ◌∙◌, map_of, Set_path, items, under_overlay}
-use Rattle.olr_register.proofs.Common.{path_by, not-false, No_memory, anew, subst, under_batch}
+use Rattle.olr_register.proofs.Common.{path_by, not-false, No_memory, to_renew, subst, under_batch}
 use Rattle.olr_commands.specs.State.{NamesDiffer}
-use Rattle.olr_list.proofs.OriginLemmas.{begins_set}
+use Rattle.olr_paths.proofs.OriginLemmas.{begins_set}
 use Rattle.olr_register.proofs.Changing.{set_refused, set_ok}
-use Rattle.olr_register.proofs.Listed.{anew_set, each_set, each_if_any, each_follows, given_set, has_anew, named_anew}
+use Rattle.olr_register.proofs.Listed.{to_renew_set, each_set, each_if_any, each_follows, given_set, has_to_renew, named_to_renew}
 use Rattle.olr_register.proofs.Making.{path_unmade, path_made}
 use Rattle.olr_register.proofs.batch.Batch.set_path.Goals as goal
 
@@ -11,14 +11,14 @@ pub returns-in_err-path : goal.returns-in_err-path
 returns-in_err-path c = λ roads.
     path_unmade roads (items c.args.list.now) c.args.self.now c.args.self.now.overlay _ _ c.in_err-path.field-0.0
     c.from_residual.ensures.1 refl (set_refused _ c.args.name.now (path_by c.args.parts) (not c.has-missing.result) _
-    (ap not (c.has-missing.ensures ∙ sym (has_anew _ _ c.args.name.now))) c.in_err-path.ensures.fault)
+    (ap not (c.has-missing.ensures ∙ sym (has_to_renew _ _ c.args.name.now))) c.in_err-path.ensures.fault)
 
 pub returns-in_err-hold_other : goal.returns-in_err-hold_other
 returns-in_err-hold_other c = λ roads.
     let is = items c.args.list.now in
     path_unmade roads is c.args.self.now c.hold_other.new.self _ _ No_memory c.from_residual-in_err-hold_other.ensures.1
-    (ap (anew c.args.self.now.all) (c.in_err-hold_other.ensures.err is)) (set_refused _ c.args.name.now (path_by c.args.parts) (not c.has-missing.result) _
-    (ap not (c.has-missing.ensures ∙ sym (has_anew _ _ c.args.name.now))) c.in_ok-path.ensures.lacks)
+    (ap (to_renew c.args.self.now.all) (c.in_err-hold_other.ensures.err is)) (set_refused _ c.args.name.now (path_by c.args.parts) (not c.has-missing.result) _
+    (ap not (c.has-missing.ensures ∙ sym (has_to_renew _ _ c.args.name.now))) c.in_ok-path.ensures.lacks)
 
 pub returns : goal.returns
 returns c = λ roads.
@@ -29,11 +29,11 @@ returns c = λ roads.
     let us = under_overlay is b.overlay in
     let ks = under_batch is b in
     let here = sym c.has-missing.ensures ∙ not-false c.has-missing.result c.in_ok-path.ensures.right in
-    let there = has_anew b.all us name ∙ here in
-    let names = subst NamesDiffer (named_anew b.all us) c.requires in
+    let there = has_to_renew b.all us name ∙ here in
+    let names = subst NamesDiffer (named_to_renew b.all us) c.requires in
     path_made roads is b c.hold_other.new.self (Set_path name path) _
-    (rw (← c.in_ok-path.ensures.ok) (ap (anew b.all) (c.in_ok-hold_other.ensures.ok is names here)
-    ∙ anew_set b.all name _ us))
+    (rw (← c.in_ok-path.ensures.ok) (ap (to_renew b.all) (c.in_ok-hold_other.ensures.ok is names here)
+    ∙ to_renew_set b.all name _ us))
     (set_ok b.margin (map_of roads) ks name path _ there c.in_ok-path.ensures.good) tt refl refl
     (λ xs g. given_set name path xs ks g)
     (λ M. each_set (each_if_any b.margin M) (each_if_any b.margin M) name path _ (λ i e. tt) (λ i e p. p) ks)

@@ -16,28 +16,28 @@ returns-in_err-path c =
     (may_refuse _ _ _ refl (add_refused _ name (path_by c.args.parts) c.has-taken.result _
     (c.has-taken.ensures ∙ ap (has_name (items c.self.inside.paths)) c.deref.ensures) c.in_err-path.ensures.fault))
 
-pub returns-in_err-entries : goal.returns-in_err-entries
-returns-in_err-entries c =
+pub returns-in_err-renewed : goal.returns-in_err-renewed
+returns-in_err-renewed c =
     let name = string_bytes c.args.name in
     refused_now c.self.inside c.self.view_is c.requires (Add_path name (path_by c.args.parts)) _ _ rust.Memory
-    (rw c.in_err-entries.ensures.err c.self.view_is)
-    c.from_residual-in_err-entries.ensures.1
+    (rw c.in_err-renewed.ensures.err c.self.view_is)
+    c.from_residual-in_err-renewed.ensures.1
     (may_refuse _ _ _ refl (add_refused _ name (path_by c.args.parts) c.has-taken.result _
     (c.has-taken.ensures ∙ ap (has_name (items c.self.inside.paths)) c.deref.ensures) c.in_ok-path.ensures.lacks))
 
 pub invariant_of-self-2 : goal.invariant_of-self-2
 invariant_of-self-2 c =
     let r = c.self.inside in
-    let e = c.in_ok-entries.ensures in
+    let e = c.in_ok-renewed.ensures in
     add_right r c.self.view_is c.requires c.self.invariant (string_bytes c.args.name) (items c.add.new.list)
     c.in_ok-path.path e.added.0 (rw c.in_ok-path.ensures.ok c.in_ok-path.ensures.good) e.added.1 _
     (ap (has_name (items r.paths)) (sym c.deref.ensures) ∙ sym c.has-taken.ensures ∙ c.in_ok-path.ensures.right) e.added.2
-    (c.renew_bounds.ensures r.roads [] (items r.paths) (kept_bounds r c.self.view_is c.requires c.self.invariant) e.new_origins)
+    (c.renew_bounds.ensures r.roads [] (items r.paths) (kept_bounds r c.self.view_is c.requires c.self.invariant) e.queries)
 
 pub returns : goal.returns
 returns c =
     let r = c.self.inside in
-    let e = c.in_ok-entries.ensures in
+    let e = c.in_ok-renewed.ensures in
     rw (← c.in_ok-path.ensures.ok, c.plus-self-inside.ensures)
     (add_done r c.self.view_is c.requires c.self.invariant (string_bytes c.args.name) (items c.add.new.list)
     c.in_ok-path.path e.added.0 (rw c.in_ok-path.ensures.ok c.in_ok-path.ensures.good) e.added.1 _ _ _ refl

@@ -1,8 +1,8 @@
 use Rattle.olr_register.proofs.Common.{◌≡◌, true, false, Some, None, Ok, List, map, length, refl, sym, ap, ◌∙◌, subst}
 use Rattle.olr_register.proofs.Common.{ne_eqb, map_of, map_before, Named, Content, Commit, IsContent, ByState, may_want}
-use Rattle.olr_register.proofs.Common.{entry_of, items, all_named, under_overlay, nodes_of, lines_of}
-use Rattle.olr_register.proofs.Common.{Registered, content_on, batch_of, Lacks_memory, Affects, AreGiven, Batch, Bool, Change}
-use Rattle.olr_register.proofs.Common.{Item, Map, Margin, all_lines, all_nodes, anew, has, held_of, under_batch, ℕ}
+use Rattle.olr_register.proofs.Common.{entry_of, items, all_named, under_overlay, nodes_of, lines_of, Registered}
+use Rattle.olr_register.proofs.Common.{content_on, batch_of, Lacks_memory, Affects, AreGiven, Batch, Bool, Change, Item}
+use Rattle.olr_register.proofs.Common.{Map, Margin, all_lines, all_nodes, to_renew, has, held_of, under_batch, ℕ}
 use Rattle.olr_register.proofs.BatchSteps.{held_content, right_count}
 use Rattle.olr_register.proofs.Counting.{counted_all, counted_changes, rise_on}
 use Rattle.olr_register.proofs.Noted.{can_commit}
@@ -12,9 +12,9 @@ use Rattle.olr_register.proofs.Replies.{planned_changes}
 use Rattle.olr_register.proofs.States.{state, of_parts, in_states, right_as}
 use Rattle.olr_commands.specs.declared.fault.CommandFault.TheVariants as rust
 use Rattle.olr_commands.specs.declared.reply.Reply.TheVariants as reply
-use Rattle.olr_search.specs.Counts.{raised_work}
+use Rattle.olr_route.specs.Counts.{raised_work}
 use Rattle.olr_commands.specs.Counts.{CountIs}
-use Rattle.olr_paths.specs.Changes.{IsAffected}
+use Rattle.olr_renewal.specs.Changes.{IsAffected}
 use Rattle.olr_register.specs.Contents.{KeepsMargin}
 use Rattle.olr_register.proofs.register.Register.commit.Goals as goal
 
@@ -31,9 +31,9 @@ counted_held g M is b xs same nodes lines given n count = by b.all refl given co
   c : Content
   c = content_on g M is
 
-  by : (all : Bool) → b.all ≡ all → AreGiven xs (map held_of (anew all us)) →
-      CountIs (IsAffected b.margin M (nodes_of b.touched) (lines_of b.touched)) (anew all us) n →
-      CountIs (Affects c xs) (all_named (anew all us)) n
+  by : (all : Bool) → b.all ≡ all → AreGiven xs (map held_of (to_renew all us)) →
+      CountIs (IsAffected b.margin M (nodes_of b.touched) (lines_of b.touched)) (to_renew all us) n →
+      CountIs (Affects c xs) (all_named (to_renew all us)) n
   by true some given count =
       counted_all b.margin M (nodes_of b.touched) (lines_of b.touched) c xs us n count given
   by false none given count =

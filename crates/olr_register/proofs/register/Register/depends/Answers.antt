@@ -8,8 +8,8 @@ use Rattle.olr_register.proofs.WithoutBatch.{open_refused, shut_answered, shut_r
 use Rattle.olr_register.proofs.Shown.{no_nodes, nodes_asked, dependents}
 use Rattle.olr_register.proofs.Renewed.{made_if_any}
 use Rattle.olr_register.proofs.Common.{◌≡◌, ℕ, [], None, DistanceBounds, slot_of}
-use Rattle.olr_near.specs.Bounds.{IsRight, IsSource, IsUnderWay}
-use Rattle.olr_list.specs.Origins.{AreBoundsOf}
+use Rattle.olr_renewal.specs.Bounds.{IsRight, IsSource, IsUnderWay}
+use Rattle.olr_renewal.specs.AffectedSearches.{AreBoundsOf}
 use Rattle.olr_register.specs.declared.register.Register.TheInside.{Inside}
 use Rattle.olr_register.proofs.Bounded.{settled_bounds}
 use Rattle.olr_register.proofs.States.{right_as}

@@ -1,6 +1,6 @@
-use Rattle.olr_register.proofs.Common.{◌≡◌, ◌≢◌, List, length, None, IsOk, refl, sym, ap, ◌∙◌, Map, Edit, edited, edit_of}
-use Rattle.olr_register.proofs.Common.{map_of, On_map, Make, at_once, IsRefusal, ByState, Item, items, all_named, Registered}
-use Rattle.olr_register.proofs.Common.{content_on, Margin, No_memory, ne_eqb}
+use Rattle.olr_register.proofs.Common.{◌≡◌, ◌≢◌, List, length, None, IsOk, refl, sym, ap, ◌∙◌, Map, Edit, edited}
+use Rattle.olr_register.proofs.Common.{edit_of, map_of, On_map, Make, at_once, IsRefusal, ByState, Item, items}
+use Rattle.olr_register.proofs.Common.{all_named, Registered, content_on, Margin, No_memory, ne_eqb}
 use Rattle.olr_register.proofs.Changing.{edit_refused, edit_lacks}
 use Rattle.olr_register.proofs.Singles.{refused_now, same_map, may_refuse, same_right, kept_bounds}
 use Rattle.olr_register.proofs.Singles.{can_edit, edit_right, edit_done}

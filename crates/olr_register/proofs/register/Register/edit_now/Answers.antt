@@ -1,5 +1,5 @@
-use Rattle.olr_register.proofs.Common.{◌≡◌, ◌<◌, List, [], map, length, refl, sym, ap, arith, ◌∙◌, edit_of}
-use Rattle.olr_register.proofs.Common.{map_of, On_map, at_once, ByState, entry_of, Entry, Item, items, all_named, Registered}
+use Rattle.olr_register.proofs.Common.{◌≡◌, ◌<◌, List, [], map, length, refl, sym, ap, arith, ◌∙◌, edit_of, map_of}
+use Rattle.olr_register.proofs.Common.{On_map, at_once, ByState, entry_of, Entry, Item, items, all_named, Registered}
 use Rattle.olr_register.proofs.Common.{content_on, No_memory, length-map, named_of}
 use Rattle.olr_register.proofs.Bounded.{bounds_stay}
 use Rattle.olr_register.proofs.Changing.{edit_refused, edit_lacks}

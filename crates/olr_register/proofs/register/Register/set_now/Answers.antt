@@ -17,26 +17,26 @@ returns-in_err-path c =
     c.from_residual.ensures.1 (may_refuse _ y _ refl (set_refused _ c.args.name.now (path_by c.args.parts)
     (not c.has-missing.result) _ (ap not c.has-missing.ensures) c.in_err-path.ensures.fault))
 
-pub returns-in_err-entries : goal.returns-in_err-entries
-returns-in_err-entries c =
+pub returns-in_err-renewed : goal.returns-in_err-renewed
+returns-in_err-renewed c =
     let y = Set_path c.args.name.now (path_by c.args.parts) in
     refused_now c.self.inside c.self.view_is c.requires y _ _ rust.Memory
-    (rw c.in_err-entries.ensures.err c.self.view_is)
-    c.from_residual-in_err-entries.ensures.1 (may_refuse _ y _ refl (set_refused _ c.args.name.now
+    (rw c.in_err-renewed.ensures.err c.self.view_is)
+    c.from_residual-in_err-renewed.ensures.1 (may_refuse _ y _ refl (set_refused _ c.args.name.now
     (path_by c.args.parts) (not c.has-missing.result) _ (ap not c.has-missing.ensures) c.in_ok-path.ensures.lacks))
 
 pub invariant_of-self-2 : goal.invariant_of-self-2
 invariant_of-self-2 c =
     let r = c.self.inside in
-    let e = c.in_ok-entries.ensures in
+    let e = c.in_ok-renewed.ensures in
     set_right r c.self.view_is c.requires c.self.invariant c.args.name.now (items c.set.new.list) c.in_ok-path.path
     e.set.0 (rw c.in_ok-path.ensures.ok c.in_ok-path.ensures.good) e.set.1 _
     (sym c.has-missing.ensures ∙ not-false c.has-missing.result c.in_ok-path.ensures.right) e.set.2
-    (c.renew_bounds.ensures r.roads [] (items r.paths) (kept_bounds r c.self.view_is c.requires c.self.invariant) e.new_origins)
+    (c.renew_bounds.ensures r.roads [] (items r.paths) (kept_bounds r c.self.view_is c.requires c.self.invariant) e.queries)
 
 pub returns : goal.returns
 returns c =
-    let e = c.in_ok-entries.ensures in
+    let e = c.in_ok-renewed.ensures in
     rw (← c.in_ok-path.ensures.ok, c.plus-self-inside.ensures)
     (set_done c.self.inside c.self.view_is c.requires c.self.invariant c.args.name.now (items c.set.new.list)
     c.in_ok-path.path e.set.0 (rw c.in_ok-path.ensures.ok c.in_ok-path.ensures.good) e.set.1 _ _ _ refl e.counted

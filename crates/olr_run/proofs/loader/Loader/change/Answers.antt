@@ -1,21 +1,33 @@
-use Rattle.std.proofs.lemmas.Result.{err_from_is_err_and}
+use Rattle.std.proofs.Common.{◌≡◌, ◌∙◌, true, false, refl, sym}
 use Rattle.olr_run.proofs.Common.{command_of}
-use Rattle.olr_run.specs.Restored.{Loaded, Refuses}
-use Rattle.olr_run.proofs.Refusing.{if_err}
-use Rattle.olr_run.proofs.Restoring.{on_ok}
+use Rattle.std.proofs.lemmas.Result.{err_from_is_err_and}
+use Rattle.olr_run.proofs.Refusing.{change_full, change_never, if_err}
+use Rattle.olr_run.proofs.Restoring.{loaded_change, on_ok}
 use Rattle.olr_run.proofs.loader.Loader.change.Goals as goal
+
+pub returns-then-not-self-clause-loaded : goal.returns-then-not-self-clause-loaded
+returns-then-not-self-clause-loaded c =
+    on_ok c.change.result _ _ c.change.ensures.made (λ made.
+    loaded_change c.args.self.now _ (command_of c.args.command) c.requires made refl
+    (λ inside. absurd (let never : true ≡ false = sym inside ∙ c.if-not-self.true in cc))
+    (λ inside. absurd (let never : true ≡ false = sym inside ∙ c.if-not-self.true in cc)))
 
 pub returns-clause-loaded : goal.returns-clause-loaded
 returns-clause-loaded c =
-    on_ok c.make-2.result (Loaded c.renew.new.self (command_of c.args.command) c.make-2.new.self)
-    (Loaded c.args.self.now (command_of c.args.command) c.make-2.new.self) c.make-2.ensures.loaded
-    (λ h s a. h s (c.in_ok-renew.ensures.loads s a))
+    loaded_change c.args.self.now _ (command_of c.args.command) c.requires c.in_ok-change.ensures.made refl
+    (λ _. refl) (λ _. c.if-self-ge-FULL.false)
 
-pub returns-clause-refused : goal.returns-clause-refused
-returns-clause-refused c =
-    if_err c.make-2.result _ _ c.make-2.ensures.refused (λ e refuses is s a. refuses is s (c.in_ok-renew.ensures.loads s a))
+pub returns-then-not-self-clause-refused : goal.returns-then-not-self-clause-refused
+returns-then-not-self-clause-refused c =
+    if_err c.change.result _ _ c.change.ensures.refused
+    (λ e never is. change_never c.args.self.now (command_of c.args.command) c.requires (never is))
 
-pub returns-in_err-renew-clause-refused : goal.returns-in_err-renew-clause-refused
-returns-in_err-renew-clause-refused c =
+pub returns-then-self-ge-FULL-clause-refused : goal.returns-then-self-ge-FULL-clause-refused
+returns-then-self-ge-FULL-clause-refused c = λ is.
+    change_full c.args.self.now (command_of c.args.command) c.requires c.if-not-self.false c.if-self-ge-FULL.true
+
+pub returns-in_err-change-clause-refused : goal.returns-in_err-change-clause-refused
+returns-in_err-change-clause-refused c =
     let p = err_from_is_err_and c.from_residual.result c.from_residual.ensures.1 in
-    rw p.1 (rw p.2 (λ is s a t ok. c.in_err-renew.ensures.fails s a is))
+    rw p.1
+    (rw p.2 (λ is. change_never c.args.self.now (command_of c.args.command) c.requires (c.in_err-change.ensures.refused is)))

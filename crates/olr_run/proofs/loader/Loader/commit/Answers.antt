@@ -12,5 +12,5 @@ returns-then-count-self-clause-refused c = λ is.
 
 pub returns-clause-loaded : goal.returns-clause-loaded
 returns-clause-loaded c = λ s a.
-    loads_committed c.args.self.now _ c.args.count s.content s.batch a refl refl c.if-not-self.false
+    loads_committed c.args.self.now _ c.args.count s.content s.batch a refl c.if-not-self.false
     c.if-count-self.false refl

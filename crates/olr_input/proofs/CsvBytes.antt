@@ -1,0 +1,114 @@
+-- The effect of one byte on a record, and that a byte order mark is skipped.
+use Rattle.std.proofs.Common.{◌≡◌, ◌≤◌, ◌<◌, ◌+◌, ◌-◌, ◌++◌, ℕ, List, [], ◌∷◌, Some, None, true, false, refl, length}
+use Rattle.std.proofs.Common.{take, drop, sym, ap, ◌∙◌, arith, length-drop, get_or, get_or-drop, drop-cons, add-one}
+use Rattle.csv.specs.Machine.{step, ends_at_end, is_end, fields_after, field_after, next_record}
+use Rattle.csv.specs.Reading.{default_config, is_bom, strip_bom}
+use Rattle.csv.specs.declared.parser.State.TheVariants.{StartRecord}
+use Rattle.olr_input.specs.InMemory.{csv_state, csv_action, csv_step}
+use Rattle.olr_input.specs.declared.in_memory.Action.{Action}
+use Rattle.std.proofs.Math.ListN.{drop_of_length-le}
+use Rattle.std.proofs.Math.Seq.{drop-length, take-length}
+use Rattle.std.proofs.lemmas.List.{append-nil, append_assoc, take_more}
+use Rattle.std.specs.Prelude.{if◌then◌else◌}
+use Rattle.csv.specs.declared.parser.State.{State}
+use Rattle.csv.specs.declared.parser.Action.{Action as CsvAction}
+use Rattle.olr_input.specs.declared.in_memory.State.{State as Here}
+use Rattle.csv.specs.declared.parser.Action.TheVariants as act
+
+-- the effect of a byte, by the state and the action after it
+pub did : (r : Here × Action) (a : Action) (x : State × CsvAction) → csv_step r ≡ x → r.1 ≡ a →
+    x ≡ (csv_state r.0, csv_action a)
+did r a x e h = sym e ∙ ap (λ (k : Action). (csv_state r.0, csv_action k)) h
+
+-- the effect of a byte on a record
+pub of_byte : (s t : State) (a : CsvAction) (f : List (List ℕ)) (p rest : List ℕ) (c : ℕ) → step default_config s c ≡ (t, a) →
+    next_record default_config s f p (c ∷ rest) ≡ (if is_end a then Some (fields_after a f p, t, rest) else
+    next_record default_config t (fields_after a f p) (field_after a c p) rest)
+unfolding next_record
+of_byte s t a f p rest c e = rw e refl
+
+-- the bytes from an index on, with the first of them
+at : (text : List ℕ) (i : ℕ) → i < length text → drop i text ≡ get_or text i 0 ∷ drop (i + 1) text
+at text i low = drop-cons text i 0 low ∙ ap (λ (k : ℕ). get_or text i 0 ∷ drop k text) (sym (add-one i))
+
+-- a part of a text, with one byte more
+longer : (text : List ℕ) (start i : ℕ) → start ≤ i → i < length text →
+    take (i + 1 - start) (drop start text) ≡ take (i - start) (drop start text) ++ get_or text i 0 ∷ []
+longer text start i from low =
+    grind (arith, length-drop, take_more (drop start text) (i - start) 0, get_or-drop start text (i - start) 0)
+
+empty : (text : List ℕ) (i : ℕ) → take (i + 1 - (i + 1)) (drop (i + 1) text) ≡ []
+empty text i = grind arith
+
+-- the loop over bytes at an index, after which the field has its earlier bytes and those from `start` on
+pub copied : (s t : State) (f : List (List ℕ)) (field text : List ℕ) (start i : ℕ) → start ≤ i → i < length text →
+    step default_config s (get_or text i 0) ≡ (t, act.Copy) →
+    next_record default_config s f (field ++ take (i - start) (drop start text)) (drop i text)
+    ≡ next_record default_config t f (field ++ take (i + 1 - start) (drop start text)) (drop (i + 1) text)
+copied s t f field text start i from low e =
+    let part = take (i - start) (drop start text) in
+    rw (
+      at text i low,
+      of_byte s t act.Copy f (field ++ part) (drop (i + 1) text) (get_or text i 0) e,
+      longer text start i from low,
+    ) (simp append_assoc refl)
+
+pub skipped : (s t : State) (f : List (List ℕ)) (field p text : List ℕ) (i : ℕ) → i < length text → field ≡ p →
+    step default_config s (get_or text i 0) ≡ (t, act.Skip) →
+    next_record default_config s f p (drop i text)
+    ≡ next_record default_config t f (field ++ take (i + 1 - (i + 1)) (drop (i + 1) text)) (drop (i + 1) text)
+skipped s t f field p text i low same e =
+    let byte = of_byte s t act.Skip f p (drop (i + 1) text) (get_or text i 0) e in
+    rw (at text i low, byte, empty text i, append-nil field, same) refl
+
+pub field_ended : (s t : State) (f g : List (List ℕ)) (field p text : List ℕ) (i : ℕ) → i < length text → field ≡ [] →
+    g ≡ f ++ p ∷ [] → step default_config s (get_or text i 0) ≡ (t, act.EndField) →
+    next_record default_config s f p (drop i text)
+    ≡ next_record default_config t g (field ++ take (i + 1 - (i + 1)) (drop (i + 1) text)) (drop (i + 1) text)
+field_ended s t f g field p text i low none more e =
+    let byte = of_byte s t act.EndField f p (drop (i + 1) text) (get_or text i 0) e in
+    rw (at text i low, byte, empty text i, append-nil field, none, more) refl
+
+pub record_ended : (s t : State) (f g : List (List ℕ)) (p text : List ℕ) (i : ℕ) → i < length text →
+    g ≡ f ++ p ∷ [] → step default_config s (get_or text i 0) ≡ (t, act.EndRecord) →
+    next_record default_config s f p (drop i text) ≡ Some (g, t, drop (i + 1) text)
+record_ended s t f g p text i low more e =
+    rw (at text i low, of_byte s t act.EndRecord f p (drop (i + 1) text) (get_or text i 0) e, more) refl
+
+-- the end of the text
+pub text_ended : (s : State) (f g : List (List ℕ)) (p text : List ℕ) (i : ℕ) → length text ≤ i → g ≡ f ++ p ∷ [] →
+    ends_at_end s ≡ true → next_record default_config s f p (drop i text)
+    ≡ Some (g, StartRecord, drop (length text) text)
+unfolding next_record
+text_ended s f g p text i high more ends = rw (drop_of_length-le text {i = i} high, drop-length text, more, ends) refl
+
+pub none_left : (s : State) (f : List (List ℕ)) (p text : List ℕ) (i : ℕ) → length text ≤ i → ends_at_end s ≡ false →
+    next_record default_config s f p (drop i text) ≡ None
+unfolding next_record
+none_left s f p text i high ends = rw (drop_of_length-le text {i = i} high, ends) refl
+
+-- ---- byte order marks
+
+pub no_mark_in_few : (xs : List ℕ) → length xs < 3 → xs ≡ strip_bom xs
+unfolding strip_bom
+no_mark_in_few [] few = refl
+no_mark_in_few (a ∷ []) few = refl
+no_mark_in_few (a ∷ b ∷ []) few = refl
+no_mark_in_few (a ∷ b ∷ c ∷ rest) few = absurd (omega arith)
+
+pub mark_goes : (xs : List ℕ) → 3 ≤ length xs → is_bom (get_or xs 0 0) (get_or xs 1 0) (get_or xs 2 0) ≡ true →
+    take (length xs - 3) (drop 3 xs) ≡ strip_bom xs
+unfolding strip_bom
+mark_goes [] many e = absurd (omega arith)
+mark_goes (a ∷ []) many e = absurd (omega arith)
+mark_goes (a ∷ b ∷ []) many e = absurd (omega arith)
+mark_goes (a ∷ b ∷ c ∷ rest) many e =
+    let left : length (a ∷ b ∷ c ∷ rest) - 3 ≡ length rest = omega arith in
+    rw e (ap (λ (n : ℕ). take n rest) left ∙ take-length rest)
+
+pub no_mark : (xs : List ℕ) → is_bom (get_or xs 0 0) (get_or xs 1 0) (get_or xs 2 0) ≡ false → xs ≡ strip_bom xs
+unfolding strip_bom
+no_mark [] e = refl
+no_mark (a ∷ []) e = refl
+no_mark (a ∷ b ∷ []) e = refl
+no_mark (a ∷ b ∷ c ∷ rest) e = rw e refl

@@ -1,0 +1,106 @@
+-- Histories of sessions, and the reads of a csv reader.
+use Rattle.std.proofs.Common.{◌≡◌, ℕ, Bool, Ok, inl, inr, true, false, List, [], ◌∷◌, ◌++◌, length, Option, Some, None}
+use Rattle.std.proofs.Common.{◌∙◌, refl, sym, ap, subst, arith}
+use Rattle.csv.specs.Machine.{Read, next_record}
+use Rattle.csv.specs.Reading.{is_flexible, ExplainsRead, stops_reader, source_of, buffered_of, reader_source}
+use Rattle.csv.specs.Reading.{reader_state, default_config, has_failed, reader_trim, strip_bom, took_first, unread_of}
+use Rattle.csv.specs.Reading.{NextIs, ReadRecord, ReadsNext, Ready}
+use Rattle.csv.specs.declared.reader.Trim.TheVariants as trim
+use Rattle.csv.specs.declared.error.ErrorKind.{ErrorKind}
+use Rattle.csv.specs.declared.error.ErrorKind.TheVariants as kind
+use Rattle.csv.specs.declared.parser.State.{State}
+use Rattle.csv.specs.declared.parser.State.TheVariants as st
+use Rattle.std.specs.Bool.{MatchBool}
+use Rattle.std.specs.Prelude.{option_map}
+use Rattle.csv.specs.declared.reader.Reader.{Reader}
+use Rattle.olr_input.specs.Sessions.{Known, Event, Took, Wrote, Renewal, Renewed, History, exchanges, IsPlain}
+use Rattle.olr_input.specs.Sessions.{AreKnown, BeginsWith, StaysPlain, TakesLeft, csv_left, csv_records}
+use Rattle.olr_input.proofs.CsvRecords.{all_records, none_taken, one_taken}
+
+-- a reader that accepts any number of fields is stopped by each fault
+pub stopped : {R : Type 0} (remaining : R → Known) (old new : Reader R) (k : ErrorKind) → is_flexible old ≡ true →
+    ExplainsRead remaining old new false k → stops_reader k ≡ true
+stopped remaining old new (kind.Io e) f h = refl
+stopped remaining old new kind.OutOfMemory f h = refl
+stopped remaining old new (kind.UnequalLengths pos expected len) f h = grind arith
+stopped remaining old new (kind.Utf8 pos err) f h = grind arith
+stopped remaining old new (kind.Serialize why) f h = absurd h
+stopped remaining old new (kind.Deserialize pos err) f h = absurd h
+
+-- ---- one read of a csv reader
+
+reads_left : (s t : State) (before after : Known) (failed found : Bool) (fields : List (List ℕ)) →
+    ReadsNext default_config s before after found fields t →
+    TakesLeft (AreKnown s before) (AreKnown t after) failed (Ok found) fields
+reads_left s t None after failed true fields h = λ rs never. absurd never
+reads_left s t None after failed false fields h = λ rs never. absurd never
+reads_left s t (Some xs) None failed found fields h = absurd h
+reads_left s t (Some xs) (Some ys) failed found fields h = by_next (next_record default_config s [] [] xs) refl h
+  where
+    Takes : Bool → Type 0
+    Takes found = TakesLeft (AreKnown s (Some xs)) (AreKnown t (Some ys)) failed (Ok found) fields
+
+    by_next : (o : Option Read) → next_record default_config s [] [] xs ≡ o → NextIs o found fields t ys → Takes found
+    by_next None e n = subst Takes (sym n) (none_taken s xs e)
+    by_next (Some p) e n =
+        subst Takes (sym n.0) (one_taken s t xs ys fields (e ∙ (λ i. Some (sym n.1 i, sym n.2 i, sym n.3 i))))
+
+module _ {R : Type 0} (remaining : R → Known) (old new : Reader R) where
+  ready : IsPlain old → Ready old
+  ready plain = by_first (took_first old) refl
+    where
+      by_first : (first : Bool) → took_first old ≡ first → Ready old
+      by_first true e = inl e
+      by_first false e = inr (inr (plain.no_header, plain.none e))
+
+  pub read_left : (found : Bool) (fields : List (List ℕ)) → StaysPlain old → has_failed new ≡ has_failed old →
+      (has_failed old ≡ true → found ≡ false)
+      → (reader_trim old ≡ trim.None → Ready old → ReadRecord remaining old new found fields)
+      → TakesLeft (csv_left remaining old) (csv_left remaining new) (has_failed new) (Ok found) fields
+  read_left found fields plain same over reads = by_failed (has_failed old) found refl over reads
+    where
+      by_failed : (failed found : Bool) → has_failed old ≡ failed → (has_failed old ≡ true → found ≡ false) →
+          (reader_trim old ≡ trim.None → Ready old → ReadRecord remaining old new found fields)
+          → TakesLeft (csv_left remaining old) (csv_left remaining new) (has_failed new) (Ok found) fields
+      by_failed true true e over reads = absurd (let never : true ≡ false = over e in cc)
+      by_failed true false e over reads = λ rs h. rw e at h
+      by_failed false true e over reads =
+          let p = plain e in
+          let r = reads p.trim (ready p) in
+          rw (e, same ∙ e, r.1) (reads_left (reader_state old) (reader_state new) (unread_of remaining old)
+          (buffered_of (remaining (reader_source new)) new) false true fields (rw (p.config, e, same ∙ e) at r.0))
+      by_failed false false e over reads =
+          let p = plain e in
+          let r = reads p.trim (ready p) in
+          rw e (reads_left (reader_state old) (reader_state new) (unread_of remaining old)
+          (buffered_of (remaining (reader_source new)) new) false false fields (rw (p.config, e, same ∙ e) at r.0))
+
+  -- before the first read
+  pub begins : (known : Known) → has_failed old ≡ false → reader_state old ≡ st.StartRecord →
+      source_of remaining old ≡ option_map strip_bom known → BeginsWith csv_records (csv_left remaining old) known
+  begins None fresh first source = tt
+  begins (Some bytes) fresh first source = by_failed (has_failed old) fresh (rw (first, source) (all_records bytes))
+    where
+      by_failed : (failed : Bool) → failed ≡ false →
+          AreKnown (reader_state old) (source_of remaining old) (csv_records bytes)
+          → MatchBool failed (csv_records bytes ≡ []) (AreKnown (reader_state old) (source_of remaining old) (csv_records bytes))
+      by_failed true e all = absurd cc
+      by_failed false e all = all
+
+pub history_join : {S : Type 0} (happens : S → Event → S → Type 0) (a b c : S) (es fs : List Event) →
+    History happens a es b → History happens b fs c → History happens a (es ++ fs) c
+history_join {S} happens a b c [] fs h k = subst (λ (x : S). History happens x fs c) (sym h) k
+history_join happens a b c (e ∷ es) fs h k = (h.0, h.1, history_join happens h.0 b c es fs h.2 k)
+
+pub exchanges_more : (rs : List (List (List ℕ))) (texts : List (List ℕ)) (renewals : List Renewal) (r : List (List ℕ))
+    (text : List ℕ) (renewal : Renewal) → length texts ≡ length rs → length renewals ≡ length rs →
+    exchanges (rs ++ r ∷ []) (texts ++ text ∷ []) (renewals ++ renewal ∷ [])
+    ≡ exchanges rs texts renewals ++ Took r ∷ Wrote text ∷ Renewed renewal ∷ []
+exchanges_more [] [] [] r text renewal l k = refl
+exchanges_more [] (w ∷ texts) renewals r text renewal l k = absurd (omega arith)
+exchanges_more [] [] (d ∷ renewals) r text renewal l k = absurd (omega arith)
+exchanges_more (x ∷ rs) [] renewals r text renewal l k = absurd (omega arith)
+exchanges_more (x ∷ rs) (w ∷ texts) [] r text renewal l k = absurd (omega arith)
+exchanges_more (x ∷ rs) (w ∷ texts) (d ∷ renewals) r text renewal l k =
+    ap (λ (es : List Event). Took x ∷ Wrote w ∷ Renewed d ∷ es)
+    (exchanges_more rs texts renewals r text renewal (omega arith) (omega arith))

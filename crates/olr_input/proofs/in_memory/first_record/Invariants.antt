@@ -1,0 +1,14 @@
+use Rattle.std.proofs.Common.{◌≡◌, ◌≤◌, ◌-◌, ◌++◌, [], take, drop}
+use Rattle.csv.specs.Machine.{next_record}
+use Rattle.csv.specs.Reading.{default_config}
+use Rattle.csv.specs.Records.{fields_of, partial_of}
+use Rattle.olr_input.specs.InMemory.{csv_state}
+use Rattle.olr_input.proofs.in_memory.first_record.Given as goal
+
+-- the first record is the one that the fields so far, the bytes of the next field so far, and the remaining bytes make
+abbrev pub invariant-bytes : goal.invariant-bytes
+invariant-bytes l =
+    (l.start ≤ l.i) × (partial_of l.row ≡ [])
+    × (next_record default_config (csv_state l.fn.state) [] [] l.text
+    ≡ next_record default_config (csv_state l.state) (fields_of l.row)
+    (l.field.items ++ take (l.i - l.start) (drop l.start l.text)) (drop l.i l.text))

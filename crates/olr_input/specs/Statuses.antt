@@ -1,0 +1,15 @@
+-- The exit status of the program after a run, 0 to 4.
+use Rattle.std.specs.Prelude.{ℕ, Result, Ok, Err}
+use Rattle.olr_input.specs.declared.ends.RunFault.{RunFault}
+use Rattle.olr_input.specs.declared.ends.RunFault.TheVariants as fault
+use Rattle.olr_input.specs.declared.ends.Status.{Status}
+use Rattle.olr_input.specs.declared.ends.Status.TheVariants as status
+
+abbrev pub exit_code : Result Status RunFault → ℕ
+exit_code (Ok status.AllAccepted) = 0
+exit_code (Ok status.SomeRefused) = 1
+exit_code (Ok status.Stopped) = 1
+exit_code (Err fault.Read) = 3
+exit_code (Err fault.Write) = 3
+exit_code (Err fault.TooMany) = 3
+exit_code (Err fault.Memory) = 4

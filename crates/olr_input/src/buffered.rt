@@ -1,0 +1,129 @@
+//! An output that holds bytes back until it is flushed.
+
+ghost use Rattle.std.specs.Prelude.{◌≡◌, ◌≤◌, [], length, take, drop, vec_len, IfOk, OnOk};
+ghost use Rattle.std.specs.Io.KnownBytes.{Appends, Keeps};
+ghost use Rattle.olr_input.specs.Sessions.{most_held};
+
+use std::alloc::{AllocError, Global};
+use std::io;
+use std::io::{ErrorKind, Write};
+
+/// The most bytes that are held back, 64 KB.
+const MOST_HELD: usize = 1 << 16;
+
+/// An output that holds back what is written, at most 64 KB of it, until it is flushed. It sends nothing by itself, not
+/// even when it is dropped, and nothing more once its device has failed.
+#[derive(Drop)]
+pub struct Buffered<W: Drop> {
+    device: W,
+    held: Vec<u8>,
+    failed: bool,
+    ghost bounded: { length held.items ≤ most_held },
+}
+
+/// Sends bytes to a device until all are sent or it fails. Returns how many were sent.
+#[tactic(auto, using(crate::proofs::Writing::written_more))]
+fn send<W: Write>(device: &mut W, bytes: &[u8]) -> usize
+    ensures bound { result ≤ length bytes.now }
+    ensures sent { Appends (W.contents device.old) (W.contents device.new) (take result bytes.now) }
+{
+    let mut sent = 0;
+    while sent < bytes.len() {
+        match device.write(&bytes[sent..]) {
+            Ok(taken) if taken > 0 => sent += taken,
+            _ => return sent,
+        }
+    }
+    sent
+}
+
+/// Removes the first bytes.
+pub(crate) fn remove_front(bytes: &mut Vec<u8>, count: usize)
+    requires { count ≤ vec_len bytes.old }
+    ensures { bytes.new.items ≡ drop count bytes.old.items }
+{
+    let len = bytes.len();
+    bytes.as_mut_slice().copy_within(count..len, 0);
+    bytes.truncate(len - count);
+}
+
+impl<W: Write + Drop> Buffered<W> {
+    ghost use Rattle.std.specs.Prelude.{◌++◌, OnErr};
+    ghost use Rattle.olr_input.specs.Buffers.{held, Sends};
+
+    /// An output to this device. Every byte that it will hold has its place from the start.
+    pub fn new(alloc: Global, device: W) -> Result<Buffered<W>, AllocError>
+        ensures device { IfOk result (λ b. b.device ≡ device) }
+        ensures empty { IfOk result (λ b. held b ≡ []) }
+    {
+        Ok(Buffered {
+            device,
+            held: Vec::with_capacity(alloc, MOST_HELD)?,
+            failed: false,
+        })
+    }
+
+    /// Holds bytes back, and returns how many. Takes nothing of a text for which there is no room beside others, so that
+    /// texts leave whole if they are no longer than the room for all.
+    pub(crate) fn hold(&mut self, bytes: &[u8]) -> Result<usize, AllocError>
+        ensures bound { IfOk result (λ n. n ≤ length bytes.now) }
+        ensures held { IfOk result (λ n. held self.new ≡ held self.old ++ take n bytes.now) }
+        ensures nothing { OnErr result (held self.new ≡ held self.old) }
+        ensures device { self.new.device ≡ self.old.device }
+    {
+        let room = MOST_HELD - self.held.len();
+        let taken = if bytes.len() <= room {
+            bytes.len()
+        } else if self.held.is_empty() {
+            room
+        } else {
+            0
+        };
+        self.held.extend_from_slice(&bytes[..taken])?;
+        Ok(taken)
+    }
+
+    /// Sends what is held, from its front on. After a failure the rest is still held, and nothing more is sent.
+    pub(crate) fn send_held(&mut self) -> io::Result<()>
+        ensures device { Sends (W.contents self.old.device) (held self.old) (W.contents self.new.device) (held self.new) }
+        ensures sent { OnOk result (held self.new ≡ []) }
+    {
+        if self.failed {
+            return Err(io::Error::from(ErrorKind::BrokenPipe));
+        }
+        let sent = send(&mut self.device, self.held.as_slice());
+        remove_front(&mut self.held, sent);
+        if !self.held.is_empty() {
+            self.failed = true;
+            return Err(io::Error::from(ErrorKind::BrokenPipe));
+        }
+        self.device.flush()
+    }
+
+    /// The device, which has what was sent.
+    pub fn get_ref(&self) -> &W
+        ensures { result.now ≡ self.now.device }
+    {
+        &self.device
+    }
+}
+
+impl<W: Write + Drop> Write for Buffered<W> {
+    ghost use Rattle.olr_input.specs.Buffers.{held, written};
+
+    ghost contents = { λ b. written W.contents b };
+
+    /// Holds bytes back. Takes nothing of a text for which there is no room beside others, so that texts leave whole if
+    /// they are no longer than the room for all.
+    fn write(&mut self, bytes: &[u8]) -> io::Result<usize> {
+        Ok(self.hold(bytes)?)
+    }
+
+    /// Sends what is held.
+    fn flush(&mut self) -> io::Result<()>
+        ensures bytes { Keeps (written W.contents self.old) (written W.contents self.new) }
+        ensures sent { OnOk result (held self.new ≡ []) }
+    {
+        self.send_held()
+    }
+}

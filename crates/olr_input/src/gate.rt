@@ -1,0 +1,352 @@
+//! The gate through which the answers of a run with a log leave.
+
+ghost use Rattle.std.specs.Prelude.{◌≡◌, ◌≤◌, ◌++◌, ℕ, List, [], take, length, None, Ok, IfOk, IfErr, OnOk, OnErr, IsTrue, false, true};
+ghost use Rattle.csv.specs.Records.{fields_of};
+ghost use Rattle.olr_input.specs.Gates.{Keeping, Passes, PassesSome, PassesAll, Untouched, SameBatch, SettledBy};
+ghost use Rattle.olr_input.specs.Gates.{TakesFound, Renews, PutsOff, is_closed, ready, batch, compaction, asks};
+ghost use Rattle.olr_input.specs.Gates.{first_from, settled_compaction};
+ghost use Rattle.olr_input.specs.Gates as gates;
+ghost use Rattle.olr_input.specs.Journals as journals;
+ghost use Rattle.olr_input.specs.declared.unkept.Effect.TheVariants as effect;
+ghost use Rattle.olr_input.specs.KeptLines.{effect_of, kept_line};
+ghost use Rattle.olr_input.specs.Unkept.{waiting, next_line};
+ghost use Rattle.olr_input.specs.Buffers.{held};
+
+use crate::buffered::Buffered;
+use crate::ends::RunFault;
+use crate::journal::Journal;
+use crate::unkept::Unkept;
+use crate::whole::is_whole;
+use csv::ByteRecord;
+use std::alloc::{AllocError, Global};
+use std::io::{self, Write};
+use thiserror::Error;
+
+/// What went wrong with a log.
+#[derive(Clone, Copy, Debug, Error)]
+pub enum LogFault {
+    /// It could not be written or synced.
+    #[error("the log can't be written: {0}")]
+    Unwritten(io::Error),
+    /// Its name leads to another file or to none, or its length is not the one that was written.
+    #[error("the log was moved or changed by another")]
+    Moved,
+}
+
+/// A log with the lines that it doesn't keep yet. The answers of a run are sent through it: none leaves before each change
+/// that was accepted before it is kept, and none at all once the log has failed.
+#[derive(Drop)]
+pub struct Gate<J: Drop> {
+    journal: J,
+    unkept: Unkept,
+    fault: Option<LogFault>,
+    /// The least length of a log that is replaced by the records of what is accepted.
+    renewed_from: usize,
+    /// The length from which on it is replaced the next time.
+    next_from: usize,
+    /// It should be replaced as soon as no batch is open.
+    is_wanted: bool,
+}
+
+impl<J: Journal + Drop> Gate<J> {
+    /// A gate with this log, before the first record. A log of so many bytes is replaced by the records of what is accepted. One
+    /// that has them already was replaced at the start, or could not be: it is replaced once it has twice its length.
+    pub fn new(alloc: Global, journal: J, renewed_from: usize) -> Gate<J>
+        ensures journal { result.journal ≡ journal }
+        ensures waiting { waiting result.unkept ≡ record { ready = []; batch = [] } }
+        ensures open { result.fault ≡ None }
+        ensures due { compaction result
+            ≡ record { is_wanted = false; next_from = first_from (J.size journal) renewed_from; renewed_from = renewed_from } }
+    {
+        let next_from = first_from(journal.len(), renewed_from);
+        Gate {
+            journal,
+            unkept: Unkept::new(alloc),
+            fault: None,
+            renewed_from,
+            next_from,
+            is_wanted: false,
+        }
+    }
+
+    /// The log, as far as it was kept.
+    pub fn get_ref(&self) -> &J
+        ensures { result.now ≡ self.now.journal }
+    {
+        &self.journal
+    }
+
+    /// The log, as far as it was kept. Lines that it doesn't keep yet are dropped.
+    pub fn into_journal(self) -> J
+        ensures { result ≡ self.journal }
+    {
+        let Gate {
+            journal,
+            unkept,
+            fault: _,
+            renewed_from: _,
+            next_from: _,
+            is_wanted: _,
+        } = self;
+        drop(unkept);
+        journal
+    }
+
+    /// What went wrong with the log, if something did.
+    pub fn fault(&self) -> Option<LogFault>
+        ensures { result ≡ self.now.fault }
+    {
+        self.fault
+    }
+
+    /// Takes the line of a record that will be answered next.
+    fn take(&mut self, fields: &ByteRecord) -> Result<(), AllocError>
+        ensures untouched { Untouched self.old self.new }
+        ensures waiting { waiting self.new.unkept ≡ waiting self.old.unkept }
+        ensures effect { OnOk result (self.new.unkept.effect ≡ effect_of (fields_of fields.now)) }
+        ensures line { OnOk result (next_line self.new.unkept ≡ kept_line (fields_of fields.now)) }
+        ensures due { compaction self.new ≡ compaction self.old }
+    {
+        self.unkept.take(fields)
+    }
+
+    /// The log is not replaced before it has twice its length.
+    fn put_off(&mut self)
+        ensures { PutsOff J.Journal self.old self.new }
+    {
+        self.is_wanted = false;
+        self.next_from = twice(self.journal.len(), self.renewed_from);
+    }
+
+    /// Whether the records of all that is accepted are wanted, to be kept in the place of the log.
+    pub fn wants_records(&self) -> bool
+        ensures { result ≡ asks self.now }
+    {
+        self.is_wanted && self.fault.is_none() && !self.unkept.is_in_batch()
+    }
+
+    /// Keeps whole records, which were asked for, in the place of the log. It is left as it was if they aren't whole, or if
+    /// they could not be written, which is said. If it isn't known what it holds, the gate is closed.
+    #[tactic(auto, using(crate::proofs::Renewing::renews_on))]
+    pub fn renew(&mut self, records: &[u8])
+        requires { asks self.old ≡ true }
+        ensures renews { Renews J.Journal self.old records.now self.new }
+        ensures due { compaction self.new ≡ gates.put_off (J.size self.new.journal) (compaction self.old) }
+    {
+        self.replace_if(records);
+        self.put_off();
+    }
+
+    /// Says that the records, which were asked for, could not be made, out of memory.
+    pub fn lack_records(&mut self)
+        ensures { PutsOff J.Journal self.old self.new }
+    {
+        self.journal.report_unreplaced(false);
+        self.put_off();
+    }
+
+    /// Keeps records in the place of the log, if it is where it was and they are whole.
+    #[tactic(auto, using(crate::proofs::Renewing::asked, crate::proofs::Renewing::renews_closed, crate::proofs::Renewing::renews_broken))]
+    fn replace_if(&mut self, records: &[u8])
+        requires { asks self.old ≡ true }
+        ensures renews { Renews J.Journal self.old records.now self.new }
+        ensures due { compaction self.new ≡ compaction self.old }
+    {
+        if self.is_in_place() && is_whole(records) {
+            self.replace(records);
+        }
+    }
+
+    /// The same, of records that are whole, while no batch is open.
+    fn replace(&mut self, records: &[u8])
+        requires whole { IsTrue (journals.is_whole records.now) }
+        requires open { is_closed self.old ≡ false }
+        requires none { batch self.old ≡ [] }
+        ensures renews { Renews J.Journal self.old records.now self.new }
+        ensures due { compaction self.new ≡ compaction self.old }
+    {
+        match self.journal.replace(records) {
+            Ok(true) => self.unkept.forget_ready(),
+            Ok(false) => self.journal.report_unreplaced(true),
+            Err(error) => self.fault = Some(LogFault::Unwritten(error)),
+        }
+    }
+
+    /// Takes the line of a record that was read, if one was.
+    pub fn take_found(
+        &mut self,
+        found: Result<bool, RunFault>,
+        fields: &ByteRecord,
+    ) -> Result<bool, RunFault>
+        ensures { TakesFound self.old found (fields_of fields.now) self.new result }
+    {
+        match found {
+            Ok(true) => match self.take(fields) {
+                Ok(()) => Ok(true),
+                Err(_error) => Err(RunFault::Memory),
+            },
+            Ok(false) => Ok(false),
+            Err(fault) => Err(fault),
+        }
+    }
+
+    /// The record whose line was taken last is accepted or rejected.
+    pub fn settle(&mut self, accepted: bool)
+        ensures untouched { Untouched self.old self.new }
+        ensures settled { SettledBy self.old.unkept accepted self.new.unkept }
+        ensures wanted { IsTrue accepted → self.old.unkept.effect ≡ effect.Compact → IsTrue self.new.is_wanted }
+        ensures still { IsTrue self.old.is_wanted → IsTrue self.new.is_wanted }
+        ensures due { compaction self.new
+            ≡ settled_compaction (J.size self.old.journal) accepted self.old.unkept.effect (compaction self.old) }
+    {
+        self.is_wanted = self.is_due(accepted);
+        self.unkept.settle(accepted);
+    }
+
+    /// Whether the log should be replaced, once the record that was taken last is accepted or rejected.
+    fn is_due(&self, accepted: bool) -> bool
+        ensures wanted { IsTrue accepted → self.now.unkept.effect ≡ effect.Compact → IsTrue result }
+        ensures still { IsTrue self.now.is_wanted → IsTrue result }
+        ensures due { result ≡ gates.is_due (J.size self.now.journal) accepted self.now.unkept.effect (compaction self.now) }
+    {
+        self.is_wanted
+            || (accepted && self.unkept.is_compact())
+            || self.journal.len() >= self.next_from
+    }
+
+    /// Whether the log is where it was, as it was last written. Closes the gate if it isn't.
+    fn is_in_place(&mut self) -> bool
+        ensures untouched { result ≡ true → self.new ≡ self.old }
+        ensures closed { result ≡ false → is_closed self.new ≡ true }
+        ensures rest { self.new ≡ record self.old { fault = self.new.fault } }
+    {
+        let is_there = self.journal.is_in_place();
+        if !is_there {
+            self.fault = Some(LogFault::Moved);
+        }
+        is_there
+    }
+
+    /// Keeps what is ready, and returns once it is on the disk. Returns false, and closes the gate, if the log failed. Another
+    /// process's change is looked for before this one writes, which would hide it, and again before answers leave.
+    fn keep(&mut self) -> bool
+        ensures keeping { (sent : List ℕ) → (result ≡ false → sent ≡ [])
+            → Keeping J.kept J.may_leave self.old self.new sent }
+        ensures kept { result ≡ true → (ready self.new ≡ []) × (is_closed self.new ≡ false) }
+        ensures others { SameBatch self.old self.new }
+        ensures due { compaction self.new ≡ compaction self.old }
+    {
+        if self.fault.is_some() || !self.is_in_place() {
+            return false;
+        }
+        if self.unkept.ready().is_empty() {
+            return true;
+        }
+        if let Err(error) = self.journal.keep(self.unkept.ready()) {
+            self.fault = Some(LogFault::Unwritten(error));
+            return false;
+        }
+        self.unkept.forget_ready();
+        self.is_in_place()
+    }
+
+    /// Keeps what is ready, and then sends what the output holds back. `Write` is the fault if either fails; nothing is
+    /// sent once the log has failed.
+    pub fn send<W: Write + Drop>(&mut self, output: &mut Buffered<W>) -> Result<(), RunFault>
+        ensures passes { Passes J.kept J.may_leave W.contents self.old output.old self.new output.new [] }
+        ensures sent { OnOk result (held output.new ≡ []) }
+        ensures kept { OnOk result ((ready self.new ≡ []) × (is_closed self.new ≡ false)) }
+        ensures fault { IfErr result (λ e. e ≡ RunFault.Write) }
+    {
+        if !self.keep() {
+            return Err(RunFault::Write);
+        }
+        match output.send_held() {
+            Ok(()) => Ok(()),
+            Err(_error) => Err(RunFault::Write),
+        }
+    }
+
+    /// The same, if the source of the records may wait.
+    pub fn send_before<W: Write + Drop>(
+        &mut self,
+        waits: bool,
+        output: &mut Buffered<W>,
+    ) -> Result<(), RunFault>
+        ensures passes { Passes J.kept J.may_leave W.contents self.old output.old self.new output.new [] }
+        ensures fault { IfErr result (λ e. e ≡ RunFault.Write) }
+    {
+        if !waits {
+            return Ok(());
+        }
+        self.send(output)
+    }
+
+    /// Holds back bytes of a text, and returns how many. An output that is full is sent first.
+    fn write_some<W: Write + Drop>(
+        &mut self,
+        output: &mut Buffered<W>,
+        text: &[u8],
+    ) -> Result<usize, RunFault>
+        ensures { PassesSome J.kept J.may_leave W.contents self.old output.old self.new output.new text.now result }
+    {
+        let taken = hold(output, text)?;
+        if taken > 0 {
+            return Ok(taken);
+        }
+        self.send(output)?;
+        hold(output, text)
+    }
+
+    /// Holds back a text, or what is left of it once its first part was sent. `Write` is the fault if it can't be sent.
+    pub fn write<W: Write + Drop>(
+        &mut self,
+        output: &mut Buffered<W>,
+        text: &[u8],
+    ) -> Result<(), RunFault>
+        ensures { PassesAll J.kept J.may_leave W.contents self.old output.old self.new output.new text.now result }
+    {
+        let mut written = 0;
+        while written < text.len() {
+            let Ok(taken) = self.write_some(output, &text[written..]) else {
+                return Err(RunFault::Write);
+            };
+            if taken == 0 {
+                return Err(RunFault::Write);
+            }
+            written += taken;
+        }
+        Ok(())
+    }
+}
+
+/// The length from which on a log of so many bytes is replaced first.
+fn first_from(len: usize, least: usize) -> usize
+    ensures { result ≡ gates.first_from len least }
+{
+    if len < least {
+        return least;
+    }
+    twice(len, least)
+}
+
+/// Twice a length, and this length at least.
+fn twice(len: usize, least: usize) -> usize
+    ensures { result ≡ gates.twice len least }
+{
+    len.saturating_mul(2).max(least)
+}
+
+/// Holds back as many bytes as there is room for. `Write` is the fault if an allocation fails.
+fn hold<W: Write + Drop>(output: &mut Buffered<W>, bytes: &[u8]) -> Result<usize, RunFault>
+    ensures bound { IfOk result (λ n. n ≤ length bytes.now) }
+    ensures held { IfOk result (λ n. held output.new ≡ held output.old ++ take n bytes.now) }
+    ensures device { output.new.device ≡ output.old.device }
+    ensures nothing { OnErr result (held output.new ≡ held output.old) }
+    ensures fault { IfErr result (λ e. e ≡ RunFault.Write) }
+{
+    match output.hold(bytes) {
+        Ok(taken) => Ok(taken),
+        Err(_error) => Err(RunFault::Write),
+    }
+}

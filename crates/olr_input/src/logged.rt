@@ -1,0 +1,84 @@
+//! A session whose accepted changes are kept in a log.
+
+ghost use Rattle.std.specs.Prelude.{◌≡◌, ◌==◌};
+ghost use Rattle.olr_input.specs.Gates as gates;
+ghost use Rattle.olr_input.specs.LoggedRuns.{LogHappens};
+ghost use Rattle.olr_input.specs.LoggedRuns as runs;
+
+use crate::buffered::Buffered;
+use crate::ends::RunFault;
+use crate::gate::Gate;
+use crate::journal::Journal;
+use crate::sessions::Session;
+use crate::sources::Source;
+use csv::ByteRecord;
+use std::io::Write;
+
+/// The records of a source, whose accepted changes are kept in a log before their answers are sent.
+#[derive(Drop)]
+pub struct Logged<S: Drop, J: Drop> {
+    source: S,
+    gate: Gate<J>,
+}
+
+impl<S: Source + Drop, J: Journal + Drop> Logged<S, J> {
+    /// The records of this source, with this gate.
+    pub fn new(source: S, gate: Gate<J>) -> Logged<S, J>
+        ensures source { result.source ≡ source }
+        ensures gate { result.gate ≡ gate }
+    {
+        Logged { source, gate }
+    }
+
+    /// The gate, which may go on with the records of another source.
+    pub fn into_gate(self) -> Gate<J>
+        ensures { result ≡ self.gate }
+    {
+        let Logged { source, gate } = self;
+        drop(source);
+        gate
+    }
+}
+
+/// Whether a text is that of a fault.
+fn is_fault(text: &[u8]) -> bool
+    ensures { result ≡ runs.is_fault text.now }
+{
+    match text.first() {
+        Some(byte) => *byte == b'f',
+        None => false,
+    }
+}
+
+impl<S: Source + Drop, W: Write + Drop, J: Journal + Drop> Session<Buffered<W>> for Logged<S, J> {
+    ghost happens = { λ a e b. LogHappens S.left W.contents J.Journal a.0 a.1 b.0 b.1 e };
+
+    ghost asks = { λ s. gates.asks s.gate };
+
+    fn take(
+        &mut self,
+        output: &mut Buffered<W>,
+        fields: &mut ByteRecord,
+    ) -> Result<bool, RunFault> {
+        self.gate.send_before(self.source.may_wait(), output)?;
+        let found = self.source.next(fields);
+        self.gate.take_found(found, fields)
+    }
+
+    fn answer(&mut self, output: &mut Buffered<W>, text: &[u8]) -> Result<(), RunFault> {
+        self.gate.settle(!is_fault(text));
+        self.gate.write(output, text)
+    }
+
+    fn wants_records(&self) -> bool {
+        self.gate.wants_records()
+    }
+
+    fn renew(&mut self, records: &[u8]) {
+        self.gate.renew(records);
+    }
+
+    fn lack_records(&mut self) {
+        self.gate.lack_records();
+    }
+}

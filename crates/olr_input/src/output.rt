@@ -1,0 +1,53 @@
+//! Writing all bytes.
+
+ghost use Rattle.std.specs.Prelude.{◌≡◌, IfErr};
+ghost use Rattle.std.specs.Io.{WritesAtMost};
+ghost use Rattle.std.specs.Io.KnownBytes.{Keeps, WriteAppends};
+ghost use Rattle.olr_input.specs.Sessions.{WritesAll};
+
+use crate::ends::RunFault;
+use std::io;
+use std::io::Write;
+
+/// Writes bytes, and returns how many the writer took. A writer that takes none is flushed once, for it may be full.
+fn write_some<W: Write>(output: &mut W, bytes: &[u8]) -> io::Result<usize>
+    ensures bound { WritesAtMost result bytes.now }
+    ensures bytes { WriteAppends (W.contents output.old) (W.contents output.new) result bytes.now }
+{
+    let taken = output.write(bytes)?;
+    if taken > 0 {
+        return Ok(taken);
+    }
+    output.flush()?;
+    output.write(bytes)
+}
+
+/// Writes all of the bytes, in as many calls as the writer needs; it is flushed when it is full. `Write` is the fault if
+/// the writer fails, or takes nothing even then.
+#[tactic(auto, using(crate::proofs::Writing::written_more))]
+pub fn write_all<W: Write>(output: &mut W, bytes: &[u8]) -> Result<(), RunFault>
+    ensures { WritesAll (W.contents output.old) (W.contents output.new) bytes.now result }
+{
+    let mut written = 0;
+    while written < bytes.len() {
+        let Ok(taken) = write_some(output, &bytes[written..]) else {
+            return Err(RunFault::Write);
+        };
+        if taken == 0 {
+            return Err(RunFault::Write);
+        }
+        written += taken;
+    }
+    Ok(())
+}
+
+/// Flushes a writer. `Write` is the fault if it fails.
+pub fn flush<W: Write>(output: &mut W) -> Result<(), RunFault>
+    ensures bytes { Keeps (W.contents output.old) (W.contents output.new) }
+    ensures fault { IfErr result (λ e. e ≡ RunFault.Write) }
+{
+    match output.flush() {
+        Ok(()) => Ok(()),
+        Err(_error) => Err(RunFault::Write),
+    }
+}

@@ -1,0 +1,95 @@
+//! Sessions: the two ends of a run, the source of its records and the output of its answers.
+
+ghost use Rattle.std.specs.Prelude.{◌≡◌, Bool, ℕ, List, IfErr, false, true};
+ghost use Rattle.std.specs.Io.KnownBytes.{Keeps};
+ghost use Rattle.csv.specs.Records.{fields_of};
+ghost use Rattle.olr_input.specs.Sessions.{Event, Given, Lacking, Renewed, Unasked, TakesNext, Writes, PlainHappens};
+
+use crate::ends::RunFault;
+use crate::output::{flush, write_all};
+use crate::sources::Source;
+use csv::ByteRecord;
+use std::io::Write;
+
+/// The source of the records of a run, with the output of their answers. What happens at the two ends, and in which
+/// order, is known to a caller only from the contracts of these calls.
+pub trait Session<W> {
+    /// The relation of an event with the values of both ends before and after it.
+    ghost happens: { Self × W → Event → Self × W → Type 0 };
+
+    /// Whether the records of all that is accepted so far are asked for.
+    ghost asks: { Self → Bool };
+
+    /// Takes the next record, which is then in `fields`. Returns false if there is none. An output that holds answers
+    /// back sends them first, if the source may wait for its input.
+    fn take(&mut self, output: &mut W, fields: &mut ByteRecord) -> Result<bool, RunFault>
+        ensures { TakesNext happens (self.old, output.old) (self.new, output.new) result (fields_of fields.new) };
+
+    /// Writes a text.
+    fn answer(&mut self, output: &mut W, text: &[u8]) -> Result<(), RunFault>
+        ensures { Writes happens (self.old, output.old) text.now (self.new, output.new) result };
+
+    /// Whether the records of all that is accepted so far are asked for, to be kept in the place of a log.
+    fn wants_records(&self) -> bool
+        ensures asked { result ≡ asks self.now }
+        ensures unasked { result ≡ false → (output : W) → happens (self.now, output) (Renewed Unasked) (self.now, output) };
+
+    /// Keeps these records, which were asked for, in the place of a log, if it can.
+    fn renew(&mut self, records: &[u8])
+        requires { asks self.old ≡ true }
+        ensures { (output : W) → happens (self.old, output) (Renewed (Given records.now)) (self.new, output) };
+
+    /// Says that the records, which were asked for, could not be made.
+    fn lack_records(&mut self)
+        requires { asks self.old ≡ true }
+        ensures { (output : W) → happens (self.old, output) (Renewed Lacking) (self.new, output) };
+}
+
+/// Flushes an output if the source may wait. `Write` is the fault if it fails.
+fn flush_before<W: Write>(waits: bool, output: &mut W) -> Result<(), RunFault>
+    ensures bytes { Keeps (W.contents output.old) (W.contents output.new) }
+    ensures fault { IfErr result (λ e. e ≡ RunFault.Write) }
+{
+    if !waits {
+        return Ok(());
+    }
+    flush(output)
+}
+
+/// The records of a source, whose answers are written at once and kept nowhere.
+#[derive(Drop)]
+pub struct Plain<S: Drop> {
+    source: S,
+}
+
+impl<S: Source + Drop> Plain<S> {
+    /// The records of this source.
+    pub fn new(source: S) -> Plain<S>
+        ensures { result.source ≡ source }
+    {
+        Plain { source }
+    }
+}
+
+impl<S: Source + Drop, W: Write> Session<W> for Plain<S> {
+    ghost happens = { λ a e b. PlainHappens S.left S.failed a.0.source b.0.source (W.contents a.1) (W.contents b.1) e };
+
+    ghost asks = { λ _. false };
+
+    fn take(&mut self, output: &mut W, fields: &mut ByteRecord) -> Result<bool, RunFault> {
+        flush_before(self.source.may_wait(), output)?;
+        self.source.next(fields)
+    }
+
+    fn answer(&mut self, output: &mut W, text: &[u8]) -> Result<(), RunFault> {
+        write_all(output, text)
+    }
+
+    fn wants_records(&self) -> bool {
+        false
+    }
+
+    fn renew(&mut self, _records: &[u8]) {}
+
+    fn lack_records(&mut self) {}
+}

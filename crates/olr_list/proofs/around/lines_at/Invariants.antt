@@ -1,8 +1,0 @@
-use Rattle.olr_list.proofs.Common.{ℕ, take, has, IsTrue, ◌↔◌}
-use Rattle.olr_list.specs.ChangeSets.{IsLineAround}
-use Rattle.olr_list.proofs.around.lines_at.Given as goal
-
--- the lines around the nodes so far
-abbrev pub invariant-loop-node : goal.invariant-loop-node
-invariant-loop-node g l =
-    (x : ℕ) → IsTrue (has l.lines.items x) ↔ IsLineAround (g.M.MapRead.map l.map) (take l.node-index l.nodes) x

@@ -1,7 +1,0 @@
-use Rattle.olr_list.proofs.Common.{ℕ, ◌<◌, ◌≤◌, IsTrue, has, Includes}
-use Rattle.olr_list.proofs.candidates.put_range.Given as goal
-
--- the positions so far are added
-abbrev pub invariant-loop-position : goal.invariant-loop-position
-invariant-loop-position l = Includes l.initial.found.items l.found.items
-    × ((k : ℕ) → l.from ≤ k → k < l.position → IsTrue (has l.found.items k))

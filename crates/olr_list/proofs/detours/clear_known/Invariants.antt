@@ -1,9 +1,0 @@
-use Rattle.olr_list.proofs.Common.{AreDetours, changed_of}
-use Rattle.olr_list.specs.Changes.{StayKnown}
-use Rattle.olr_list.proofs.detours.clear_known.Given as goal
-
--- the clear ones so far stay right
-abbrev pub invariant-loop-one : goal.invariant-loop-one
-invariant-loop-one g l =
-    StayKnown (g.M.MapRead.map l.map) (changed_of l.touched) l.known l.clear.items
-    × AreDetours (g.M.MapRead.map l.map) (g.M.MapRead.node_slot l.map) l.touched l.detours

@@ -1,7 +1,0 @@
-use Rattle.olr_list.proofs.Common.{ℕ}
-use Rattle.olr_list.proofs.NotedPositions.{Forgot, NumberIn}
-use Rattle.olr_list.proofs.finder.forget_nodes.Given as goal
-
--- the nodes now still have the path id
-abbrev pub invariant-loop-k : goal.invariant-loop-k
-invariant-loop-k l = Forgot (NumberIn (λ (v : ℕ). v) l.current) l.path_id l.initial.index l.index

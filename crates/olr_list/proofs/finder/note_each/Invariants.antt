@@ -1,7 +1,0 @@
-use Rattle.olr_list.proofs.Common.{take}
-use Rattle.olr_list.proofs.NotedPositions.{Noted}
-use Rattle.olr_list.proofs.finder.note_each.Given as goal
-
--- the numbers so far have the path id
-abbrev pub invariant-loop-k : goal.invariant-loop-k
-invariant-loop-k g l = Noted g.T.Numbered.number_of l.path_id l.initial.index l.index (take l.k l.items)

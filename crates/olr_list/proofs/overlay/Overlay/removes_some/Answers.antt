@@ -1,7 +1,0 @@
-use Rattle.olr_list.proofs.Common.{All-nil}
-use Rattle.olr_list.proofs.Changed.{IsOther, others_remove_none}
-use Rattle.olr_list.proofs.overlay.Overlay.removes_some.Goals as goal
-
-pub returns : goal.returns
-returns c = λ off. others_remove_none c.args.self.now.changes.entries
-    (c.loop-change.invariant (rw c.in-None.ensures.steps.0 (All-nil IsOther)))

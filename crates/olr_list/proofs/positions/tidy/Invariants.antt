@@ -1,6 +1,0 @@
-use Rattle.olr_list.proofs.Common.{◌≡◌, items}
-use Rattle.olr_list.proofs.positions.tidy.Given as goal
-
--- the paths are unchanged
-abbrev pub invariant-loop-position : goal.invariant-loop-position
-invariant-loop-position l = items l.list ≡ items l.initial.list

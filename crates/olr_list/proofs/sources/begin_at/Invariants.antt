@@ -1,5 +1,0 @@
-use Rattle.olr_list.proofs.Common.{◌≡◌, take, map}
-use Rattle.olr_list.proofs.sources.begin_at.Given as goal
-
-abbrev pub invariant-loop-item : goal.invariant-loop-item
-invariant-loop-item g l = l.sources.items ≡ map (g.T.Source.source_of l.direction) (take l.item-index l.items)

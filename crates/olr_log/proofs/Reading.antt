@@ -1,0 +1,27 @@
+-- What reads leave of a disk.
+use Rattle.std.proofs.Common.{◌≡◌, ℕ, ◌+◌, List, ◌++◌, length, take, drop, refl, ◌∙◌, ap, arith, take-add}
+use Rattle.std.specs.Prelude.{IsTrue}
+use Rattle.std.proofs.lemmas.List.{drop-drop}
+use Rattle.sqlite_disk.specs.Disk.{Holds}
+use Rattle.sqlite_disk.specs.declared.Disk.{Ghosts}
+use Rattle.olr_log.specs.Reads.{OnlyReads}
+use Rattle.olr_log.proofs.Padding.{bytes_at}
+
+pub OnlyReads-refl : {D : Type 0} (g : Ghosts D) (disk : D) → IsTrue (g.is_usable disk) → OnlyReads g disk disk
+OnlyReads-refl g disk usable = record { seen = refl; usable = usable; clean = λ clean. clean; less = λ c left. left }
+
+pub OnlyReads-trans : {D : Type 0} (g : Ghosts D) (a b c : D) → OnlyReads g a b → OnlyReads g b c → OnlyReads g a c
+OnlyReads-trans g a b c first second = record {
+  seen = second.seen ∙ first.seen;
+  usable = second.usable;
+  clean = λ clean. first.clean (second.clean clean);
+  less = λ text left. first.less text (second.less text left);
+}
+
+-- the bytes of a block behind those that were read
+pub block_behind : (file bytes : List ℕ) (n at : ℕ) → at ≡ n + 1 → Holds file at bytes → take (n + length bytes) (drop 1 file) ≡ take n (drop 1 file) ++ bytes
+block_behind file bytes n at place holds =
+    let up : 1 + n ≡ at = omega (arith, place) in
+    take-add n (length bytes) (drop 1 file)
+    ∙ ap (λ (x : List ℕ). take n (drop 1 file) ++ take (length bytes) x) (drop-drop n 1 file ∙ ap (λ (j : ℕ). drop j file) up)
+    ∙ ap (λ (x : List ℕ). take n (drop 1 file) ++ x) (bytes_at file bytes at holds)

@@ -1,0 +1,246 @@
+-- One byte more of a text that is read for the end of its whole records.
+use Rattle.std.proofs.Common.{◌≡◌, ◌⊎◌, inl, inr, ℕ, suc, ◌+◌, ◌-◌, ◌≤◌, ◌<◌, Bool, true, false, List, [], ◌∷◌, ◌++◌, length, take, drop, get_or, refl, sym, ◌∙◌, ap, subst, arith, length-append, length-take, length-drop, append_assoc}
+use Rattle.std.specs.Prelude.{◌==◌, ◌&&◌, ◌||◌, not, if◌then◌else◌, codes}
+use Rattle.std.specs.Str.{bytes_eq}
+use Rattle.std.proofs.lemmas.List.{take-append-le, take-take, take_all, get_or_append_left, get_or-append-add, get_or-drop}
+use Rattle.std.proofs.lemmas.Bool.{cases_Bool, cases_lt, and_left, and_right, and_parts, and_cases, not-true, not-false, cond-true, cond-false, ne_eqb}
+use Rattle.olr_input.specs.Journals.{is_whole_from, stays_open, is_empty}
+use Rattle.olr_log.specs.Texts.{counts, is_own, ends_blank, ends_blank_behind, longest_front, recovered}
+use Rattle.olr_log.specs.declared.scan.Scan.{Scan}
+use Rattle.olr_log.specs.Files.{IsFound}
+use Rattle.olr_log.specs.Scanning.{StandsAt, Scanned}
+use Rattle.olr_log.proofs.Fronts.{recovered_stop, longest_within, longest_yes, longest_no, empty_snoc}
+
+-- with one byte more, a text is recovered as a whole, or as before
+recovered_snoc : (x : List ℕ) (b : ℕ) → counts (x ++ b ∷ []) ≡ false → recovered (x ++ b ∷ []) ≡ recovered x
+unfolding recovered
+recovered_snoc x b none =
+    let all = x ++ b ∷ [] in
+    let size : length all ≡ suc (length x) = omega (arith, length-append x (b ∷ [])) in
+    let whole : take (suc (length x)) all ≡ all = take_all (suc (length x)) all (omega (arith, size)) in
+    ap (λ (n : ℕ). longest_front n all) size ∙ longest_no (length x) all (ap counts whole ∙ none) ∙ longest_within (length x) x (b ∷ []) (omega arith)
+
+recovered_all : (x : List ℕ) (b : ℕ) → counts (x ++ b ∷ []) ≡ true → recovered (x ++ b ∷ []) ≡ x ++ b ∷ []
+unfolding recovered
+recovered_all x b all_counts =
+    let all = x ++ b ∷ [] in
+    let size : length all ≡ suc (length x) = omega (arith, length-append x (b ∷ [])) in
+    let whole : take (suc (length x)) all ≡ all = take_all (suc (length x)) all (omega (arith, size)) in
+    ap (λ (n : ℕ). longest_front n all) size ∙ longest_yes (length x) all (ap counts whole ∙ all_counts) ∙ whole
+
+-- the last two bytes decide
+blank_last : (before : ℕ) (x : List ℕ) (a b : ℕ) → ends_blank_behind before (x ++ a ∷ b ∷ []) ≡ (a == 10 && b == 10)
+blank_last before [] a b = refl
+blank_last before (c ∷ []) a b = refl
+blank_last before (c ∷ d ∷ x) a b = blank_last c (d ∷ x) a b
+
+-- what a front of 8 bytes tells of a line
+begins_front : (line : List ℕ) → bytes_eq (take 8 line) (codes "begin") ≡ bytes_eq line (codes "begin")
+begins_front [] = refl
+begins_front (a ∷ []) = refl
+begins_front (a ∷ b ∷ []) = refl
+begins_front (a ∷ b ∷ c ∷ []) = refl
+begins_front (a ∷ b ∷ c ∷ d ∷ []) = refl
+begins_front (a ∷ b ∷ c ∷ d ∷ e ∷ []) = refl
+begins_front (a ∷ b ∷ c ∷ d ∷ e ∷ f ∷ line) = refl
+
+commits_front : (line : List ℕ) → take 7 (take 8 line) ≡ take 7 line
+commits_front line = take-take 7 8 line (omega arith)
+
+empty_front : (line : List ℕ) → is_empty (take 8 line) ≡ is_empty line
+empty_front [] = refl
+empty_front (a ∷ line) = refl
+
+pub stays_front : (o : Bool) (line begun : List ℕ) → take 8 line ≡ begun → (bytes_eq begun (codes "begin") || o && not (bytes_eq (take 7 begun) (codes "commit,"))) ≡ stays_open o line
+stays_front o line begun is =
+    let f : Bool → List ℕ → Bool = λ p x. p || o && not (bytes_eq x (codes "commit,")) in
+    ap (λ (x : List ℕ). f (bytes_eq x (codes "begin")) (take 7 x)) (sym is) ∙ ap (λ (p : Bool). f p (take 7 (take 8 line))) (begins_front line) ∙ ap (λ (x : List ℕ). f (bytes_eq line (codes "begin")) x) (commits_front line)
+
+-- the front of a line with one byte more
+pub front_more : (line begun : List ℕ) (b : ℕ) → take 8 line ≡ begun → length begun < 8 → take 8 (line ++ b ∷ []) ≡ begun ++ b ∷ []
+front_more line begun b is short =
+    let all : take 8 line ≡ line = short_line line (subst (λ (x : List ℕ). length x < 8) (sym is) short) in
+    let same : line ≡ begun = sym all ∙ is in
+    take_all 8 (line ++ b ∷ []) (omega (arith, length-append line (b ∷ []), ap length same)) ∙ ap (λ (x : List ℕ). x ++ b ∷ []) same
+  where
+    short_line : (l : List ℕ) → length (take 8 l) < 8 → take 8 l ≡ l
+    short_line l low = take_all 8 l (omega (arith, low, length-take 8 l))
+
+pub front_same : (line begun : List ℕ) (b : ℕ) → take 8 line ≡ begun → 8 ≤ length begun → take 8 (line ++ b ∷ []) ≡ begun
+front_same line begun b is long =
+    take-append-le 8 line (b ∷ []) (omega (arith, ap length is, length-take 8 line)) ∙ is
+
+-- a line goes on
+pub byte_stands : (o : Bool) (begun later x : List ℕ) (b : ℕ) (s : StandsAt o begun x) → (b ≡ 10 → ⊥) → (b ≡ 13 → ⊥) → take 8 (s.line ++ b ∷ []) ≡ later → StandsAt o later (x ++ b ∷ [])
+byte_stands o begun later x b s no_feed no_return front = record {
+  line = s.line ++ b ∷ [];
+  front = front;
+  rest = λ more. ap (λ (y : List ℕ). is_whole_from false [] y) (append_assoc x (b ∷ []) more) ∙ s.rest (b ∷ more) ∙ goes more;
+  blank = ap (λ (y : List ℕ). ends_blank y) (append_assoc x (b ∷ []) (10 ∷ [])) ∙ blank_last 10 x b 10 ∙ and_left (b == 10) true (ne_eqb b 10 no_feed) ∙ sym (empty_snoc s.line b);
+}
+  where
+    goes : (more : List ℕ) → is_whole_from o s.line (b ∷ more) ≡ is_whole_from o (s.line ++ b ∷ []) more
+    goes more = cond-false _ _ _ (ne_eqb b 10 no_feed) ∙ ap (λ (p : Bool). not p && is_whole_from o (s.line ++ b ∷ []) more) (ne_eqb b 13 no_return)
+
+pub byte_counts : (o : Bool) (begun x : List ℕ) (b : ℕ) (s : StandsAt o begun x) → (b ≡ 10 → ⊥) → counts (x ++ b ∷ []) ≡ false
+byte_counts o begun x b s no_feed =
+    and_left _ _ (s.rest (b ∷ []) ∙ cond-false _ _ _ (ne_eqb b 10 no_feed) ∙ and_right (not (b == 13)) _ (and_right (not o) _ (empty_snoc s.line b)))
+
+pub byte_recovered : (o : Bool) (begun x : List ℕ) (b : ℕ) (s : StandsAt o begun x) → (b ≡ 10 → ⊥) → recovered (x ++ b ∷ []) ≡ recovered x
+byte_recovered o begun x b s no_feed = recovered_snoc x b (byte_counts o begun x b s no_feed)
+
+-- a line ends
+pub line_stands : (o : Bool) (begun x : List ℕ) (s : StandsAt o begun x) → StandsAt (stays_open o s.line) [] (x ++ 10 ∷ [])
+line_stands o begun x s = record {
+  line = [];
+  front = refl;
+  rest = λ more. ap (λ (y : List ℕ). is_whole_from false [] y) (append_assoc x (10 ∷ []) more) ∙ s.rest (10 ∷ more);
+  blank = ap (λ (y : List ℕ). ends_blank y) (append_assoc x (10 ∷ []) (10 ∷ [])) ∙ blank_last 10 x 10 10;
+}
+
+line_counts : (o : Bool) (begun x : List ℕ) (s : StandsAt o begun x) → counts (x ++ 10 ∷ []) ≡ (not (stays_open o s.line) && not (is_empty s.line))
+line_counts o begun x s =
+    let f : Bool → Bool → Bool = λ p q. p && not q in
+    ap (λ (p : Bool). f p (ends_blank (x ++ 10 ∷ []))) (s.rest (10 ∷ []) ∙ whole (not (stays_open o s.line))) ∙ ap (λ (q : Bool). f (not (stays_open o s.line)) q) s.blank
+  where
+    whole : (p : Bool) → (p && true) ≡ p
+    whole true = refl
+    whole false = refl
+
+pub line_recovered : (o : Bool) (begun x : List ℕ) (s : StandsAt o begun x) → stays_open o s.line ≡ false → is_empty begun ≡ false → recovered (x ++ 10 ∷ []) ≡ x ++ 10 ∷ []
+line_recovered o begun x s closed some =
+    let any : is_empty s.line ≡ false = sym (empty_front s.line) ∙ ap is_empty s.front ∙ some in
+    recovered_all x 10 (line_counts o begun x s ∙ ap (λ (p : Bool). not p && not (is_empty s.line)) closed ∙ ap (λ (q : Bool). not q) any)
+
+pub line_open : (o : Bool) (begun x : List ℕ) (s : StandsAt o begun x) → stays_open o s.line ≡ true → recovered (x ++ 10 ∷ []) ≡ recovered x
+line_open o begun x s opened = recovered_snoc x 10 (line_counts o begun x s ∙ ap (λ (p : Bool). not p && not (is_empty s.line)) opened)
+
+pub line_blank : (o : Bool) (begun x : List ℕ) (s : StandsAt o begun x) → is_empty begun ≡ true → recovered (x ++ 10 ∷ []) ≡ recovered x
+line_blank o begun x s none =
+    let nothing : is_empty s.line ≡ true = sym (empty_front s.line) ∙ ap is_empty s.front ∙ none in
+    recovered_snoc x 10 (line_counts o begun x s ∙ ap (λ (q : Bool). not (stays_open o s.line) && not q) nothing ∙ and_right (not (stays_open o s.line)) false refl)
+
+pub found_more : (n : ℕ) (x more : List ℕ) → n ≤ length x → take n x ≡ recovered x → recovered (x ++ more) ≡ recovered x → take n (x ++ more) ≡ recovered (x ++ more)
+found_more n x more within found same = take-append-le n x more within ∙ found ∙ sym same
+
+pub returns_more : (last : ℕ) (x : List ℕ) → ((i : ℕ) → last ≤ i → i < length x → get_or x i 0 ≡ 13) → (i : ℕ) → last ≤ i → i < length (x ++ 13 ∷ []) → get_or (x ++ 13 ∷ []) i 0 ≡ 13
+returns_more last x returns i low within = elim (cases_lt i (length x)) [
+  | inl inside ↦ get_or_append_left x (13 ∷ []) 0 i inside ∙ returns i low inside
+  | inr past ↦ let end : i ≡ length x + 0 = omega (arith, length-append x (13 ∷ [])) in ap (λ (j : ℕ). get_or (x ++ 13 ∷ []) j 0) end ∙ get_or-append-add x (13 ∷ []) 0 0
+]
+
+last_more : (last : ℕ) (x : List ℕ) (b : ℕ) → last ≤ length x → (0 < last → get_or x (last - 1) 0 ≡ 13 → ⊥) → 0 < last → get_or (x ++ b ∷ []) (last - 1) 0 ≡ 13 → ⊥
+last_more last x b within exact some is = exact some (sym (get_or_append_left x (b ∷ []) 0 (last - 1) (omega arith)) ∙ is)
+
+-- where whole records end, behind a line that ends
+line_found : (o : Bool) (begun x : List ℕ) (s : StandsAt o begun x) (later : Bool) → later ≡ stays_open o s.line → (at found new : ℕ) → at ≡ length x → found ≤ length x → take found x ≡ recovered x
+    → (((not later && not (is_empty begun)) ≡ true) × (new ≡ at + 1)) ⊎ (((not later && not (is_empty begun)) ≡ false) × (new ≡ found)) → (take new (x ++ 10 ∷ []) ≡ recovered (x ++ 10 ∷ [])) × (new ≤ length (x ++ 10 ∷ []))
+line_found o begun x s later is at found new here within so_far (inl ends) =
+    let parts = and_parts (not later) (not (is_empty begun)) ends.0 in
+    let long : new ≡ length (x ++ 10 ∷ []) = omega (arith, ends.1, here, length-append x (10 ∷ [])) in (
+      take_all new (x ++ 10 ∷ []) (omega (arith, long)) ∙ sym (line_recovered o begun x s (sym is ∙ not-true later parts.0) (not-true (is_empty begun) parts.1)),
+      omega (arith, long),
+    )
+line_found o begun x s later is at found new here within so_far (inr goes) =
+    let same : recovered (x ++ 10 ∷ []) ≡ recovered x = elim (and_cases (not later) (not (is_empty begun)) goes.0) [
+      | inl opened ↦ line_open o begun x s (sym is ∙ not-false later opened)
+      | inr none ↦ line_blank o begun x s (not-false (is_empty begun) none)
+    ] in (
+      ap (λ (n : ℕ). take n (x ++ 10 ∷ [])) goes.1 ∙ found_more found x (10 ∷ []) within so_far same,
+      omega (arith, goes.1, within, length-append x (10 ∷ [])),
+    )
+
+-- the state behind one byte more
+module _ (s new : Scan) (x : List ℕ) (known : Scanned s x) (at : new.at ≡ s.at + 1) where
+  size : (b : ℕ) → length (x ++ b ∷ []) ≡ length x + 1
+  size b = length-append x (b ∷ [])
+
+  pub scanned_return : (b : ℕ) → b ≡ 13 → new.found ≡ s.found → new.last ≡ s.last → new.is_over ≡ true → Scanned new (x ++ b ∷ [])
+  scanned_return b is found last over = subst (λ (n : ℕ). Scanned new (x ++ n ∷ [])) (sym is) (record {
+    at = at ∙ ap (λ (n : ℕ). n + 1) known.at ∙ sym (size 13);
+    found = ap (λ (n : ℕ). take n (x ++ 13 ∷ [])) found ∙ found_more s.found x (13 ∷ []) known.within known.found (recovered_stop x []);
+    within = omega (arith, found, known.within, size 13);
+    reach = omega (arith, last, known.reach, size 13);
+    returns = λ i low within. returns_more s.last x known.returns i (omega (arith, last, low)) within;
+    exact = subst (λ (n : ℕ). 0 < n → get_or (x ++ 13 ∷ []) (n - 1) 0 ≡ 13 → ⊥) (sym last) (last_more s.last x 13 known.reach known.exact);
+    over = λ _ more. ap recovered (append_assoc x (13 ∷ []) more) ∙ recovered_stop x more ∙ sym (recovered_stop x []);
+    stands = λ not_over. absurd (cc (over, not_over));
+  })
+
+  no_returns : (b : ℕ) → new.last ≡ s.at + 1 → (i : ℕ) → new.last ≤ i → i < length (x ++ b ∷ []) → get_or (x ++ b ∷ []) i 0 ≡ 13
+  no_returns b last i low within = absurd (omega (arith, last, low, within, size b, known.at))
+
+  ends_here : (b : ℕ) → new.last ≡ s.at + 1 → (b ≡ 13 → ⊥) → 0 < new.last → get_or (x ++ b ∷ []) (new.last - 1) 0 ≡ 13 → ⊥
+  ends_here b last no_return some is =
+      let place : new.last - 1 ≡ length x + 0 = omega (arith, last, known.at) in
+      let here : get_or (x ++ b ∷ []) (new.last - 1) 0 ≡ b = ap (λ (j : ℕ). get_or (x ++ b ∷ []) j 0) place ∙ get_or-append-add x (b ∷ []) 0 0 in
+      no_return (sym here ∙ is)
+
+  -- behind a carriage return nothing counts
+  pub scanned_over : (b : ℕ) → new.found ≡ s.found → new.last ≡ s.at + 1 → new.is_over ≡ s.is_over → s.is_over ≡ true → (b ≡ 13 → ⊥) → Scanned new (x ++ b ∷ [])
+  scanned_over b found last same over no_return = record {
+    at = at ∙ ap (λ (n : ℕ). n + 1) known.at ∙ sym (size b);
+    found = ap (λ (n : ℕ). take n (x ++ b ∷ [])) found ∙ found_more s.found x (b ∷ []) known.within known.found (known.over over (b ∷ []));
+    within = omega (arith, found, known.within, size b);
+    reach = omega (arith, last, known.at, size b);
+    returns = no_returns b last;
+    exact = ends_here b last no_return;
+    over = λ _ more. ap recovered (append_assoc x (b ∷ []) more) ∙ known.over over (b ∷ more) ∙ sym (known.over over (b ∷ []));
+    stands = λ not_over. absurd (cc (over, same, not_over));
+  }
+
+  pub scanned_byte : (b : ℕ) → new.found ≡ s.found → new.last ≡ s.at + 1 → new.is_over ≡ s.is_over → s.is_over ≡ false → new.is_open ≡ s.is_open → (b ≡ 10 → ⊥) → (b ≡ 13 → ⊥)
+      → ((line : List ℕ) → take 8 line ≡ s.begun.items → take 8 (line ++ b ∷ []) ≡ new.begun.items) → Scanned new (x ++ b ∷ [])
+  scanned_byte b found last same goes opened no_feed no_return front =
+      let stands = known.stands goes in
+      record {
+        at = at ∙ ap (λ (n : ℕ). n + 1) known.at ∙ sym (size b);
+        found = ap (λ (n : ℕ). take n (x ++ b ∷ [])) found ∙ found_more s.found x (b ∷ []) known.within known.found (byte_recovered s.is_open s.begun.items x b stands no_feed);
+        within = omega (arith, found, known.within, size b);
+        reach = omega (arith, last, known.at, size b);
+        returns = no_returns b last;
+        exact = ends_here b last no_return;
+        over = λ over. absurd (cc (goes, same, over));
+        stands = λ _. subst (λ (o : Bool). StandsAt o new.begun.items (x ++ b ∷ [])) (sym opened) (byte_stands s.is_open s.begun.items new.begun.items x b stands no_feed no_return (front stands.line stands.front));
+      }
+
+  abbrev stays : Bool
+  stays = bytes_eq s.begun.items (codes "begin") || s.is_open && not (bytes_eq (take 7 s.begun.items) (codes "commit,"))
+
+  pub scanned_line : (b : ℕ) → b ≡ 10 → new.last ≡ s.at + 1 → new.is_over ≡ s.is_over → s.is_over ≡ false → new.is_open ≡ stays → new.begun.items ≡ []
+      → new.found ≡ (if not new.is_open && not (is_empty s.begun.items) then s.at + 1 else s.found) → Scanned new (x ++ b ∷ [])
+  scanned_line b is last same goes opened begun found =
+      let stands = known.stands goes in
+      let open_is : new.is_open ≡ stays_open s.is_open stands.line = opened ∙ stays_front s.is_open stands.line s.begun.items stands.front in
+      let whole : (((not new.is_open && not (is_empty s.begun.items)) ≡ true) × (new.found ≡ s.at + 1)) ⊎ (((not new.is_open && not (is_empty s.begun.items)) ≡ false) × (new.found ≡ s.found)) =
+      elim (cases_Bool (not new.is_open && not (is_empty s.begun.items))) [
+        | inl ends ↦ inl (ends, found ∙ cond-true _ _ _ ends)
+        | inr none ↦ inr (none, found ∙ cond-false _ _ _ none)
+      ] in
+      let ends = line_found s.is_open s.begun.items x stands new.is_open open_is s.at s.found new.found known.at known.within known.found whole in
+      subst (λ (n : ℕ). Scanned new (x ++ n ∷ [])) (sym is) (record {
+        at = at ∙ ap (λ (n : ℕ). n + 1) known.at ∙ sym (size 10);
+        found = ends.0;
+        within = ends.1;
+        reach = omega (arith, last, known.at, size 10);
+        returns = no_returns 10 last;
+        exact = ends_here 10 last (λ never. omega (arith, never));
+        over = λ over. absurd (cc (goes, same, over));
+        stands = λ _. subst (λ (o : Bool). StandsAt o new.begun.items (x ++ 10 ∷ [])) (sym open_is)
+            (subst (λ (begun : List ℕ). StandsAt (stays_open s.is_open stands.line) begun (x ++ 10 ∷ [])) (sym begun) (line_stands s.is_open s.begun.items x stands));
+      })
+
+-- a file whose bytes behind the first line were all taken
+pub found_from_scan : (s : Scan) (file : List ℕ) → Scanned s (drop 1 file) → is_own file ≡ true → 0 < length file → IsFound s.found s.last file
+found_from_scan s file known own some = record {
+  own = own;
+  text = sym known.found;
+  within = omega (arith, known.within, length-drop 1 file);
+  reach = omega (arith, known.reach, length-drop 1 file);
+  returns = λ i low within.
+      let place : 1 + (i - 1) ≡ i = omega (arith, low) in
+      ap (λ (j : ℕ). get_or file j 0) (sym place) ∙ sym (get_or-drop 1 file (i - 1) 0) ∙ known.returns (i - 1) (omega (arith, low)) (omega (arith, low, within, length-drop 1 file));
+  exact = λ above is.
+      let place : 1 + (s.last - 1) ≡ s.last = omega (arith, above) in
+      known.exact above (get_or-drop 1 file (s.last - 1) 0 ∙ ap (λ (j : ℕ). get_or file j 0) place ∙ is);
+}

@@ -1,0 +1,16 @@
+use Rattle.std.proofs.Common.{rules, ◌≡◌, ◌+◌, ℕ, List, ◌++◌, length, take, drop, sym, ◌∙◌, ap, subst}
+use Rattle.sqlite_disk.specs.Disk.{Holds}
+use Rattle.olr_log.specs.Scanning.{Scanned}
+use Rattle.olr_log.proofs.Reading.{block_behind}
+use Rattle.olr_log.proofs.reads.scan_block.Goals as goal
+
+pub returns-clause-text : goal.returns-clause-text
+returns-clause-text g c known clean =
+    let seen = g.D.Disk.seen c.args.disk.now in
+    let at = c.args.scan.now.at in
+    let bytes = c.read_at.new.buf in
+    let size : length bytes ≡ length c.args.block.now = search rules in
+    let holds : Holds seen c.args.at bytes = c.in_ok-read_at.ensures.read clean c.requires.some in
+    let next : c.take.new.self.at ≡ at + length bytes = search rules in
+    let scanned : Scanned c.take.new.self (take at (drop 1 seen) ++ bytes) = c.in_ok-take.ensures.text (take at (drop 1 seen)) known in
+    subst (λ (x : List ℕ). Scanned c.take.new.self x) (sym (block_behind seen bytes at c.args.at c.requires.place holds) ∙ ap (λ (n : ℕ). take n (drop 1 seen)) (sym next)) scanned

@@ -1,0 +1,21 @@
+use Rattle.std.proofs.Common.{◌≡◌, ◌-◌, ◌≤◌, ◌<◌, ℕ, List, IsTrue}
+use Rattle.olr_log.specs.Files.{Blanked, IsBlank}
+use Rattle.olr_log.proofs.writes.blank.Given as goal
+
+-- what is ensured, of the range so far
+abbrev pub invariant-loop-at : goal.invariant-loop-at
+invariant-loop-at g l =
+    let disk = g.D.Disk in
+    record {
+      usable : IsTrue (disk.is_usable l.disk);
+      mixing : IsTrue (disk.is_mixing l.disk);
+      calm : disk.is_clean l.disk ≡ disk.is_clean l.fn.disk;
+      low : l.from ≤ l.at;
+      within : l.at ≤ l.to;
+      blank : l.from < l.at → IsBlank l.from l.at (disk.seen l.disk);
+      others : Blanked l.from l.to (disk.seen l.fn.disk) (disk.seen l.disk);
+      crash : (c : List ℕ) → disk.may_leave l.disk c → (d : List ℕ) × disk.may_leave l.fn.disk d × Blanked l.from l.to d c;
+    }
+
+abbrev pub decreases-loop-at : goal.decreases-loop-at
+decreases-loop-at g l = l.to - l.at

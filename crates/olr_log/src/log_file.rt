@@ -1,0 +1,220 @@
+//! A log in a file: text, and carriage returns behind it.
+
+ghost use Rattle.std.specs.Prelude.{◌≡◌, ◌⊎◌, ◌+◌, ◌-◌, ◌<◌, ◌≤◌, ℕ, List, ◌++◌, length, replicate, true, false, if◌then◌else◌, IsTrue, IfOk, OnOk, OnErr, IsErr, IsNone, IsSome, ⊤, MatchOption, Option};
+ghost use Rattle.sqlite_disk.specs.Disk.{Only};
+ghost use Rattle.olr_input.specs.Journals.{MayHaveKept, is_whole};
+ghost use Rattle.olr_log.specs.Texts.{ends_blank, padded};
+ghost use Rattle.olr_log.specs.Files.{IsOpened, IsPadded, kept_in};
+ghost use Rattle.olr_log.specs.Outcomes.{MayLeave, LeavesText};
+
+use crate::folder::Folder;
+use crate::writes::{extend, fill, put};
+use olr_input::Journal;
+use sqlite_disk::Disk;
+use std::io;
+
+/// A log in a file, which begins with an empty line. Behind its text the file is padded with carriage returns, over which
+/// records are written.
+#[derive(Drop)]
+pub struct LogFile<D: Disk, F: Folder<D>> {
+    pub(crate) disk: D,
+    pub(crate) folder: F,
+    /// The number of the file.
+    pub(crate) number: u64,
+    /// The next file, if it isn't known to which the name of the log leads.
+    pub(crate) rival: Option<D>,
+    /// The file begins with an empty line.
+    pub(crate) is_own: bool,
+    /// Nothing more can be kept.
+    pub(crate) is_broken: bool,
+    /// Records can be written behind the text.
+    pub(crate) is_settled: bool,
+    pub(crate) text_len: usize,
+    /// From this byte behind the first line on, an opened file has none but carriage returns.
+    pub(crate) last: usize,
+    pub(crate) file_len: usize,
+    /// Why it was not replaced, the last time.
+    pub(crate) refusal: Option<io::Error>,
+    /// Carriage returns.
+    pub(crate) returns: Vec<u8>,
+    ghost any_returns: { 0 < length returns.items },
+    ghost all_returns: { returns.items ≡ replicate (length returns.items) 13 },
+    ghost usable: { is_broken ≡ false → IsTrue (D.Disk.is_usable disk) },
+    ghost durable: { is_broken ≡ false → Only (D.Disk.seen disk) (D.Disk.may_leave disk) },
+    ghost led: { is_broken ≡ false → (n : ℕ) → F.Folder.may_lead folder n → n ≡ number },
+    ghost opened: { is_broken ≡ false → is_settled ≡ false → IsOpened is_own text_len last file_len (D.Disk.is_clean disk) (D.Disk.seen disk) },
+    ghost own: { is_settled ≡ true → (is_broken ≡ false) × (is_own ≡ true) },
+    ghost room: { is_settled ≡ true → (text_len + 1 < file_len) × (text_len + 1 ≤ length (D.Disk.seen disk)) },
+    ghost padded: { is_settled ≡ true → D.Disk.is_clean disk ≡ true → (length (D.Disk.seen disk) ≡ file_len) × IsPadded text_len (D.Disk.seen disk) },
+}
+
+/// Whether a text ends in an empty line.
+#[tactic(auto, using(crate::proofs::Fronts::blank_by))]
+fn is_blank_at_end(text: &[u8]) -> bool
+    ensures { result ≡ ends_blank text.now }
+{
+    text == b"\n".as_slice() || text.ends_with(b"\n\n")
+}
+
+/// A file that was written beside the log and put in its place.
+#[derive(Drop)]
+struct Made<D: Disk> {
+    disk: D,
+    number: u64,
+    len: usize,
+    /// Why it isn't known whether the name of the log leads to it.
+    doubt: Option<io::Error>,
+}
+
+/// Writes records beside the log, and puts them in its place. After an error the name of the log leads where it did.
+fn write_in_place<D: Disk + Drop, F: Folder<D>>(
+    folder: &mut F,
+    old: u64,
+    records: &[u8],
+    returns: &[u8],
+) -> io::Result<Made<D>>
+    requires some { 0 < length returns.now }
+    requires returns { returns.now ≡ replicate (length returns.now) 13 }
+    ensures usable { IfOk result (λ made. IsTrue (D.Disk.is_usable made.disk)) }
+    ensures file { IfOk result (λ made. D.Disk.seen made.disk ≡ padded records.now (made.len - (length records.now + 1))) }
+    ensures len { IfOk result (λ made. length records.now + 1 < made.len) }
+    ensures durable { IfOk result (λ made. Only (D.Disk.seen made.disk) (D.Disk.may_leave made.disk)) }
+    ensures counts { IfOk result (λ made. ends_blank records.now ≡ false) }
+    ensures number { IfOk result (λ made. made.number ≡ old + 1) }
+    ensures refused { OnErr result ((n : ℕ) → F.Folder.may_lead folder.new n → F.Folder.may_lead folder.old n) }
+    ensures placed { IfOk result (λ made. IsNone made.doubt → (n : ℕ) → F.Folder.may_lead folder.new n → n ≡ old + 1) }
+    ensures either { (n : ℕ) → F.Folder.may_lead folder.new n → F.Folder.may_lead folder.old n ⊎ (n ≡ old + 1) }
+{
+    if is_blank_at_end(records) || old == u64::MAX {
+        return Err(io::ErrorKind::InvalidInput.into());
+    }
+    let number = old + 1;
+    let mut disk = folder.create_beside()?;
+    let len = match fill(&mut disk, records, returns) {
+        Ok(len) => len,
+        Err(error) => {
+            folder.remove_beside();
+            return Err(error);
+        }
+    };
+    match folder.put_in_place(number) {
+        Ok(None) => Ok(Made {
+            disk,
+            number,
+            len,
+            doubt: None,
+        }),
+        Ok(Some(error)) => {
+            folder.remove_beside();
+            Err(error)
+        }
+        Err(error) => Ok(Made {
+            disk,
+            number,
+            len,
+            doubt: Some(error),
+        }),
+    }
+}
+
+impl<D: Disk + Drop, F: Folder<D>> Journal for LogFile<D, F> {
+    ghost use Rattle.olr_log.specs.Logs.{kept_of, size_of, left_of, refusal_of, is_own_of, is_ready, is_broken_of};
+    ghost use Rattle.olr_log.specs.Logs.{is_clean};
+
+    ghost kept = { λ j. kept_in j.is_own j.text_len (D.Disk.seen j.disk) };
+
+    ghost size = { λ j. j.text_len };
+
+    ghost refuses = { λ _ _ j. IsSome (refusal_of j) };
+
+    ghost may_leave = { λ j. MayLeave D.Disk.is_clean D.Disk.may_leave (F.Folder.may_lead j.folder) j.number j.disk j.rival };
+
+    fn keep(&mut self, records: &[u8]) -> io::Result<()>
+        requires { IsTrue (is_whole records.now) }
+        ensures kept { OnOk result (kept_of self.new ≡ kept_of self.old ++ records.now) }
+        ensures counted { OnOk result (size_of self.new ≡ length (kept_of self.new)) }
+        ensures durable { OnOk result (Only (kept_of self.new) (left_of self.new)) }
+        ensures cut { MayHaveKept kept_of left_of self.old records.now self.new }
+        ensures ready { OnOk result (is_ready self.new ≡ true) }
+        ensures broken { OnErr result (is_broken_of self.new ≡ true) }
+        ensures unready { is_ready self.old ≡ false → IsErr result }
+    {
+        let is_settled = self.is_settled;
+        self.is_settled = false;
+        self.is_broken = true;
+        if !is_settled {
+            return Err(io::ErrorKind::InvalidInput.into());
+        }
+        if is_blank_at_end(records) {
+            return Err(io::ErrorKind::InvalidInput.into());
+        }
+        let at = self.text_len + 1;
+        let end = at
+            .checked_add(records.len())
+            .ok_or(io::ErrorKind::FileTooLarge)?;
+        self.file_len = extend(&mut self.disk, self.file_len, end, &self.returns)?;
+        put(&mut self.disk, at, records)?;
+        self.text_len += records.len();
+        self.folder.note_written();
+        self.is_broken = false;
+        self.is_settled = true;
+        Ok(())
+    }
+
+    fn replace(&mut self, records: &[u8]) -> io::Result<bool>
+        requires { IsTrue (is_whole records.now) }
+        ensures kept { IfOk result (λ done. kept_of self.new ≡ if done then records.now else kept_of self.old) }
+        ensures counted { IfOk result (λ done. size_of self.new ≡ if done then length records.now else size_of self.old) }
+        ensures durable { Only (kept_of self.old) (left_of self.old) → OnOk result (Only (kept_of self.new) (left_of self.new)) }
+        ensures cut { (c : List ℕ) → left_of self.new c → left_of self.old c ⊎ (c ≡ records.now) }
+        ensures ready { IfOk result (λ done. done ≡ true → is_ready self.new ≡ true) }
+        ensures own { IfOk result (λ done. is_own_of self.new ≡ if done then true else is_own_of self.old) }
+        ensures unready { IfOk result (λ done. done ≡ false → is_ready self.new ≡ is_ready self.old) }
+        ensures refused { IfOk result (λ done. done ≡ false → IsSome (refusal_of self.new)) }
+        ensures broken { OnErr result (is_broken_of self.new ≡ true) }
+        ensures again { is_broken_of self.old ≡ true → IsErr result }
+    {
+        if self.is_broken {
+            return Err(io::ErrorKind::InvalidInput.into());
+        }
+        let made = match write_in_place(&mut self.folder, self.number, records, &self.returns) {
+            Ok(made) => made,
+            Err(error) => {
+                self.refusal = Some(error);
+                return Ok(false);
+            }
+        };
+        if let Some(error) = made.doubt {
+            self.is_settled = false;
+            self.is_broken = true;
+            self.rival = Some(made.disk);
+            return Err(error);
+        }
+        self.folder.note_written();
+        self.disk = made.disk;
+        self.number = made.number;
+        self.rival = None;
+        self.is_own = true;
+        self.is_settled = true;
+        self.text_len = records.len();
+        self.file_len = made.len;
+        Ok(true)
+    }
+
+    fn report_unreplaced(&self, are_made: bool) {
+        let error = if are_made { self.refusal } else { None };
+        self.folder.report_unreplaced(error);
+    }
+
+    fn len(&self) -> usize
+        ensures counted { result ≡ size_of self.now }
+        ensures ready { is_ready self.now ≡ true → result ≡ length (kept_of self.now) }
+        ensures opened { is_broken_of self.now ≡ false → is_clean self.now ≡ true → result ≡ length (kept_of self.now) }
+    {
+        self.text_len
+    }
+
+    fn is_in_place(&self) -> bool {
+        self.folder.is_in_place(self.file_len)
+    }
+}

@@ -1,0 +1,181 @@
+//! Opening a log, and closing it.
+
+ghost use Rattle.std.specs.Prelude.{◌≡◌, ◌⊎◌, ◌+◌, true, false, ℕ, List, ◌∷◌, length, IsTrue, IfOk, IsOk, IsErr, OnOk, OnErr};
+ghost use Rattle.std.specs.Io.KnownBytes.{Appends};
+ghost use Rattle.olr_input.specs.Journals.{Only};
+ghost use Rattle.olr_log.specs.Texts.{text_of, is_own, left_behind};
+ghost use Rattle.olr_log.specs.Files.{IsPaddedText};
+
+use crate::folder::Folder;
+use crate::log_file::LogFile;
+use crate::reads::{copy_range, examine, read_exact};
+use crate::writes::{BLOCK, blank, carriage_returns, cut};
+use sqlite_disk::Disk;
+use std::alloc::Global;
+use std::io;
+use std::io::Write;
+
+impl<D: Disk + Drop, F: Folder<D>> LogFile<D, F> {
+    ghost use Rattle.olr_log.specs.Logs.{kept_of, file_of, folder_of, refusal_of, is_own_of, is_ready, is_broken_of};
+    ghost use Rattle.olr_log.specs.Logs.{left_over_of, left_of, is_clean};
+
+    /// Syncs the file and finds the end of its text. It changes nothing.
+    pub fn open(alloc: Global, disk: D, folder: F) -> io::Result<LogFile<D, F>>
+        requires usable { IsTrue (D.Disk.is_usable disk) }
+        requires named { (n : ℕ) → F.Folder.may_lead folder n → n ≡ 0 }
+        ensures text { IfOk result (λ log. is_clean log ≡ true → kept_of log ≡ text_of (D.Disk.seen disk)) }
+        ensures own { IfOk result (λ log. is_clean log ≡ true → is_own_of log ≡ is_own (D.Disk.seen disk)) }
+        ensures rest { IfOk result (λ log. is_clean log ≡ true → left_over_of log ≡ left_behind (D.Disk.seen disk)) }
+        ensures same { IfOk result (λ log. file_of log ≡ D.Disk.seen disk) }
+        ensures unready { IfOk result (λ log. is_ready log ≡ false) }
+        ensures unbroken { IfOk result (λ log. is_broken_of log ≡ false) }
+        ensures folder { IfOk result (λ log. folder_of log ≡ folder) }
+        ensures durable { IfOk result (λ log. Only (kept_of log) (left_of log)) }
+    {
+        let mut disk = disk;
+        let ends = examine(alloc, &mut disk)?;
+        let returns = carriage_returns(alloc, BLOCK)?;
+        Ok(LogFile {
+            disk,
+            folder,
+            number: 0,
+            rival: None,
+            is_own: ends.own,
+            is_broken: false,
+            is_settled: false,
+            text_len: ends.text_len,
+            last: ends.last,
+            file_len: ends.file_len,
+            refusal: None,
+            returns,
+        })
+    }
+
+    /// The folder of the log.
+    pub fn folder(&self) -> &F
+        ensures { result.now ≡ folder_of self.now }
+    {
+        &self.folder
+    }
+
+    /// Whether the file begins with the empty line of the program's own files. If not, all of it is its text, and `replace` has
+    /// to give it its own form before anything is kept.
+    pub fn is_own(&self) -> bool
+        ensures { result ≡ is_own_of self.now }
+    {
+        self.is_own
+    }
+
+    /// Whether an opened file has padding behind its text: the run before was cut off.
+    pub fn is_padded(&self) -> bool {
+        self.is_own && !self.is_settled && self.file_len > self.text_len.saturating_add(1)
+    }
+
+    /// How many bytes stand behind the text, up to the last that isn't a carriage return. They were never answered.
+    pub fn left_over(&self) -> usize
+        ensures { is_clean self.now ≡ true → result ≡ length (left_over_of self.now) }
+    {
+        if self.is_settled || self.is_broken || !self.is_own {
+            return 0;
+        }
+        self.last.saturating_sub(self.text_len)
+    }
+
+    /// Writes these bytes.
+    pub fn copy_left_over<W: Write>(&mut self, alloc: Global, to: &mut W) -> io::Result<()>
+        ensures none { is_ready self.old ≡ true → IsOk result }
+        ensures foreign { is_own_of self.old ≡ false → IsOk result }
+        ensures copied { OnOk result (is_clean self.new ≡ true → Appends (W.contents to.old) (W.contents to.new) (left_over_of self.old)) }
+        ensures kept { kept_of self.new ≡ kept_of self.old }
+        ensures own { is_own_of self.new ≡ is_own_of self.old }
+        ensures ready { is_ready self.new ≡ is_ready self.old }
+        ensures less { (c : List ℕ) → left_of self.new c → left_of self.old c }
+    {
+        if self.is_settled || !self.is_own {
+            return Ok(());
+        }
+        if self.is_broken {
+            return Err(io::ErrorKind::InvalidInput.into());
+        }
+        copy_range(alloc, &mut self.disk, self.text_len + 1, self.last + 1, to)
+    }
+
+    /// Why the text was not replaced, the last time.
+    pub fn refusal(&self) -> Option<io::Error>
+        ensures { result ≡ refusal_of self.now }
+    {
+        self.refusal
+    }
+
+    /// Overwrites what stands behind the text by carriage returns, and syncs. From then on records can be kept.
+    pub fn settle(&mut self) -> io::Result<()>
+        ensures kept { OnOk result (is_clean self.new ≡ true → kept_of self.new ≡ kept_of self.old) }
+        ensures ready { OnOk result (is_ready self.new ≡ true) }
+        ensures again { is_ready self.old ≡ true → IsOk result }
+        ensures foreign { is_own_of self.old ≡ false → IsErr result }
+        ensures broken { is_broken_of self.old ≡ true → IsErr result }
+        ensures padded { OnOk result (is_clean self.new ≡ true → IsPaddedText (kept_of self.old) (file_of self.new)) }
+        ensures durable { OnOk result (Only (kept_of self.new) (left_of self.new)) }
+        ensures cut { (c : List ℕ) → left_of self.new c → left_of self.old c ⊎ (c ≡ kept_of self.old) }
+    {
+        if self.is_settled {
+            return Ok(());
+        }
+        if self.is_broken {
+            return Err(io::ErrorKind::InvalidInput.into());
+        }
+        if !self.is_own {
+            return Err(io::ErrorKind::InvalidInput.into());
+        }
+        self.is_broken = true;
+        let from = self.text_len + 1;
+        let to = from
+            .max(self.last)
+            .checked_add(1)
+            .ok_or(io::ErrorKind::FileTooLarge)?;
+        blank(&mut self.disk, from, to, &self.returns)?;
+        self.file_len = self.file_len.max(to);
+        self.folder.note_written();
+        self.is_broken = false;
+        self.is_settled = true;
+        Ok(())
+    }
+
+    /// The text.
+    pub fn text(&mut self, alloc: Global) -> io::Result<Vec<u8>>
+        ensures broken { is_broken_of self.old ≡ true → IsErr result }
+        ensures text { IfOk result (λ text. is_clean self.new ≡ true → text.items ≡ kept_of self.old) }
+        ensures kept { kept_of self.new ≡ kept_of self.old }
+        ensures own { is_own_of self.new ≡ is_own_of self.old }
+        ensures ready { is_ready self.new ≡ is_ready self.old }
+        ensures less { (c : List ℕ) → left_of self.new c → left_of self.old c }
+    {
+        if self.is_broken {
+            return Err(io::ErrorKind::InvalidInput.into());
+        }
+        let mut text = vec![in alloc; 0u8; self.text_len]?;
+        read_exact(&mut self.disk, usize::from(self.is_own), &mut text)?;
+        Ok(text)
+    }
+
+    /// Cuts the padding off. Nothing more can be kept. A log that isn't settled stays as it is.
+    pub fn close(&mut self) -> io::Result<()>
+        ensures closed { OnOk result (is_ready self.old ≡ true → is_clean self.new ≡ true → file_of self.new ≡ 10 ∷ kept_of self.old) }
+        ensures durable { OnOk result (is_ready self.old ≡ true → Only (kept_of self.old) (left_of self.new)) }
+        ensures same { is_ready self.old ≡ false → file_of self.new ≡ file_of self.old }
+        ensures unready { is_ready self.new ≡ false }
+        ensures again { is_ready self.old ≡ false → IsOk result }
+        ensures broken { OnErr result (is_broken_of self.new ≡ true) }
+        ensures cut { (c : List ℕ) → left_of self.new c → left_of self.old c ⊎ (c ≡ kept_of self.old) }
+    {
+        if !self.is_settled {
+            return Ok(());
+        }
+        self.is_settled = false;
+        self.is_broken = true;
+        let end = self.text_len + 1;
+        cut(&mut self.disk, end + 1)?;
+        cut(&mut self.disk, end)?;
+        Ok(())
+    }
+}

@@ -1,0 +1,363 @@
+//! Where a log lies: its name, its folder, and the lock that one process holds. Read, and not proved, but for its names.
+
+ghost use Rattle.std.specs.Prelude.{◌≡◌, ◌⊎◌, ℕ, List, [], true, Some, IsTrue, IsNone, IfOk};
+ghost use Rattle.olr_log.specs.Logs.{kept_of, left_of, left_over_of, is_own_of, is_ready, is_clean};
+ghost use Rattle.olr_log.specs.Places.{disk_is_usable, IsFreshDisk, folder_may_lead};
+
+use crate::folder::Folder;
+use crate::host::HostFile;
+use crate::log_file::LogFile;
+use sqlite_disk::{Modelled, Start};
+use std::alloc::AllocError;
+use std::cell::Cell;
+use std::fs::OpenOptions;
+use std::io::{self, Read, Write};
+use std::os::fd::AsRawFd;
+use std::os::unix::fs::{MetadataExt, OpenOptionsExt, PermissionsExt, fchown};
+use std::path::{Path, PathBuf};
+use std::{fs, process};
+
+/// The number of an input or output error (`EIO`).
+const IO_ERROR: i32 = 5;
+
+/// A file of the operating system that held what `S` says.
+pub type HostDisk<S> = Modelled<HostFile, S>;
+
+/// Why a log can't be opened.
+#[derive(Clone, Copy, Debug)]
+pub enum OpenError {
+    /// There is no such file.
+    Missing,
+    /// A new log was asked for, and the file is there.
+    Exists,
+    /// Another process uses the log. Its id, if it is known.
+    InUse(Option<u32>),
+    /// The file beside it that is locked can't be opened or made.
+    Lock(io::Error),
+    Io(io::Error),
+}
+
+impl From<io::Error> for OpenError {
+    fn from(error: io::Error) -> OpenError {
+        OpenError::Io(error)
+    }
+}
+
+impl From<AllocError> for OpenError {
+    fn from(_error: AllocError) -> OpenError {
+        OpenError::Io(io::ErrorKind::OutOfMemory.into())
+    }
+}
+
+/// The folder of a log, with the log's name and its lock.
+#[derive(Drop)]
+pub struct LogFolder<'a> {
+    rt: &'a HostRuntime,
+    folder: fs::File,
+    /// Held until it is dropped.
+    lock: fs::File,
+    log: PathBuf,
+    beside: String,
+    /// The number of the file that has the name, its device and its inode.
+    number: u64,
+    node: (u64, u64),
+    /// The same of the file beside it.
+    next: Option<u64>,
+    next_node: (u64, u64),
+    /// When the file of that name was last changed, if this process changed it last.
+    written: Cell<Option<(i64, i64)>>,
+}
+
+fn node_of(file: &fs::File) -> io::Result<(u64, u64)> {
+    let found = file.metadata()?;
+    Ok((found.dev(), found.ino()))
+}
+
+/// When a file was last changed: seconds, and nanoseconds of a second.
+fn time_of(found: &fs::Metadata) -> (i64, i64) {
+    (found.mtime(), found.mtime_nsec())
+}
+
+/// Locks a file. Returns whether no other process has locked it.
+fn takes_lock(file: &fs::File) -> io::Result<bool> {
+    match file.try_lock() {
+        Ok(()) => Ok(true),
+        Err(fs::TryLockError::WouldBlock) => Ok(false),
+        Err(fs::TryLockError::Error(error)) => Err(error),
+    }
+}
+
+/// Where a descriptor of a standard stream is free, a file gets another one, so that no answer lands in it.
+fn above_streams(file: fs::File) -> io::Result<fs::File> {
+    if file.as_raw_fd() <= 2 {
+        return file.try_clone();
+    }
+    Ok(file)
+}
+
+fn unless_denied(outcome: io::Result<()>) -> io::Result<()> {
+    match outcome {
+        Err(error) if error.kind() == io::ErrorKind::PermissionDenied => Ok(()),
+        other => other,
+    }
+}
+
+fn unless_missing(outcome: io::Result<()>) -> io::Result<()> {
+    match outcome {
+        Err(error) if error.kind() == io::ErrorKind::NotFound => Ok(()),
+        other => other,
+    }
+}
+
+impl LogFolder<'_> {
+    /// Makes a file beside the log and locks it, with the log's mode, and its group and owner where this process may set them.
+    fn make_beside(&self) -> io::Result<fs::File> {
+        unless_missing(fs::remove_file(self.rt, self.beside.as_str()))?;
+        let old = fs::metadata(self.rt, self.log.as_str())?;
+        let file = above_streams(
+            OpenOptions::new()
+                .read(true)
+                .write(true)
+                .create_new(true)
+                .mode(0o600)
+                .open(self.rt, self.beside.as_str())?,
+        )?;
+        if !takes_lock(&file)? {
+            return Err(io::ErrorKind::WouldBlock.into());
+        }
+        unless_denied(fchown(&file, None, Some(old.gid())))?;
+        unless_denied(fchown(&file, Some(old.uid()), None))?;
+        file.set_permissions(fs::Permissions::from_mode(old.mode() & 0o7777))?;
+        Ok(file)
+    }
+
+    /// Makes a file for what stands behind the text of the log, under a name that nothing has. Also returns that name.
+    fn make_aside(&self) -> io::Result<(fs::File, String)> {
+        for n in 0..1000u32 {
+            let name = if n == 0 {
+                format!(in self.rt.alloc(); "{}.dropped", self.log.as_str())?
+            } else {
+                format!(in self.rt.alloc(); "{}.dropped.{n}", self.log.as_str())?
+            };
+            match OpenOptions::new()
+                .write(true)
+                .create_new(true)
+                .mode(0o600)
+                .open(self.rt, name.as_str())
+            {
+                Ok(file) => return Ok((above_streams(file)?, name)),
+                Err(error) if error.kind() == io::ErrorKind::AlreadyExists => {}
+                Err(error) => return Err(error),
+            }
+        }
+        Err(io::ErrorKind::AlreadyExists.into())
+    }
+}
+
+impl<S: Start> Folder<HostDisk<S>> for LogFolder<'_> {
+    ghost may_lead = { folder_may_lead };
+
+    fn create_beside(&mut self) -> io::Result<HostDisk<S>> {
+        let file = self.make_beside()?;
+        self.next_node = node_of(&file)?;
+        let host = HostFile::settle(file, &self.folder)?;
+        Ok(Modelled::new(host, false, 0))
+    }
+
+    fn remove_beside(&mut self) {
+        let _ = fs::remove_file(self.rt, self.beside.as_str());
+    }
+
+    fn put_in_place(&mut self, number: u64) -> io::Result<Option<io::Error>> {
+        if let Err(error) = fs::rename(self.rt, self.beside.as_str(), self.log.as_str()) {
+            if error.raw_os_error() == Some(IO_ERROR) {
+                self.next = Some(number);
+                return Err(error);
+            }
+            return Ok(Some(error));
+        }
+        if let Err(error) = self.folder.sync_all() {
+            self.next = Some(number);
+            return Err(error);
+        }
+        self.number = number;
+        self.next = None;
+        self.node = self.next_node;
+        Ok(None)
+    }
+
+    fn report_unreplaced(&self, error: Option<io::Error>) {
+        let log = self.log.as_str();
+        let _ = match error {
+            Some(error) => eprintln!(self.rt;
+                "olr-keep: {log} is not compacted, and is used as it is: {error}"
+            ),
+            None => eprintln!(self.rt;
+                "olr-keep: {log} is not compacted, and is used as it is: no memory"
+            ),
+        };
+    }
+
+    fn is_in_place(&self, len: usize) -> bool {
+        match fs::metadata(self.rt, self.log.as_str()) {
+            Ok(found) => {
+                (found.dev(), found.ino()) == self.node
+                    && found.len() == len as u64
+                    && self.written.get().unwrap_or(time_of(&found)) == time_of(&found)
+            }
+            Err(_) => false,
+        }
+    }
+
+    fn note_written(&self) {
+        let found = fs::metadata(self.rt, self.log.as_str());
+        self.written.set(found.ok().map(|it| time_of(&it)));
+    }
+}
+
+/// The path of a log with no link in it.
+fn resolve(rt: &HostRuntime, path: &str, is_new: bool) -> Result<PathBuf, OpenError> {
+    match fs::canonicalize(rt, path) {
+        Ok(_) if is_new => Err(OpenError::Exists),
+        Ok(found) => Ok(found),
+        Err(error) if error.kind() != io::ErrorKind::NotFound => Err(OpenError::Io(error)),
+        Err(_) if !is_new => Err(OpenError::Missing),
+        Err(error) => {
+            let given = Path::new(path);
+            let Some(name) = given.file_name() else {
+                return Err(OpenError::Io(error));
+            };
+            let folder = match given.parent() {
+                Some(folder) if !folder.as_str().is_empty() => fs::canonicalize(
+                    rt,
+                    folder.as_str(),
+                )?,
+                _ => fs::canonicalize(rt, ".")?,
+            };
+            Ok(folder.join(rt.alloc(), name)?)
+        }
+    }
+}
+
+/// The number that a lock file holds.
+fn holder(lock: &mut fs::File) -> Option<u32> {
+    let mut text = [0u8; 16];
+    let n = lock.read(&mut text).ok()?;
+    let digits = text[..n].split(|b| *b == b'\n').next()?;
+    std::str::from_utf8(digits).ok()?.parse().ok()
+}
+
+/// Opens the lock file of a log, or makes it. What has its name and is no file is refused and stays as it is, also if it is a link
+/// that was put there meanwhile.
+fn open_lock(rt: &HostRuntime, name: &str) -> io::Result<fs::File> {
+    let made = OpenOptions::new()
+        .read(true)
+        .write(true)
+        .create_new(true)
+        .mode(0o666)
+        .open(rt, name);
+    match made {
+        Err(error) if error.kind() == io::ErrorKind::AlreadyExists => {}
+        made => return made,
+    }
+    let other = io::Error::new(io::ErrorKind::InvalidInput, "it is a link, or no file");
+    if !fs::symlink_metadata(rt, name)?.is_file() {
+        return Err(other);
+    }
+    let file = OpenOptions::new().read(true).write(true).open(rt, name)?;
+    let named = fs::symlink_metadata(rt, name)?;
+    if node_of(&file)? != (named.dev(), named.ino()) {
+        return Err(other);
+    }
+    Ok(file)
+}
+
+/// Locks the lock file of a log, and writes the process id to it.
+fn lock(rt: &HostRuntime, log: &str) -> Result<fs::File, OpenError> {
+    let name = format!(in rt.alloc(); "{log}.lock")?;
+    let mut lock = match open_lock(rt, name.as_str()) {
+        Ok(file) => above_streams(file)?,
+        Err(error) => return Err(OpenError::Lock(error)),
+    };
+    if !takes_lock(&lock)? {
+        return Err(OpenError::InUse(holder(&mut lock)));
+    }
+    lock.set_len(0)?;
+    let text = format!(in rt.alloc(); "{}\n", process::id(rt.process()))?;
+    lock.write_all(text.as_str().as_bytes())?;
+    Ok(lock)
+}
+
+/// Opens the file of a log, or makes it, and locks it too: another name or a mount may lead to it beside another lock file. Links
+/// are followed now, and not later.
+pub fn open_place<'a, S: Start>(
+    rt: &'a HostRuntime,
+    path: &str,
+    is_new: bool,
+    _start: S,
+) -> Result<(HostDisk<S>, LogFolder<'a>), OpenError>
+    ensures usable { IfOk result (λ place. IsTrue (disk_is_usable S.Start place.0)) }
+    ensures fresh { IfOk result (λ place. IsFreshDisk place.0) }
+    ensures named { IfOk result (λ place. (n : ℕ) → folder_may_lead place.1 n → n ≡ 0) }
+{
+    let log = resolve(rt, path, is_new)?;
+    let lock = lock(rt, log.as_str())?;
+    let file = above_streams(
+        OpenOptions::new()
+            .read(true)
+            .write(true)
+            .create_new(is_new)
+            .mode(0o666)
+            .open(rt, log.as_str())?,
+    )?;
+    if !file.metadata()?.is_file() {
+        return Err(OpenError::Io(io::ErrorKind::Unsupported.into()));
+    }
+    if !takes_lock(&file)? {
+        return Err(OpenError::InUse(None));
+    }
+    let beside = format!(in rt.alloc(); "{}.compacting", log.as_str())?;
+    unless_missing(fs::remove_file(rt, beside.as_str()))?;
+    let folder = match log.parent() {
+        Some(folder) => fs::open(rt, folder.as_str())?,
+        None => return Err(OpenError::Io(io::ErrorKind::Unsupported.into())),
+    };
+    let node = node_of(&file)?;
+    let host = HostFile::settle(file, &folder)?;
+    Ok((
+        Modelled::new(host, true, 0),
+        LogFolder {
+            rt,
+            folder,
+            lock,
+            log,
+            beside,
+            number: 0,
+            node,
+            next: None,
+            next_node: node,
+            written: Cell::new(None),
+        },
+    ))
+}
+
+/// Copies what stands behind the text of a log to a file of its own beside it, and syncs that. Returns its name, if there was any.
+pub fn set_aside<S: Start>(
+    log: &mut LogFile<HostDisk<S>, LogFolder<'_>>,
+) -> io::Result<Option<String>>
+    ensures none { IfOk result (λ name. IsNone name → is_clean log.old ≡ true → left_over_of log.old ≡ []) }
+    ensures kept { kept_of log.new ≡ kept_of log.old }
+    ensures own { is_own_of log.new ≡ is_own_of log.old }
+    ensures ready { is_ready log.new ≡ is_ready log.old }
+    ensures less { (c : List ℕ) → left_of log.new c → left_of log.old c }
+{
+    if log.left_over() == 0 {
+        return Ok(None);
+    }
+    let (mut file, name) = log.folder().make_aside()?;
+    let alloc = log.folder().rt.alloc();
+    log.copy_left_over(alloc, &mut file)?;
+    file.sync_all()?;
+    log.folder().folder.sync_all()?;
+    Ok(Some(name))
+}

@@ -1,0 +1,66 @@
+-- The texts and entries of a list whose paths were encoded, and such a list as what its iterator has left.
+use Rattle.olr_paths.proofs.Common.{◌≡◌, ℕ, Bool, List, Bor, IsTrue, Option, Some, None, sym, ap, ◌∙◌, subst}
+use Rattle.olr_paths.proofs.Common.{option_map, bytes_eq, IsReference, bytes_decides, result_ok, published_text}
+use Rattle.olr_paths.proofs.Common.{option_eq, true, is_some, inr, [], ◌∷◌, ◌++◌, refl}
+use Rattle.olr_paths.proofs.Common.{append_assoc, Entry, entry, Answer, Made, Item, made_of, made_in, answer_in}
+use Rattle.olr_paths.proofs.Common.{Reported, ◌≢◌, ◌&&◌, map, string_bytes, Rc, AreEncoded, Published, list_all, Global}
+use Rattle.olr_binary.proofs.TextLemmas.{one_reference}
+use Rattle.olr_spec.specs.Reference.{Reference}
+use Rattle.olr_binary.specs.Text.{IsTextOf, text_of}
+use Rattle.olr_spec.specs.Encoding as spec
+use Rattle.olr_paths.specs.declared.published.Published.{Published as Encoded}
+use Rattle.olr_paths.proofs.NamedEntries.{Entries, items_of, made_of_named}
+
+-- ---- two texts
+
+same_texts : (q r : Reference) (s t : List ℕ) → IsTextOf q s → IsTextOf r t →
+    (IsTrue (bytes_eq s t) → spec.Points q ≡ spec.Points r) × (spec.Points q ≡ spec.Points r → IsTrue (bytes_eq s t))
+same_texts q r s t p h = (
+  (λ e. ap spec.Points (one_reference q r s p (h.0, (bytes_decides s t).0 e ∙ h.1))),
+  (λ e. let same : q ≡ r = cc in (bytes_decides s t).1 (p.1 ∙ ap text_of same ∙ sym h.1)),
+)
+
+-- a stored text determines the reference that it encodes
+pub decided : (q r : Reference) (o p : Option (Bor (List ℕ))) → IsReference q → IsReference r
+    → option_map (λ s. s.now) o ≡ result_ok (published_text (spec.Points q)) →
+    option_map (λ s. s.now) p ≡ result_ok (published_text (spec.Points r))
+    → (b : Bool) → b ≡ option_eq (λ s t. bytes_eq s.now t.now) o p
+    → (IsTrue b → spec.Points q ≡ spec.Points r) × (spec.Points q ≡ spec.Points r → IsTrue b)
+decided q r None p soundq soundr textq textr b e = absurd cc
+decided q r (Some s) None soundq soundr textq textr b e = absurd cc
+decided q r (Some s) (Some t) soundq soundr textq textr b e =
+    let first : s.now ≡ text_of q = cc in
+    let second : t.now ≡ text_of r = cc in
+    let both = same_texts q r s.now t.now (soundq, first) (soundr, second) in
+    subst (λ (c : Bool). (IsTrue c → spec.Points q ≡ spec.Points r) × (spec.Points q ≡ spec.Points r → IsTrue c))
+    (sym e) both
+
+-- with no earlier list, all are reported: one more entry, if the rest follows
+pub reported_more : (is left : List Item) (i : Item) (m : Made) (es : List Entry) → i.made ≡ Some m
+    → ((fs : List Entry) → Reported [] (i ∷ left) fs → Reported [] is (es ++ fs))
+    → (fs : List Entry) → Reported [] left fs → Reported [] is ((es ++ entry i.name m.answer ∷ []) ++ fs)
+reported_more is left i m es made so_far fs rest =
+    rw append_assoc (so_far (entry i.name m.answer ∷ fs)
+    (m.answer, fs, ap (option_map (λ (n : Made). n.answer)) made, rest, inr ((λ h. cc), refl)))
+
+-- ---- what was encoded
+
+-- a name with a stored result has an answer
+pub answered : (is : List Item) (name : List ℕ) (o : Option (Bor Encoded)) →
+    option_map (λ p. made_of p.now) o ≡ made_in is name → is_some o ≡ true → (A : Answer) × (answer_in is name ≡ Some A)
+answered is name None e some = absurd cc
+answered is name (Some p) e some = ((made_of p.now).answer, ap (option_map (λ (m : Made). m.answer)) (sym e))
+
+some_made : (o : Option (Rc Published Global)) → option_map (λ p. made_of p.value) o ≢ None → is_some o ≡ true
+some_made None h = absurd (h refl)
+some_made (Some p) h = refl
+
+pub all_some : (es : Entries) → AreEncoded (items_of es) → list_all (λ e. is_some e.1.published) es ≡ true
+all_some [] a = refl
+all_some (e ∷ es) a =
+    ap (λ b. b && list_all (λ e. is_some e.1.published) es) (some_made e.1.published a.0) ∙ all_some es a.1
+
+pub all_left : (es : Entries) → map {B = List ℕ × Option Made} (λ e. (string_bytes e.0, made_of_named e.1)) es
+    ≡ map (λ (i : Item). (i.name, i.made)) (items_of es)
+all_left [] = refl
+all_left (e ∷ es) = ap (λ (xs : List (List ℕ × Option Made)). (string_bytes e.0, made_of_named e.1) ∷ xs) (all_left es)

@@ -1,0 +1,53 @@
+-- The coverage queries of a list in which an item was replaced, or a path was added, set or dropped.
+use Rattle.olr_paths.proofs.Common.{inl, inr, ◌≡◌, ℕ, zero, suc, ◌⊎◌, Bool, List, [], ◌∷◌, ◌++◌, map}
+use Rattle.olr_paths.proofs.Common.{slice_get, Option, Some, arith, filter, option_map, Path, CoverageQuery}
+use Rattle.olr_paths.proofs.Common.{Made, Item, made_of, set_item, BeginsIn, Begins, BeginsPut, Put, put, all_put}
+use Rattle.olr_paths.proofs.Common.{puts_of, NamedPath}
+
+-- of one of the list's items
+pub begins_there : (is : List Item) (k : ℕ) (i : Item) (v : CoverageQuery) → slice_get is k ≡ Some i →
+    BeginsIn i.made v → Begins is v
+begins_there [] k i v at h = absurd cc
+begins_there (x ∷ is) zero i v at h = let e : x ≡ i = cc in inl (rw e h)
+begins_there (x ∷ is) (suc k) i v at h = inr (begins_there is k i v at h)
+
+-- ---- after results are stored
+
+begins_put : (is : List Item) (k : ℕ) (path : Path) (made : Option Made) (v : CoverageQuery) →
+    Begins (put is k path made) v →
+    Begins is v ⊎ BeginsIn made v
+begins_put [] k path made v h = absurd h
+begins_put (i ∷ is) zero path made v (inl h) = inr h
+begins_put (i ∷ is) zero path made v (inr h) = inl (inr h)
+begins_put (i ∷ is) (suc k) path made v h = grind (arith, begins_put is k path made v)
+
+pub begins_all_put : (is : List Item) (ps : List Put) (v : CoverageQuery) → Begins (all_put is ps) v → Begins is v
+    ⊎ BeginsPut ps v
+begins_all_put is [] v h = inl h
+begins_all_put is (p ∷ ps) v h =
+    grind (arith, begins_put (all_put is ps) p.position p.path p.made v h, begins_all_put is ps v)
+
+-- one more, behind the others
+pub begins_push : (es : List (ℕ × NamedPath)) (e : ℕ × NamedPath) (v : CoverageQuery) →
+    BeginsPut (puts_of (es ++ e ∷ [])) v →
+    BeginsPut (puts_of es) v ⊎ BeginsIn (option_map (λ p. made_of p.value) e.1.published) v
+begins_push [] e v (inl h) = inr h
+begins_push [] e v (inr h) = absurd h
+begins_push (x ∷ es) e v h = grind (arith, begins_push es e v)
+
+-- ---- after one path is added, set or dropped
+
+pub begins_add : (is : List Item) (j : Item) (v : CoverageQuery) → Begins (is ++ j ∷ []) v → Begins is v
+    ⊎ BeginsIn j.made v
+begins_add [] j v (inl h) = inr h
+begins_add [] j v (inr h) = absurd h
+begins_add (i ∷ is) j v h = grind (arith, begins_add is j v)
+
+pub begins_set : (name : List ℕ) (path : Path) (made : Option Made) (is : List Item) (v : CoverageQuery) →
+    Begins (map (set_item name path made) is) v → Begins is v ⊎ BeginsIn made v
+begins_set name path made [] v h = absurd h
+begins_set name path made (i ∷ is) v h = grind (arith, begins_set name path made is v)
+
+pub begins_drop : (stays : Item → Bool) (is : List Item) (v : CoverageQuery) → Begins (filter stays is) v → Begins is v
+begins_drop stays [] v h = h
+begins_drop stays (i ∷ is) v h = grind (arith, begins_drop stays is v)

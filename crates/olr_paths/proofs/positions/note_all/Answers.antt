@@ -1,0 +1,63 @@
+use Rattle.olr_paths.proofs.Common.{◌≡◌, ◌∙◌, get_or, subst, sym, arith, get_or_default, NamedNoted, Grows, slice_get}
+use Rattle.olr_paths.proofs.Common.{Some, String, Global, NamedPath, slice_get_within, length, ◌<◌, ◌≤◌, List, take_all}
+use Rattle.olr_paths.proofs.Common.{AreNotedAt, IsNoted, named_keys}
+use Rattle.olr_paths.proofs.PathIdLemmas.{noted_grown}
+use Rattle.olr_paths.proofs.NotedPositions.{One, NotedAt, at_more}
+use Rattle.olr_paths.proofs.positions.note_all.Goals as goal
+
+pub loop-position-preserved-in_default : goal.loop-position-preserved-in_default
+loop-position-preserved-in_default c =
+    let l = c.loop-position.list in
+    let r : One = c.loop-position-item.result in
+    let one : NotedAt l.path_ids.items l.finder r = λ low.
+    let some = c.in_default.ensures.found.1 (omega (arith, low, l.long)) in
+    let never : ⊥ = cc (some) in absurd never in
+    let stay : Grows l.finder l.finder = ((λ n m t. t), (λ n m t. t), (λ n m t. t), (λ known. known)) in (
+      at_more l.path_ids.items l.finder l.finder _ _ r c.loop-position-test.true stay c.loop-position.invariant.0
+          (subst (λ (x : One). NotedAt l.path_ids.items l.finder x) c.loop-position-item.is one),
+      c.loop-position.invariant.1,
+    )
+
+pub note-requires : goal.note-requires
+note-requires c =
+    let l = c.loop-position.list in
+    let r : One = c.loop-position-item.result in
+    let x : String Global × NamedPath = (c.in-Some.field-0-0.now, c.in-Some.current.now) in
+    let at : slice_get l.paths.entries r.0 ≡ Some x = sym c.in-Some.ensures.entry in
+    let low : r.0 < length l.path_ids.items = omega (arith, slice_get_within l.paths.entries r.0 x at, l.long) in
+    let is : c.index-path_id.result.now ≡ get_or l.path_ids.items r.0 0 =
+    c.index-path_id.ensures ∙ get_or_default l.path_ids.items r.0 c.index-path_id.result.now 0 low in
+    subst (IsNoted l.finder c.index-path_id.result.now) (sym c.keys-in-loop-position.ensures)
+    (subst (λ (m : _). NamedNoted l.finder m x.1) (sym is) (l.noted r.0 x at))
+
+pub loop-position-preserved : goal.loop-position-preserved
+loop-position-preserved c =
+    let l = c.loop-position.list in
+    let ms = l.path_ids.items in
+    let g = c.note.new.self in
+    let r : One = c.loop-position-item.result in
+    let one : NotedAt ms g r = λ low.
+    let is : c.index-path_id.result.now ≡ get_or ms r.0 0 =
+    c.index-path_id.ensures ∙ get_or_default ms r.0 c.index-path_id.result.now 0 low in
+    subst (λ (m : _). NamedNoted g m r.1) is (subst (IsNoted g c.index-path_id.result.now) c.keys.ensures c.in_ok-note.ensures.noted) in (
+      at_more ms l.finder g _ _ r c.loop-position-test.true c.note.ensures.grows c.loop-position.invariant.0
+          (subst (λ (y : One). NotedAt ms g y) c.loop-position-item.is one),
+      c.loop-position.invariant.1,
+    )
+
+pub invariant_of-list-in-loop-position : goal.invariant_of-list-in-loop-position
+invariant_of-list-in-loop-position c =
+    let l = c.loop-position.list in
+    record {
+      long = l.long;
+      ascend = l.ascend;
+      noted = λ k e at. noted_grown l.finder c.note.new.self (get_or l.path_ids.items k 0) (named_keys e.1)
+          c.note.ensures.grows (l.noted k e at);
+      encoded = l.encoded;
+    }
+
+pub returns-clause-noted : goal.returns-clause-noted
+returns-clause-noted c =
+    let l = c.loop-position.list in
+    let all : length c.args.fresh.now ≤ c.loop-position.position-index = omega (arith, c.loop-position-test.false) in
+    subst (λ (ys : List One). AreNotedAt l.path_ids.items l.finder ys) (take_all _ _ all) c.loop-position.invariant.0

@@ -1,0 +1,44 @@
+-- The coverage queries of a list.
+--     BeginsIn made l, Begins is l      l is a query of what was made;  one of a list's
+--     BeginsPut ps l      one of those that are put at places of a list
+--     AreFar N T is      no query reaches one of the nodes T
+--     farthest g, AreShort g is      the greatest length of a query with the margin, in decimetres;  no query is longer
+--     AreNewQueries ls is js      each query of the list js is one of the list is or one of ls
+--     LackQueries is      no path has a query
+use Rattle.std.specs.Prelude.{ℕ, ◌*◌, ◌≤◌, ◌==◌, List, [], ◌∷◌, Contains, Option, Some, None, ◌⊎◌, min, if◌then◌else◌}
+use Rattle.olr_spec.specs.Map.{Map}
+use Rattle.olr_route.specs.declared.frontier.TheConstants.{GREATEST_LIMIT}
+use Rattle.olr_spec.specs.Extension.{limit}
+use Rattle.olr_spec.specs.Margins.{Margin}
+use Rattle.olr_spec.specs.Detours.{Near}
+use Rattle.olr_spec.specs.Queries.{CoverageQuery}
+use Rattle.olr_paths.specs.Items.{Made, Item}
+use Rattle.olr_paths.specs.Stored.{Put}
+
+abbrev pub BeginsIn : Option Made → CoverageQuery → Type 0
+BeginsIn None l = ⊥
+BeginsIn (Some m) l = Contains m.queries l
+
+abbrev pub Begins : List Item → CoverageQuery → Type 0
+Begins [] l = ⊥
+Begins (i ∷ is) l = BeginsIn i.made l ⊎ Begins is l
+
+abbrev pub BeginsPut : List Put → CoverageQuery → Type 0
+BeginsPut [] l = ⊥
+BeginsPut (p ∷ ps) l = BeginsIn p.made l ⊎ BeginsPut ps l
+
+abbrev pub AreFar : Map → List ℕ → List Item → Type 0
+AreFar N T is = (l : CoverageQuery) → Begins is l → ¬ Near N T l.from (min l.within GREATEST_LIMIT)
+
+-- a line counts at most twice its length
+abbrev pub farthest : Margin → ℕ
+farthest g = if g.routes == 0 then limit else 2 * limit
+
+abbrev pub AreShort : Margin → List Item → Type 0
+AreShort g is = (l : CoverageQuery) → Begins is l → l.within ≤ farthest g
+
+abbrev pub AreNewQueries : List CoverageQuery → List Item → List Item → Type 0
+AreNewQueries ls is js = (l : CoverageQuery) → Begins js l → Begins is l ⊎ Contains ls l
+
+abbrev pub LackQueries : List Item → Type 0
+LackQueries is = (l : CoverageQuery) → ¬ Begins is l

@@ -1,0 +1,31 @@
+-- A list follows itself, since no name occurs twice.
+use Rattle.olr_renewal.proofs.Common.{if◌then◌else◌, option_map, answer_in, not_named, all_named, named_of, is_some}
+use Rattle.olr_renewal.proofs.Common.{refl}
+use Rattle.olr_renewal.proofs.Common.{map, without_answer}
+use Rattle.olr_renewal.proofs.Common.{Follows, Option, Answer, false, List, Made, Item, ◌∷◌, inr, ◌≡◌, ◌∙◌, inl, ap, []}
+use Rattle.olr_paths.proofs.Common.{bytes_decides, NamesDiffer, path_named, flipped, made_in, Bool}
+
+abbrev pub answer_made : Option Made → Option Answer
+answer_made o = option_map (λ m. m.answer) o
+
+-- with one path more in front, whose name none of these has
+follows_behind : (i : Item) (before js : List Item) → is_some (path_named (all_named js) i.name) ≡ false →
+    Follows before js → Follows (i ∷ before) js
+follows_behind i before [] h f = tt
+follows_behind i before (j ∷ js) h f =
+    let p = not_named (named_of j) (all_named js) i.name h in
+    let same : answer_in (i ∷ before) j.name ≡ answer_in before j.name =
+    ap (λ (b : Bool). answer_made (if b then i.made else made_in before j.name)) (flipped j.name i.name p.0) in
+    (elim f.0 [ inl e ↦ inl e | inr e ↦ inr (same ∙ e) ], follows_behind i before js p.1 f.1)
+
+-- where no path is encoded yet
+pub follows_without : (before is : List Item) → Follows before (map without_answer is)
+follows_without before [] = tt
+follows_without before (i ∷ is) = (inl refl, follows_without before is)
+
+pub follows_self : (is : List Item) → NamesDiffer (all_named is) → Follows is is
+follows_self [] d = tt
+follows_self (i ∷ is) d = (
+  inr (ap (λ (b : Bool). answer_made (if b then i.made else made_in is i.name)) ((bytes_decides i.name i.name).1 refl)),
+  follows_behind i is is d.0 (follows_self is d.1),
+)

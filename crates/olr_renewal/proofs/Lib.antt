@@ -1,0 +1,13 @@
+pub mod BoundLemmas
+pub mod Common
+pub mod Touching
+pub mod Distances
+pub mod SearchedLemmas
+pub mod Covering
+pub mod AroundLemmas
+pub mod LongestQueries
+pub mod RetainedLemmas
+pub mod Following
+pub mod RenewedPrefix
+pub mod Passing
+pub mod NamedPrefix

@@ -1,0 +1,103 @@
+-- With a margin a coverage query is at most as long as the farthest one may be.
+use Rattle.olr_renewal.proofs.Common.{CoverageQuery, IsTrue, List, Map, MatchOption, None, Option, Path}
+use Rattle.olr_renewal.proofs.Common.{QueriesOfWith, Some, [], ap, arith, cases_Bool, extended_path, false, inl, inr}
+use Rattle.olr_renewal.proofs.Common.{length}
+use Rattle.olr_renewal.proofs.Common.{query_from_with, refl, sym, ℕ, ◌+◌, ◌∷◌, ◌<◌, ◌≡◌, ◌≤◌, ◌⊎◌, subst, has, Margin}
+use Rattle.olr_renewal.proofs.Common.{is_margin, and_parts}
+use Rattle.std.proofs.Common.{◌*◌, ◌==◌, Bool, mul-le-mul_left}
+use Rattle.std.specs.Prelude.{if◌then◌else◌}
+use Rattle.std.proofs.lemmas.Bool.{eqb-true}
+use Rattle.std.proofs.lemmas.Bool.Decides.{nat_tests}
+use Rattle.olr_paths.proofs.Common.{Contains, dm_of, limit}
+use Rattle.olr_paths.specs.Origins.{farthest}
+use Rattle.olr_spec.proofs.CountedLemmas.{get_counted, counted_zero, counted_other, counted_own}
+use Rattle.olr_spec.proofs.JoinLemmas.{empty_stretch}
+use Rattle.olr_spec.proofs.QueryLemmas.{stretch_parts}
+use Rattle.olr_spec.proofs.RouteLemmas.{dm_of-append}
+use Rattle.olr_spec.specs.Encoding.{path_fault, Refusal}
+use Rattle.olr_spec.specs.Map.{has_line, dm}
+use Rattle.olr_spec.specs.Margins.{counted, counted_dm, counted_dm_of}
+use Rattle.olr_spec.specs.Points.{stretch}
+use Rattle.olr_spec.specs.Queries.{QueriesOfExtendedWith, query_to_with, IsQueryWith, Needed}
+
+-- a line that isn't on the map counts nothing
+counted_absent : (g : Margin) (M : Map) (xs : List ℕ) (y : ℕ) → has_line M y ≡ false → dm (counted g M xs) y ≡ dm M y
+counted_absent g M xs y off =
+    grind (arith, get_counted g M xs y, cases_Bool (has xs y), cases_Bool (g.routes == 0))
+
+module _ (g : Margin) (most : IsTrue (is_margin g)) where
+  routes_most : g.routes ≤ 1000
+  routes_most = grind (arith, nat_tests, and_parts)
+
+  twice : (len : ℕ) → counted_dm g len ≤ 2 * len
+  twice len =
+      let p : len * g.routes ≤ len * 1000 = mul-le-mul_left len routes_most in
+      omega arith
+
+  line_twice : (M : Map) (xs : List ℕ) (y : ℕ) → dm (counted g M xs) y ≤ 2 * dm M y
+  line_twice M xs y = elim (cases_Bool (has_line M y)) [
+    | inr off ↦ omega (arith, counted_absent g M xs y off)
+    | inl known ↦ elim (cases_Bool (has xs y)) [
+      | inl on ↦ omega (arith, counted_own g M xs y known on, twice (dm M y))
+      | inr off ↦ omega (arith, counted_other g M xs y off)
+    ]
+  ]
+
+  lines_twice : (M : Map) (xs ys : List ℕ) → dm_of (counted g M xs) ys ≤ 2 * dm_of M ys
+  lines_twice M xs [] = omega arith
+  lines_twice M xs (y ∷ ys) = omega (arith, line_twice M xs y, lines_twice M xs ys)
+
+  counted_within : (M : Map) (xs : List ℕ) → dm_of M xs ≤ limit → counted_dm_of g M xs ≤ farthest g
+  counted_within M xs short =
+      let d = counted_dm_of g M xs in
+      elim (cases_Bool (g.routes == 0)) [
+        | inl none ↦
+            let same = ap (λ (N : Map). dm_of N xs) (counted_zero g M xs (eqb-true g.routes 0 none)) in
+            let near : d ≤ limit = omega (arith, same) in
+            subst (λ (b : Bool). d ≤ (if b then limit else 2 * limit)) (sym none) near
+        | inr some ↦
+            let far : d ≤ 2 * limit = omega (arith, lines_twice M xs xs) in
+            subst (λ (b : Bool). d ≤ (if b then limit else 2 * limit)) (sym some) far
+      ]
+
+  module _ (M : Map) (ls : List ℕ) (i : ℕ) (l : CoverageQuery) where
+    by_need : (k : ℕ) → i < k → l ≡ query_to_with g M ls i k → (k ≡ i + 1) ⊎ Needed M ls i k → l.within ≤ farthest g
+    by_need k after is (inl e) =
+        let none : stretch ls (i + 1) k ≡ [] = empty_stretch ls (i + 1) k (omega arith) in
+        let zero_long : dm_of M (stretch ls (i + 1) k) ≡ 0 = ap (dm_of M) none in
+        let long : l.within ≡ counted_dm_of g M (stretch ls (i + 1) k) = ap (λ (x : CoverageQuery). x.within) is in
+        let within = counted_within M (stretch ls (i + 1) k) (omega arith) in
+        omega (arith, within)
+    by_need k after is (inr need) =
+        let j = need.0 in
+        let below : k ≤ j = omega (arith, need.3) in
+        let first = stretch_parts ls i (i + 1) j (omega arith) (omega arith) in
+        let second = stretch_parts ls (i + 1) k j (omega arith) below in
+        let near = rw (first, dm_of-append, second, dm_of-append) at need.2 in
+        let long : l.within ≡ counted_dm_of g M (stretch ls (i + 1) k) = ap (λ (x : CoverageQuery). x.within) is in
+        let within = counted_within M (stretch ls (i + 1) k) (omega (arith, near)) in
+        omega (arith, within)
+
+    short_query : IsQueryWith g M ls i l → l.within ≤ farthest g
+    short_query h = by_need h.0 h.1.after h.2 h.1.needed
+
+  -- a path with a coverage query is encodable
+  extended_queries : (M : Map) (P : Path) (queries : List CoverageQuery) → QueriesOfWith g M P queries →
+      (l : CoverageQuery) → Contains queries l → (path_fault M P ≡ None) × QueriesOfExtendedWith g M P queries
+  extended_queries M P queries h l on = by (path_fault M P) refl h where
+    by : (o : Option Refusal) → path_fault M P ≡ o →
+        MatchOption o (QueriesOfExtendedWith g M P queries) (λ _. queries ≡ []) →
+        (path_fault M P ≡ None) × QueriesOfExtendedWith g M P queries
+    by None e h = (e, h)
+    by (Some r) e h = let none : length queries ≡ 0 = ap length h in let lt = on.1 in absurd (omega arith)
+
+  pub within_farthest : (M : Map) (P : Path) (queries : List CoverageQuery) → QueriesOfWith g M P queries →
+      (l : CoverageQuery) → Contains queries l → l.within ≤ farthest g
+  within_farthest M P queries o l on =
+      let h = (extended_queries M P queries o l on).1 in
+      let ls = (extended_path M P h.before h.after).lines in
+      let r = query_from_with g M ls (0 ∷ h.points) queries h.holds l on in
+      short_query M ls r.0 l r.3
+
+pub farthest_most : (g : Margin) → farthest g ≤ 300000
+farthest_most g = elim (cases_Bool (g.routes == 0)) [ inl e ↦ rw e (omega arith) | inr e ↦ rw e (omega arith) ]

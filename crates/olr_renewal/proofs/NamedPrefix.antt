@@ -1,0 +1,40 @@
+-- The names of the affected paths, as far as a list was passed.
+use Rattle.olr_renewal.proofs.Common.{inl, inr, ◌≡◌, ℕ, ◌+◌, List, [], ◌∷◌, ◌++◌, take, slice_get, Some, refl, sym, ap}
+use Rattle.olr_renewal.proofs.Common.{◌∙◌}
+use Rattle.olr_renewal.proofs.Common.{map-append, Map, Margin, IsMap, ChangedLine, Item, IsAffected, IsBefore}
+use Rattle.olr_commands.specs.Counts.{Picks}
+use Rattle.olr_paths.proofs.Common.{take_more_at}
+use Rattle.olr_renewal.specs.Actions.{ToSkip, ToName}
+use Rattle.olr_renewal.proofs.RetainedLemmas.{touched_by, named_affected}
+use Rattle.olr_renewal.specs.Changes.{AffectedNames}
+
+module _ {A : Type 0} (P : A → Type 0) where
+  picks_taken : (xs ys : List A) (x : A) → Picks P xs ys → P x → Picks P (xs ++ x ∷ []) (ys ++ x ∷ [])
+  picks_taken [] ys x h p = inl (p, ([], refl, ap (λ (zs : List A). zs ++ x ∷ []) h))
+  picks_taken (y ∷ xs) ys x (inl h) p =
+      inl (h.0, (h.1.0 ++ x ∷ [], picks_taken xs h.1.0 x h.1.1 p, ap (λ (zs : List A). zs ++ x ∷ []) h.1.2))
+  picks_taken (y ∷ xs) ys x (inr h) p = inr (h.0, picks_taken xs ys x h.1 p)
+
+  picks_left : (xs ys : List A) (x : A) → Picks P xs ys → (¬ P x) → Picks P (xs ++ x ∷ []) ys
+  picks_left [] ys x h n = inr (n, h)
+  picks_left (y ∷ xs) ys x (inl h) n = inl (h.0, (h.1.0, picks_left xs h.1.0 x h.1.1 n, h.1.2))
+  picks_left (y ∷ xs) ys x (inr h) n = inr (h.0, picks_left xs ys x h.1 n)
+
+module _ {g : Margin} {N : Map} (n : IsMap N) {T X : List ℕ} {C : List ChangedLine} {is : List Item}
+    (q : IsBefore g N N T X C is)
+    (p : ℕ) (i : Item) (at : slice_get is p ≡ Some i) (names : List (List ℕ)) where
+  pub names_left : ToSkip N T X i.made i.path → AffectedNames g N T X (take p is) names →
+      AffectedNames g N T X (take (p + 1) is) names
+  names_left f h = rw (take_more_at is p i at) (
+    h.0,
+    picks_left (IsAffected g N T X) (take p is) h.0 i h.1 (λ o. f.2 (touched_by n q p i at f.1 o)),
+    h.2,
+  )
+
+  pub names_taken : ToName N T X i.made i.path → AffectedNames g N T X (take p is) names →
+      AffectedNames g N T X (take (p + 1) is) (names ++ i.name ∷ [])
+  names_taken f h = rw (take_more_at is p i at) (
+    h.0 ++ i ∷ [],
+    picks_taken (IsAffected g N T X) (take p is) h.0 i h.1 (named_affected n q p i at f),
+    ap (λ (ns : List (List ℕ)). ns ++ i.name ∷ []) h.2 ∙ sym (map-append (λ (j : Item). j.name) h.0 (i ∷ [])),
+  )

@@ -1,0 +1,9 @@
+use Rattle.olr_renewal.proofs.Common.{AreDetours, changed_of}
+use Rattle.olr_paths.specs.Changes.{StayKnown}
+use Rattle.olr_renewal.proofs.detours.clear_known.Given as goal
+
+-- the clear ones so far stay right
+abbrev pub invariant-loop-one : goal.invariant-loop-one
+invariant-loop-one g l =
+    StayKnown (g.M.MapRead.map l.map) (changed_of l.touched) l.known l.clear.items
+    × AreDetours (g.M.MapRead.map l.map) (g.M.MapRead.node_slot l.map) l.touched l.detours

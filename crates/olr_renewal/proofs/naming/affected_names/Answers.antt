@@ -1,0 +1,18 @@
+use Rattle.olr_renewal.proofs.Common.{items, overlay_changes}
+use Rattle.olr_paths.proofs.Changed.{none_removed_by}
+use Rattle.olr_renewal.proofs.RetainedLemmas.{are_short}
+use Rattle.olr_renewal.proofs.naming.affected_names.Goals as goal
+
+pub invariant_of-overlaid : goal.invariant_of-overlaid
+invariant_of-overlaid g c = record {
+  none_removed = none_removed_by (overlay_changes c.new-overlay.result) (items c.new-overlay.result.added) c.new-overlay.ensures;
+}
+
+pub find_candidates-requires-clause-short : goal.find_candidates-requires-clause-short
+find_candidates-requires-clause-short g c = rw (c.new-overlay.ensures (items c.args.list.now)) (are_short c.requires.before)
+
+pub names_by-requires-clause-candidates : goal.names_by-requires-clause-candidates
+names_by-requires-clause-candidates g c = rw c.deref.ensures.value c.in_ok-found.ensures
+
+pub returns : goal.returns
+returns g c = rw (c.new-overlay.ensures (items c.args.list.now)) at c.names_by.ensures

@@ -1,0 +1,203 @@
+//! The searches of a renewal, and which paths the edits of the map affect.
+ghost use Rattle.std.specs.Prelude.{◌≡◌, ◌≤◌, ◌↔◌, ◌⊎◌, ℕ, min, Contains, IsTrue, IfOk, OnOk};
+ghost use Rattle.std.specs.List.{list_any};
+ghost use Rattle.olr_spec.specs.Map.{has};
+ghost use Rattle.olr_spec.specs.Detours.{Near};
+ghost use Rattle.olr_route.specs.Bounds.{AreLengths};
+ghost use Rattle.olr_renewal.specs.Bounds.{IsRight, IsSource};
+ghost use Rattle.olr_route.specs.declared.distances.Direction.TheVariants.{Against};
+ghost use Rattle.olr_paths.specs.Items.{made_of, items};
+ghost use Rattle.olr_paths.specs.Views.{shown_items};
+ghost use Rattle.olr_renewal.specs.ChangeSets.{nodes_of, lines_of};
+ghost use Rattle.olr_renewal.specs.AffectedSearches.{sources, IsExactAt, IsSearchedFor};
+ghost use Rattle.olr_paths.specs.Origins.{LackQueries};
+ghost use Rattle.olr_renewal.specs.Candidates.{AreCandidates};
+ghost use Rattle.olr_paths.specs.Changes.{LineTouched, QueryTouched, TraversedTouched};
+ghost use Rattle.olr_paths.specs.Origins as origins;
+ghost use Rattle.olr_renewal.specs.AffectedSearches.{AreBoundsOf};
+ghost use Rattle.olr_paths.specs.Origins.{AreShort, Begins};
+
+use crate::candidates::{Candidates, positions};
+use crate::change_set::ChangeSet;
+use crate::detours::begin_detours;
+use crate::distance_bounds::DistanceBounds;
+use crate::sources::begin_at;
+use olr_answers::{CoverageQuery, Margin, Path};
+use olr_model::{Footprint, LineId, MapRead, NodeId};
+use olr_paths::{OverlaidList, PathList, Published};
+use olr_route::{Dijkstra, Direction, GREATEST_LIMIT, LEG_LIMIT};
+use std::alloc::{AllocError, Global};
+
+/// The greatest length of a coverage query with a margin, in decimetres.
+fn farthest(margin: Margin) -> u32
+    ensures { result ≡ origins.farthest margin }
+{
+    if margin.routes() == 0 {
+        return LEG_LIMIT;
+    }
+    2 * LEG_LIMIT
+}
+
+/// Searches against the lines from all touched nodes. If the distance bounds are known, they limit the search; otherwise
+/// the length of coverage queries with the margin does.
+pub(crate) fn search_near<M: MapRead>(
+    alloc: Global,
+    map: &M,
+    margin: Margin,
+    touched: &ChangeSet,
+    bounds: &DistanceBounds,
+    near: &mut Dijkstra,
+) -> Result<(), AllocError>
+    ensures lengths { OnOk result
+        (AreLengths (M.map map.now) (M.node_slot map.now) Against (sources touched.now) near.new) }
+    ensures returned { OnOk result (IsRight (M.map map.now) (M.node_slot map.now) bounds.now
+        → (v w : ℕ) → IsSource bounds.now v w → w ≤ origins.farthest margin
+        → IsExactAt (M.map map.now) (M.node_slot map.now) touched.now near.new v (min w GREATEST_LIMIT)) }
+{
+    begin_at(alloc, map, Direction::Against, touched.nodes(), near)?;
+    if bounds.is_known() {
+        near.settle_under(map, bounds.bounds())?;
+        return Ok(());
+    }
+    near.settle_to(map, farthest(margin))?;
+    Ok(())
+}
+
+/// Whether it is known that no path of a list has a coverage query.
+#[tactic(auto, using(olr_paths::proofs::NotedPositions::lack_by))]
+fn lacks_queries(list: &PathList) -> bool
+    ensures { IsTrue result → LackQueries (items list.now) }
+{
+    list.finder.indexed && list.finder.by_query_origin.is_empty()
+}
+
+/// Whether it is known that no path has a coverage query: then no touched node can be near to one.
+#[tactic(auto, using(crate::proofs::Covering::lack_overlaid))]
+fn is_without_queries(overlaid: OverlaidList<'_>) -> bool
+    ensures { IsTrue result → LackQueries (shown_items overlaid.entry) }
+{
+    lacks_queries(overlaid.list) && lacks_queries(&overlaid.overlay.added)
+}
+
+/// Searches against the lines from the touched nodes; from none of them, if no coverage query can reach one: the distance
+/// bounds show so, or no path has a query.
+fn search_touched<M: MapRead>(
+    alloc: Global,
+    map: &M,
+    margin: Margin,
+    touched: &ChangeSet,
+    bounds: &DistanceBounds,
+    overlaid: OverlaidList<'_>,
+    near: &mut Dijkstra,
+) -> Result<(), AllocError>
+    requires bounds { AreBoundsOf (M.map map.now) (M.node_slot map.now) bounds.now (shown_items overlaid) }
+    requires short { AreShort margin (shown_items overlaid) }
+    ensures { OnOk result
+        (IsSearchedFor (M.map map.now) (M.node_slot map.now) touched.now near.new (Begins (shown_items overlaid.entry))) }
+{
+    if bounds.is_far(map, touched.nodes()) || is_without_queries(overlaid) {
+        near.begin(map, Direction::Against, &[])?;
+        return Ok(());
+    }
+    search_near(alloc, map, margin, touched, bounds, near)?;
+    Ok(())
+}
+
+/// Searches from the touched nodes, and finds the paths that the edits may affect. Without paths, nothing is searched.
+pub fn find_candidates<M: MapRead>(
+    alloc: Global,
+    map: &M,
+    margin: Margin,
+    overlaid: OverlaidList<'_>,
+    touched: &ChangeSet,
+    bounds: &DistanceBounds,
+    near: &mut Dijkstra,
+) -> Result<Candidates, AllocError>
+    requires bounds { AreBoundsOf (M.map map.now) (M.node_slot map.now) bounds.now (shown_items overlaid) }
+    requires short { AreShort margin (shown_items overlaid) }
+    ensures { IfOk result (λ c. AreCandidates (M.map map.now) (M.node_slot map.now) touched.now near.new
+        (shown_items overlaid.entry) c.positions.items) }
+{
+    if overlaid.at(0).is_none() {
+        return Ok(Candidates {
+            positions: Vec::new(alloc),
+            labelled: 0,
+        });
+    }
+    search_touched(alloc, map, margin, touched, bounds, overlaid, near)?;
+    let positions = positions(alloc, map, overlaid, touched, near)?;
+    Ok(Candidates {
+        positions,
+        labelled: near.labelled_slots().len(),
+    })
+}
+
+/// Whether a coverage query reaches a touched node, within its length and the greatest limit.
+fn is_near<M: MapRead>(map: &M, touched: &ChangeSet, near: &Dijkstra, query: CoverageQuery) -> bool
+    requires { IsSearchedFor (M.map map.now) (M.node_slot map.now) touched.now near.now (λ l. l ≡ query) }
+    ensures { IsTrue result ↔ Near (M.map map.now) (nodes_of touched.now) query.from (min query.within GREATEST_LIMIT) }
+{
+    match map.slot_of(query.from) {
+        Some(slot) => near.is_within(slot, query.within.min(GREATEST_LIMIT)),
+        None => touched.has_node(query.from),
+    }
+}
+
+/// Whether one of the nodes is in a footprint: each is looked up.
+fn is_any_in(footprint: &Footprint, nodes: &[NodeId]) -> bool
+    ensures { IsTrue result ↔ ((v : ℕ) × IsTrue (has nodes.now v) × Contains footprint.now v) }
+{
+    for node in nodes {
+        if footprint.has(*node) {
+            return true;
+        }
+    }
+    false
+}
+
+/// Whether one of the traversed nodes was touched: each node of the shorter list is looked up.
+fn is_traversed_touched(touched: &ChangeSet, traversed: &Footprint) -> bool
+    ensures { IsTrue result ↔ ((v : ℕ) × IsTrue (has (nodes_of touched.now) v) × Contains traversed.now v) }
+{
+    let nodes = traversed.as_slice();
+    if touched.nodes.len() < nodes.len() {
+        return is_any_in(traversed, &touched.nodes);
+    }
+    nodes.iter().any(|node| touched.has_node(*node))
+}
+
+/// Whether one of the lines was touched: each is tested. An edit outside a batch touches at most one line.
+fn is_line_touched(touched: &ChangeSet, lines: &[LineId]) -> bool
+    ensures { result ≡ list_any (λ x. has (lines_of touched.now) x) lines.now }
+{
+    if let [only] = touched.lines.as_slice() {
+        return lines.contains(only);
+    }
+    lines.iter().any(|line| touched.has_line(*line))
+}
+
+/// Whether one of a path's traversed nodes or of its lines was touched.
+pub(crate) fn is_path_touched(touched: &ChangeSet, path: &Path, published: &Published) -> bool
+    ensures { IsTrue result ↔ TraversedTouched (nodes_of touched.now) (made_of published.now)
+        ⊎ LineTouched (lines_of touched.now) path.now }
+{
+    is_traversed_touched(touched, published.traversed()) || is_line_touched(touched, path.lines())
+}
+
+/// Whether one of a path's coverage queries, as they were on the map before the edits, reaches a touched node.
+pub(crate) fn is_query_touched<M: MapRead>(
+    map: &M,
+    touched: &ChangeSet,
+    near: &Dijkstra,
+    queries: &[CoverageQuery],
+) -> bool
+    requires { IsSearchedFor (M.map map.now) (M.node_slot map.now) touched.now near.now (Contains queries.now) }
+    ensures { IsTrue result ↔ QueryTouched (M.map map.now) (nodes_of touched.now) queries.now }
+{
+    for query in queries {
+        if is_near(map, touched, near, *query) {
+            return true;
+        }
+    }
+    false
+}

@@ -1,0 +1,278 @@
+//! Encodes again the paths whose answer a change of the map may have changed.
+ghost use Rattle.std.specs.Prelude.{◌≡◌, ◌↔◌, ◌<◌, Contains, Some, map as list_map, length, true, IsTrue, IfOk, OnOk};
+ghost use Rattle.olr_spec.specs.Map.{Map};
+ghost use Rattle.olr_commands.specs.Words.{entry_of};
+ghost use Rattle.olr_renewal.specs.declared.change_set.ChangeSet.{ChangeSet as Noted};
+ghost use Rattle.olr_spec.specs.Queries.{CoverageQuery as QueryRecord};
+ghost use Rattle.olr_paths.specs.Items.{made_of, items, answer_in};
+ghost use Rattle.olr_paths.specs.Views.{shown_items, shown_item};
+ghost use Rattle.olr_renewal.specs.AffectedSearches.{AreDetoursIfFew};
+ghost use Rattle.olr_renewal.specs.Candidates.{AreCandidates};
+ghost use Rattle.olr_paths.specs.Origins.{BeginsPut};
+ghost use Rattle.olr_paths.specs.Changes.{to_renew};
+ghost use Rattle.olr_renewal.specs.Changes.{Follows};
+ghost use Rattle.olr_renewal.specs.Reencoded.{made_at, after_renewal, ReportsIfOther, IsStep, IsGiven, WasBefore};
+ghost use Rattle.olr_renewal.specs.Reencoded.{IsRenewal, IsRenewable, CanRenewOver, AreRenewed, to_renew_by};
+
+use crate::actions::{Action, decide};
+use crate::affected::find_candidates;
+use crate::detours::{Detours, begin_detours};
+use crate::distance_bounds::DistanceBounds;
+use crate::encoding::publish;
+use crate::searches::Searches;
+use crate::update::MapUpdate;
+use olr_commands::Entry;
+use olr_model::MapRead;
+use olr_paths::{NamedPath, OverlaidList, PathList, PathView, Published, fresh_queries};
+use olr_refs::CoverageQuery;
+use olr_route::{Dijkstra, Work};
+use std::alloc::{AllocError, Global};
+use std::rc::Rc;
+
+/// Whether a name had the same answer in an earlier list.
+fn is_same_as_before(before: &PathList, name: &str, published: &Published) -> bool
+    ensures { IsTrue result ↔ (answer_in (items before.now) name.now ≡ Some (made_of published.now).answer) }
+{
+    match before.published_of(name) {
+        Some(earlier) => earlier.has_answer_of(published),
+        None => false,
+    }
+}
+
+/// Appends the entry of a path, if its answer differs from that of its name in an earlier list.
+pub(crate) fn push_if_changed(
+    alloc: Global,
+    before: &PathList,
+    name: &str,
+    published: &Published,
+    entries: &mut Vec<Entry>,
+) -> Result<(), AllocError>
+    ensures { OnOk result (ReportsIfOther (items before.now) name.now (made_of published.now).answer
+        (list_map entry_of entries.old.items) (list_map entry_of entries.new.items)) }
+{
+    if is_same_as_before(before, name, published) {
+        return Ok(());
+    }
+    entries.push(published.entry(alloc, name)?)?;
+    Ok(())
+}
+
+/// What the renewal of a list reports and counts.
+#[derive(Drop)]
+pub struct Renewed {
+    /// The paths whose answer differs from the earlier one of their name.
+    pub entries: Vec<Entry>,
+    /// The work: each affected path counts as an encoding, also if it retains its answer.
+    pub work: Work,
+    /// The coverage queries of what was encoded.
+    pub queries: Vec<CoverageQuery>,
+    /// How many nodes the search from touched nodes labelled, if it found no affected path; otherwise 0.
+    pub wasted_labels: usize,
+}
+
+/// The renewal of a list, before its results are stored.
+#[derive(Drop)]
+pub(crate) struct Renewal {
+    alloc: Global,
+    /// The paths that were encoded again, each with its position in the list.
+    pub(crate) fresh: Vec<(usize, NamedPath)>,
+    /// What is reported and counted.
+    pub(crate) renewed: Renewed,
+}
+
+impl Renewal {
+    ghost use Rattle.std.specs.Prelude.{◌≡◌, ℕ, List, []};
+    ghost use Rattle.olr_route.specs.Counts.{no_work};
+
+    /// Of a list without affected paths. Takes no memory.
+    pub(crate) fn none(alloc: Global) -> Renewal
+        ensures fresh { result.fresh.items ≡ [] }
+        ensures entries { result.renewed.entries.items ≡ [] }
+        ensures work { result.renewed.work ≡ no_work }
+    {
+        Renewal {
+            alloc,
+            fresh: Vec::new(alloc),
+            renewed: Renewed {
+                entries: Vec::new(alloc),
+                work: Work::none(),
+                queries: Vec::new(alloc),
+                wasted_labels: 0,
+            },
+        }
+    }
+
+    /// Takes the action for the path at that position: leaves it, or counts it as retained, or encodes it again and
+    /// reports it if its answer differs from the earlier one of its name.
+    #[inline(never)]
+    fn advance<M: MapRead>(
+        &mut self,
+        update: &MapUpdate<'_, M>,
+        before: &PathList,
+        position: usize,
+        shown: PathView<'_>,
+        action: Action,
+        query: &mut Dijkstra,
+    ) -> Result<(), AllocError>
+        requires { IsGiven (M.map update.now.map.now) update.now.margin (shown_item shown).path.lines action }
+        ensures { OnOk result (IsStep update.now.margin (M.map update.now.map.now) (items before.now)
+            (shown_item shown.entry) position action self.old self.new) }
+    {
+        match action {
+            Action::Skip => (),
+            Action::Retain => {
+                self.renewed.work = self.renewed.work.plus(Work {
+                    encodings: 1,
+                    searches: 0,
+                    settled: 0,
+                });
+            }
+            Action::Encode(known) => {
+                let (made, work) = publish(
+                    self.alloc,
+                    update.map,
+                    shown.path,
+                    update.margin,
+                    &known,
+                    query,
+                )?;
+                let published = Rc::new(self.alloc, made)?;
+                let entries = &mut self.renewed.entries;
+                push_if_changed(self.alloc, before, shown.name, &published, entries)?;
+                let named = NamedPath {
+                    path: shown.path.clone()?,
+                    published: Some(published),
+                };
+                self.fresh.push((position, named))?;
+                self.renewed.work = self.renewed.work.plus(work);
+            }
+        }
+        Ok(())
+    }
+}
+
+/// The renewal of a list under changes, whose candidates are found, and for which the searches for detours have begun.
+fn renewal_by<M: MapRead>(
+    alloc: Global,
+    update: &MapUpdate<'_, M>,
+    overlaid: OverlaidList<'_>,
+    positions: &[usize],
+    near: &Dijkstra,
+    detours: &mut Detours,
+    query: &mut Dijkstra,
+) -> Result<Renewal, AllocError>
+    requires candidates { AreCandidates (M.map update.now.map.now) (M.node_slot update.now.map.now) update.now.touched.now
+        near.now (shown_items overlaid) positions.now }
+    requires detours { 0 < length positions.now → AreDetoursIfFew (M.map update.now.map.now)
+        (M.node_slot update.now.map.now) update.now.touched.now detours.old }
+    requires follows { Follows (items overlaid.before.now) (shown_items overlaid) }
+    requires before { (L : Map) × WasBefore update.now.margin L (M.map update.now.map.now) update.now.touched.now
+        (shown_items overlaid) }
+    ensures { IfOk result (λ r. IsRenewal update.now.margin (M.map update.now.map.now) update.now.touched.now
+        (items overlaid.entry.before.now) (shown_items overlaid.entry) (after_renewal r (shown_items overlaid.entry))
+        r.renewed) }
+{
+    let mut renewal = Renewal::none(alloc);
+    for position in positions {
+        let Some(shown) = overlaid.at(*position) else {
+            continue;
+        };
+        let action = decide(alloc, update.map, update.touched, near, detours, shown)?;
+        renewal.advance(update, overlaid.before, *position, shown, action, query)?;
+    }
+    Ok(renewal)
+}
+
+/// The renewal of a list under changes, of which the edits may have changed some answers.
+fn renewal_of_some<M: MapRead>(
+    alloc: Global,
+    update: &MapUpdate<'_, M>,
+    overlaid: OverlaidList<'_>,
+    bounds: &DistanceBounds,
+    searches: &mut Searches,
+) -> Result<Renewal, AllocError>
+    requires { IsRenewable update.now.margin (M.map update.now.map.now) (M.node_slot update.now.map.now)
+        update.now.touched.now bounds.now (items overlaid.before.now) (shown_items overlaid) }
+    ensures { IfOk result (λ r. IsRenewal update.now.margin (M.map update.now.map.now) update.now.touched.now
+        (items overlaid.entry.before.now) (shown_items overlaid.entry) (after_renewal r (shown_items overlaid.entry))
+        r.renewed) }
+{
+    let (map, touched) = (update.map, update.touched);
+    let near = &mut searches.near;
+    let found = find_candidates(alloc, map, update.margin, overlaid, touched, bounds, near)?;
+    begin_detours(alloc, map, touched, &found.positions, &mut searches.detours)?;
+    let mut renewal = renewal_by(
+        alloc,
+        update,
+        overlaid,
+        &found.positions,
+        &searches.near,
+        &mut searches.detours,
+        &mut searches.query,
+    )?;
+    if renewal.renewed.work.encodings == 0 {
+        renewal.renewed.wasted_labels = found.labelled;
+    }
+    Ok(renewal)
+}
+
+/// The renewal of a list under changes, each of whose paths is encoded again, without known coverage queries.
+#[inline(never)]
+fn renewal_of_all<M: MapRead>(
+    alloc: Global,
+    update: &MapUpdate<'_, M>,
+    overlaid: OverlaidList<'_>,
+    query: &mut Dijkstra,
+) -> Result<Renewal, AllocError>
+    ensures { IfOk result (λ r. (L : Map) (t : Noted)
+        → WasBefore update.now.margin L (M.map update.now.map.now) t (to_renew true (shown_items overlaid.entry))
+        → IsRenewal update.now.margin (M.map update.now.map.now) t (items overlaid.entry.before.now)
+        (to_renew true (shown_items overlaid.entry)) (after_renewal r (to_renew true (shown_items overlaid.entry))) r.renewed) }
+{
+    let mut renewal = Renewal::none(alloc);
+    for position in 0..overlaid.len() {
+        let Some(shown) = overlaid.at(position) else {
+            unreachable!()
+        };
+        let action = Action::Encode(Vec::new(alloc));
+        renewal.advance(update, overlaid.before, position, shown, action, query)?;
+    }
+    Ok(renewal)
+}
+
+/// `renewal_of`, without its coverage queries.
+fn renewal_unnoted<M: MapRead>(
+    alloc: Global,
+    update: &MapUpdate<'_, M>,
+    overlaid: OverlaidList<'_>,
+    bounds: &DistanceBounds,
+    searches: &mut Searches,
+) -> Result<Renewal, AllocError>
+    requires { CanRenewOver M.map M.node_slot update.now bounds.now (items overlaid.before.now) (shown_items overlaid) }
+    ensures { IfOk result (λ r. AreRenewed M.map update.now (items overlaid.entry.before.now) (shown_items overlaid.entry)
+        (after_renewal r (to_renew_by update.now (shown_items overlaid.entry))) r.renewed) }
+{
+    if update.sets_margin {
+        return renewal_of_all(alloc, update, overlaid, &mut searches.query);
+    }
+    renewal_of_some(alloc, update, overlaid, bounds, searches)
+}
+
+/// The renewal of a list under changes. If the margin was set, each path is encoded again.
+pub(crate) fn renewal_of<M: MapRead>(
+    alloc: Global,
+    update: &MapUpdate<'_, M>,
+    overlaid: OverlaidList<'_>,
+    bounds: &DistanceBounds,
+    searches: &mut Searches,
+) -> Result<Renewal, AllocError>
+    requires { CanRenewOver M.map M.node_slot update.now bounds.now (items overlaid.before.now) (shown_items overlaid) }
+    ensures renewed { IfOk result (λ r. AreRenewed M.map update.now (items overlaid.entry.before.now)
+        (shown_items overlaid.entry) (after_renewal r (to_renew_by update.now (shown_items overlaid.entry))) r.renewed) }
+    ensures queries { IfOk result (λ r. (l : QueryRecord) → BeginsPut (made_at r) l →
+        Contains r.renewed.queries.items l) }
+{
+    let mut renewal = renewal_unnoted(alloc, update, overlaid, bounds, searches)?;
+    renewal.renewed.queries = fresh_queries(alloc, &renewal.fresh)?;
+    Ok(renewal)
+}

@@ -1,0 +1,208 @@
+-- How a search goes on where it may label only some nodes, and what it says in the end.
+use Rattle.olr_route.proofs.Common.{◌≡◌, ℕ, ◌+◌, ◌≤◌, ◌<◌, ◌⊎◌, List, Contains, IsTrue, length, ap, subst, inl, inr}
+use Rattle.olr_route.proofs.Common.{arith, ◌∙◌, refl, sym, ⊤, cases_lt, Map, has_node, has_line, dm, dm_of, Way, Leads}
+use Rattle.olr_route.proofs.Common.{near_end, far_end, label_of, IsQueued, Moves, IsLabelled, IsUnderWay, IsSearch}
+use Rattle.olr_route.proofs.Common.{IsCut, GREATEST_LIMIT, Frontier, Direction, Dijkstra, zero, suc, max, CutAt}
+use Rattle.olr_route.proofs.Common.{IsAlike, StaysWithin, IsCounted, LabelsNear}
+use Rattle.olr_route.proofs.SearchLemmas.{alike_labels, labelled_same}
+use Rattle.olr_route.proofs.SettledLemmas.{counted_up}
+use Rattle.olr_route.proofs.WayLemmas.{way_ends, near_there}
+use Rattle.olr_route.proofs.WayLemmas.WayEnds.{stays, continues}
+
+module _ (M : Map) (slot : ℕ → ℕ) (direction : Direction) (from : List (ℕ × ℕ)) (P : ℕ → ℕ → Type 0) where
+  cut_better : (f g : Frontier) (v d : ℕ) → ((p : ℕ) → label_of g p ≤ label_of f p) → CutAt M slot direction P f v d →
+      CutAt M slot direction P g v d
+  cut_better f g v d better cut x known near lets = grind (arith, far_end)
+
+  pub cut_begun : (f : Frontier) → IsUnderWay M slot direction from f → IsCut M slot direction from P f
+  cut_begun f u = record {
+    labelled = u.labelled;
+    begun = u.begun;
+    front = λ v known small. elim (u.front v known small) [
+      | inl cut ↦ inl (λ x line near lets. cut x line near tt)
+      | inr q ↦ inr q
+    ];
+  }
+
+  -- each label is that of before, and if its slot was queued it still is, or the lines from there are followed; or it is
+  -- new and queued
+  cut_next : (f g : Frontier) → IsLabelled M slot direction from g → ((p : ℕ) → label_of g p ≤ label_of f p)
+      → ((p : ℕ) → (label_of g p ≡ label_of f p) ⊎ IsQueued g (label_of g p) p)
+      → ((v : ℕ) → IsTrue (has_node M v) → IsQueued f (label_of f (slot v)) (slot v) →
+      CutAt M slot direction P g v (label_of f (slot v)) ⊎ IsQueued g (label_of f (slot v)) (slot v))
+      → IsCut M slot direction from P f → IsCut M slot direction from P g
+  cut_next f g labelled better fresh kept u = record {
+    labelled = labelled;
+    begun = λ s b listed there. let was = u.begun s b listed there in let le = better (slot s) in omega arith;
+    front = λ v known low. elim (fresh (slot v)) [
+      | inr q ↦ inr q
+      | inl is ↦ subst (λ (e : ℕ). CutAt M slot direction P g v e ⊎ IsQueued g e (slot v)) (sym is)
+          (elim (u.front v known (omega arith)) [
+            | inl cut ↦ inl (cut_better f g v (label_of f (slot v)) better cut)
+            | inr q ↦ kept v known q
+          ])
+    ];
+  }
+
+  -- where the labels are the same, and each is still queued if it was
+  pub cut_same : (f g : Frontier) → IsAlike f g → ((q : ℕ) → IsQueued f (label_of f q) q → IsQueued g (label_of f q) q) →
+      IsCut M slot direction from P f → IsCut M slot direction from P g
+  cut_same f g k kept u =
+      cut_next f g (labelled_same M slot direction from f g k u.labelled) (λ p. omega (arith, alike_labels f g k p))
+      (λ p. inl (alike_labels f g k p)) (λ v known q. inr (kept (slot v) q)) u
+
+  -- the slot p is removed from the queue at its label d, and the lines from there are followed, up to h
+  pub cut_more : (f g h : Frontier) (d p : ℕ) → IsAlike f g
+      → ((e q : ℕ) → IsQueued f e q → IsQueued g e q ⊎ ((e ≡ d) × (q ≡ p))) → label_of f p ≡ d
+      → d ≤ GREATEST_LIMIT → Moves g h
+      → ((v : ℕ) (ways : List (ℕ × ℕ)) → IsTrue (has_node M v) → slot v ≡ p → Leads M direction ways v d →
+      IsLabelled M slot direction ways g → IsLabelled M slot direction ways h)
+      → ((v : ℕ) → IsTrue (has_node M v) → slot v ≡ p → CutAt M slot direction P h v d) →
+      IsCut M slot direction from P f → IsCut M slot direction from P h
+  cut_more f g h d p k others at small moves labelled closed u =
+      let own = u.labelled.nodes p (omega arith) in
+      let is : label_of f (slot own.0) ≡ d = ap (label_of f) own.2 ∙ at in
+      let way = subst (λ (e : ℕ). Leads M direction from own.0 e) is (u.labelled.leads own.0 own.1 (omega arith)) in
+      cut_next f h (labelled own.0 from own.1 own.2 way (labelled_same M slot direction from f g k u.labelled))
+      (λ q. let le = moves.better q in omega (arith, alike_labels f g k q))
+      (λ q. elim (moves.fresh q) [ inl kept ↦ inl (kept ∙ alike_labels f g k q) | inr new ↦ inr new ])
+      (λ v known q. elim (others (label_of f (slot v)) (slot v) q) [
+        | inl still ↦ inr (moves.kept (label_of f (slot v)) (slot v) still)
+        | inr e ↦ inl (subst (CutAt M slot direction P h v) (sym e.0) (closed v known e.1))
+      ]) u
+
+  -- nothing is left in the queue at a length that Q allows
+  module _ (f : Frontier) (u : IsCut M slot direction from P f) (Q : ℕ → ℕ → Type 0)
+      (lets : (v d : ℕ) → Q v d → P (slot v) d × (d ≤ GREATEST_LIMIT) × ((p : ℕ) → ¬ IsQueued f d p))
+      (less : (v d e : ℕ) → Q v d → e ≤ d → Q v e)
+      (before : (x d : ℕ) → IsTrue (has_line M x) → Q (far_end M direction x) (d + dm M x) → Q (near_end M direction x) d)
+    where
+      -- by one more line
+      cut_on : (v e x : ℕ) → IsTrue (has_line M x) → far_end M direction x ≡ v → Q v (e + dm M x)
+          → label_of f (slot (near_end M direction x)) ≤ e → label_of f (slot v) ≤ e + dm M x
+      cut_on v e x known to short low =
+          let w = near_end M direction x in
+          let there : Q (far_end M direction x) (label_of f (slot w) + dm M x) =
+          subst (λ (n : ℕ). Q n (label_of f (slot w) + dm M x)) (sym to) (less v _ _ short (omega arith)) in
+          let here = lets w (label_of f (slot w)) (before x (label_of f (slot w)) known there) in
+          let near = here.1 in
+          elim (u.front w (near_there M u.labelled.sound direction x known) near) [
+            | inl cut ↦
+                let le = cut x known refl (lets (far_end M direction x) _ there).0 in
+                subst (λ (n : ℕ). label_of f (slot n) ≤ e + dm M x) to (omega arith)
+            | inr q ↦ absurd (here.2 (slot w) q)
+          ]
+
+      cut_by : (n s b v : ℕ) (lines : List ℕ) → length lines ≤ n → Contains from (s, b) → IsTrue (has_node M s) →
+          Way M direction s v lines → Q v (b + dm_of M lines) → label_of f (slot v) ≤ b + dm_of M lines
+      cut_by zero s b v lines size listed there way short = elim (way_ends M direction s v lines way) [
+        | stays e none ↦ let le =
+            u.begun s b listed there in subst (λ (w : ℕ). label_of f (slot w) ≤ b + dm_of M lines) e (omega arith)
+        | continues k ↦ absurd (omega arith)
+      ]
+      cut_by (suc n) s b v lines size listed there way short = elim (way_ends M direction s v lines way) [
+        | stays e none ↦ let le =
+            u.begun s b listed there in subst (λ (w : ℕ). label_of f (slot w) ≤ b + dm_of M lines) e (omega arith)
+        | continues k ↦
+            let parts : b + dm_of M lines ≡ b + dm_of M k.front + dm M k.line = omega arith in
+            let last : Q v (b + dm_of M k.front + dm M k.line) = subst (Q v) parts short in
+            let low =
+            cut_by n s b (near_end M direction k.line) k.front (omega arith) listed there k.way
+            (before k.line (b + dm_of M k.front) k.known
+            (subst (λ (w : ℕ). Q w (b + dm_of M k.front + dm M k.line)) (sym k.to) last)) in
+            subst (λ (e : ℕ). label_of f (slot v) ≤ e) (sym parts)
+            (cut_on v (b + dm_of M k.front) k.line k.known k.to last low)
+      ]
+
+      pub cut_settled : (v d : ℕ) → Q v d → Leads M direction from v d → label_of f (slot v) ≤ d
+      cut_settled v d short l =
+          let low =
+          cut_by (length l.lines) l.source l.begun v l.lines (omega arith) l.listed l.there l.way
+          (subst (Q v) (sym l.long) short) in
+          omega arith
+
+-- where every node may be labelled, and nothing is left in the queue up to a limit
+pub settled_up_to : (M : Map) (slot : ℕ → ℕ) (direction : Direction) (from : List (ℕ × ℕ)) (f : Frontier) (limit : ℕ) →
+    IsUnderWay M slot direction from f → limit ≤ GREATEST_LIMIT → ((d p : ℕ) → IsQueued f d p → limit < d) →
+    (v d : ℕ) → d ≤ limit → Leads M direction from v d → label_of f (slot v) ≤ d
+settled_up_to M slot direction from f limit u small far v d near l =
+    cut_settled M slot direction from (λ _ _. ⊤) f u (λ w e. e ≤ limit)
+    (λ w e h. (tt, omega arith, λ p q. let lt = far e p q in omega arith)) (λ w e k h le. omega arith)
+    (λ x e known h. omega arith) v d near l
+
+-- ---- no farther than a limit
+
+module _ (M : Map) (slot : ℕ → ℕ) (direction : Direction) (limit : ℕ) where
+  pub stays_then : (f g h : Frontier) → ((p : ℕ) → label_of h p ≤ label_of g p) →
+      StaysWithin M slot direction limit (label_of f) (label_of g) →
+      StaysWithin M slot direction limit (label_of g) (label_of h) →
+      StaysWithin M slot direction limit (label_of f) (label_of h)
+  stays_then f g h better first then p = elim (then p) [
+    | inr new ↦ inr new
+    | inl same ↦ elim (first p) [
+      | inl was ↦ inl (same ∙ was)
+      | inr k ↦
+          let le = better (slot (near_end M direction k.line)) in
+          inr (record { line = k.line; known = k.known; to = k.to; near = omega (arith, k.near); sum = omega (arith, k.sum) })
+    ]
+  ]
+
+  -- from labels that are the same, up to a lesser limit
+  pub stays_more : (f g h : Frontier) (d : ℕ) → IsAlike f g → d ≤ limit →
+      StaysWithin M slot direction d (label_of g) (label_of h) →
+      StaysWithin M slot direction limit (label_of f) (label_of h)
+  stays_more f g h d alike le then p = elim (then p) [
+    | inl same ↦ inl (same ∙ alike_labels f g alike p)
+    | inr k ↦ inr (record { line = k.line; known = k.known; to = k.to; near = omega (arith, k.near); sum = k.sum })
+  ]
+
+-- labels that come from nodes within a limit do so within a greater one, as the search goes on
+near_on : (M : Map) (slot : ℕ → ℕ) (direction : Direction) (from : List (ℕ × ℕ)) (was limit is : ℕ) (old new : ℕ → ℕ) →
+    was ≤ is → limit ≤ is → ((p : ℕ) → new p ≤ old p) → StaysWithin M slot direction limit old new →
+    LabelsNear M slot direction from was old → LabelsNear M slot direction from is new
+near_on M slot direction from was limit is old new le more better within near p low = elim (within p) [
+  | inr k ↦ inr (record { line = k.line; known = k.known; to = k.to; near = omega (arith, k.near); sum = k.sum })
+  | inl same ↦ elim (near p (omega arith)) [
+    | inl b ↦ inl (record {
+      source = b.source;
+      begun = b.begun;
+      listed = b.listed;
+      there = b.there;
+      at = b.at;
+      least = omega (arith, b.least);
+    })
+    | inr k ↦
+        let less = better (slot (near_end M direction k.line)) in
+        inr (record {
+          line = k.line;
+          known = k.known;
+          to = k.to;
+          near = omega (arith, k.near);
+          sum = omega (arith, k.sum);
+        })
+  ]
+]
+
+-- the search s, in which every node may be labelled, is continued to a limit, up to the search t
+pub settled_on_to : (M : Map) (slot : ℕ → ℕ) (direction : Direction) (from : List (ℕ × ℕ)) (s t : Dijkstra) (limit : ℕ) →
+    IsSearch M slot direction from s → t.direction ≡ s.direction → IsCut M slot direction from (λ _ _. ⊤) t.frontier →
+    limit ≤ GREATEST_LIMIT → ((d p : ℕ) → IsQueued t.frontier d p → limit < d)
+    → ((p : ℕ) → label_of t.frontier p ≤ label_of s.frontier p) → t.limit ≡ max s.limit limit →
+    StaysWithin M slot direction limit (label_of s.frontier) (label_of t.frontier) →
+    IsCounted t.frontier t.settled (max s.limit limit) (max (s.limit + 1) (limit + 1)) →
+    IsSearch M slot direction from t
+settled_on_to M slot direction from s t limit h way u small far better is within counted =
+    record {
+      way = way ∙ h.way;
+      under_way = u;
+      small = omega arith;
+      settled = λ v d known le l. elim (cases_lt limit d) [
+        | inl lt ↦ let low = h.settled v d known (omega arith) l in let less = better (slot v) in omega arith
+        | inr near ↦ settled_up_to M slot direction from t.frontier limit u small far v d near l
+      ];
+      near = λ p low. near_on M slot direction from s.limit limit t.limit (label_of s.frontier) (label_of t.frontier)
+          (omega arith) (omega arith) better within h.near p low;
+      counted =
+          counted_up t.frontier t.settled (max s.limit limit) (max (s.limit + 1) (limit + 1)) t.limit (t.limit + 1)
+          (omega arith) (omega arith) (λ e p w. let le = counted.ahead e p w in omega arith) counted;
+    }

@@ -1,0 +1,92 @@
+-- Lists of slots without duplicates, the nodes in them, and what is found in them.
+use Rattle.olr_route.proofs.Common.{◌≡◌, ◌≢◌, ◌==◌, ℕ, ◌<◌, ◌⊎◌, List, [], ◌∷◌, ◌++◌, Contains, IsTrue, get_or, length}
+use Rattle.olr_route.proofs.Common.{refl, sym, ap, ◌∙◌, subst, inl, inr, arith, IsDistinct, get_or-map, length-map}
+use Rattle.olr_route.proofs.Common.{cases_eq, Contains-append_cases, Contains-one, Contains-later, Contains-here}
+use Rattle.olr_route.proofs.Common.{AreApart}
+use Rattle.olr_route.proofs.Common.{AreFilled, AreNodesIn, IsDistinct-from_apart, ne_eqb, Contains-get_or}
+use Rattle.olr_route.proofs.Common.{Contains-cases}
+use Rattle.olr_route.proofs.Common.{Map, has_node, Bool, true, false, cond}
+use Rattle.std.proofs.lemmas.List.{map-append, append-nil}
+
+pub slots_distinct : (ps : List ℕ) → AreApart ps → IsDistinct ◌==◌ ps
+slots_distinct ps apart = IsDistinct-from_apart ◌==◌ ps (λ i j d lt past. ne_eqb _ _ (apart i j d lt past))
+
+-- a slot of the list, or none
+pub found_slot : (ps : List ℕ) (p : ℕ) → Contains ps p ⊎ ((q : ℕ) → Contains ps q → q ≢ p)
+found_slot [] p = inr (λ q c. absurd (omega arith))
+found_slot (x ∷ ps) p = elim (cases_eq x p) [
+  | inl is ↦ inl (subst (Contains (x ∷ ps)) is (Contains-here x ps))
+  | inr ne ↦ elim (found_slot ps p) [
+    | inl c ↦ inl (Contains-later x p ps c)
+    | inr none ↦ inr (λ q c. elim (Contains-append_cases (x ∷ []) ps q c) [
+      | inl h ↦ λ e. ne (sym (Contains-one x q h) ∙ e)
+      | inr h ↦ none q h
+    ])
+  ]
+]
+
+-- ---- the nodes in slots
+
+module _ (M : Map) (slot : ℕ → ℕ) where
+  pub no_nodes : AreNodesIn M slot [] []
+  no_nodes = record { slots = refl; there = λ v c. absurd (omega (arith, c.1)) }
+
+  nodes_push : (ps vs : List ℕ) (p v : ℕ) → IsTrue (has_node M v) → slot v ≡ p → AreNodesIn M slot ps vs →
+      AreNodesIn M slot (ps ++ p ∷ []) (vs ++ v ∷ [])
+  nodes_push ps vs p v known at a =
+      record {
+        slots = map-append slot vs (v ∷ []) ∙ (λ i. a.slots i ++ at i ∷ []);
+        there = λ w c. elim (Contains-append_cases vs (v ∷ []) w c) [
+          | inl h ↦ a.there w h
+          | inr h ↦ subst (λ (n : ℕ). IsTrue (has_node M n)) (sym (Contains-one v w h)) known
+        ];
+      }
+
+  pub nodes_more : (ps vs : List ℕ) (p v : ℕ) (b : Bool) → IsTrue (has_node M v) → slot v ≡ p → AreNodesIn M slot ps vs →
+      AreNodesIn M slot (ps ++ cond b (p ∷ []) []) (vs ++ cond b (v ∷ []) [])
+  nodes_more ps vs p v true known at a = nodes_push ps vs p v known at a
+  nodes_more ps vs p v false known at a = rw (append-nil ps, append-nil vs) a
+
+  pub nodes_of : (ps : List ℕ) → AreFilled M slot ps → (vs : List ℕ) × AreNodesIn M slot ps vs
+  nodes_of [] filled = ([], no_nodes)
+  nodes_of (p ∷ ps) filled =
+      let first = filled p (Contains-here p ps) in
+      let rest = nodes_of ps (λ q c. filled q (Contains-later p q ps c)) in (
+        first.0 ∷ rest.0,
+        record {
+          slots = λ i. first.2 i ∷ rest.1.slots i;
+          there = λ w c. elim (Contains-cases first.0 w rest.0 c) [
+            | inl is ↦ subst (λ (n : ℕ). IsTrue (has_node M n)) is first.1
+            | inr h ↦ rest.1.there w h
+          ];
+        },
+      )
+
+  module _ (ps vs : List ℕ) (a : AreNodesIn M slot ps vs) where
+    pub slot_in : (v : ℕ) → Contains vs v → Contains ps (slot v)
+    slot_in v c =
+        let many = length-map vs slot in
+        subst (λ (qs : List ℕ). Contains qs (slot v)) a.slots
+        (c.0, omega (arith, c.1), get_or-map slot vs c.0 v (slot v) c.1 ∙ ap slot c.2)
+
+    pub node_in : ((v w : ℕ) → IsTrue (has_node M v) → IsTrue (has_node M w) → slot v ≡ slot w → v ≡ w) → (v : ℕ) →
+        IsTrue (has_node M v) → Contains ps (slot v) → Contains vs v
+    node_in own v known listed =
+        let c = subst (λ (qs : List ℕ). Contains qs (slot v)) (sym a.slots) listed in
+        let lt : c.0 < length vs = omega (arith, c.1, length-map vs slot) in
+        let w = get_or vs c.0 v in (
+          c.0,
+          lt,
+          own w v (a.there w (Contains-get_or vs c.0 v lt)) known
+              (sym (get_or-map slot vs c.0 v (slot v) lt) ∙ c.2),
+        )
+
+    pub nodes_distinct : AreApart ps → IsDistinct ◌==◌ vs
+    nodes_distinct apart = IsDistinct-from_apart ◌==◌ vs (λ i j d lt past.
+        let many = length-map vs slot in
+        let far = subst AreApart (sym a.slots) apart i j (slot d) lt (omega arith) in
+        ne_eqb _ _ (λ same. far
+        (get_or-map slot vs i d (slot d) (omega arith) ∙ ap slot same ∙ sym (get_or-map slot vs j d (slot d) past))))
+
+    pub as_many_nodes : length vs ≡ length ps
+    as_many_nodes = sym (length-map vs slot) ∙ ap (λ (qs : List ℕ). length qs) a.slots

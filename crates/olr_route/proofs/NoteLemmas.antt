@@ -1,0 +1,87 @@
+-- The table of labels and the list of the slots with labels, as either changes.
+use Rattle.olr_route.proofs.Common.{◌≡◌, ◌≢◌, ℕ, ◌<◌, ◌≤◌, List, [], ◌∷◌, ◌++◌, Contains, length, get_or, refl, sym}
+use Rattle.olr_route.proofs.Common.{ap, ◌∙◌, subst, inl, inr, arith, cases_eq, get_or-set_same, get_or-set_other}
+use Rattle.olr_route.proofs.Common.{Contains-append_cases, Contains-append_right, set, Contains-one, UNREACHED}
+use Rattle.olr_route.proofs.Common.{label_in, AreAllReached, NotesOnce, get_or_past, get_or_read_under}
+use Rattle.olr_route.proofs.Common.{Contains-append_left, ◌⊎◌}
+use Rattle.olr_route.specs.Queues.{LowLabels, Queued, queue_len}
+use Rattle.olr_route.specs.declared.queue.Queue.{Queue}
+
+pub first_one : {X : Type 0} → (x : X) → Contains (x ∷ []) x
+first_one x = (0, omega arith, refl)
+
+-- a label that is read from the table, of length n
+pub read_label : (table : List ℕ) (p n x : ℕ) → x ≡ get_or table p x → p < n → n ≡ length table → x ≡ label_in table p
+read_label table p n x is lt long = get_or_read_under table p n x UNREACHED is lt long
+
+-- a longer list has the slots of the shorter one
+pub noted_more : (table : List ℕ) (old new : List ℕ) (label : ℕ) (r : ℕ) → NotesOnce old new label r →
+    AreAllReached table old → AreAllReached table new
+noted_more table old new label r (inl h) noted p none =
+    noted p (λ x c. none x (subst (λ (xs : List ℕ). Contains xs x) (sym h.0) c))
+noted_more table old new label r (inr h) noted p none =
+    noted p (λ x c. none x (subst (λ (xs : List ℕ). Contains xs x) (sym h.0)
+    (Contains-append_left old (r ∷ []) x c)))
+
+not_there : (table : List ℕ) (old new : List ℕ) (r : ℕ) (label p : ℕ) → NotesOnce old new label r →
+    ((x : ℕ) → Contains new x → x ≢ p) → p ≡ r → label ≡ UNREACHED → ⊥
+not_there table old new r label p (inl h) none is no_label = absurd (omega arith)
+not_there table old new r label p (inr h) none is no_label =
+    none r (subst (λ (xs : List ℕ). Contains xs r) (sym h.0) (Contains-append_right old (r ∷ []) r (first_one r)))
+    (sym is)
+
+-- a label is written in a slot of the list
+pub noted_put : (table : List ℕ) (old new : List ℕ) (r : ℕ) (d label : ℕ) → label ≡ label_in table r →
+    NotesOnce old new label r → AreAllReached table old → AreAllReached (set table r d) new
+noted_put table old new r d label is_label once noted p none =
+    let was : label_in table p ≡ UNREACHED = noted_more table old new label r once noted p none in
+    elim (cases_eq p r) [
+      | inr ne ↦ get_or-set_other table r p d UNREACHED ne ∙ was
+      | inl is ↦ absurd (not_there table old new r label p once none is (is_label ∙ ap (label_in table) (sym is) ∙ was))
+    ]
+
+-- one slot less, whose label is removed
+noted_without : (table : List ℕ) (front : List ℕ) (r : ℕ) (p : ℕ) → AreAllReached table (front ++ r ∷ []) →
+    p ≢ r → ((x : ℕ) → Contains front x → x ≢ p) → label_in table p ≡ UNREACHED
+noted_without table front r p noted ne none = noted p (λ x c same. elim (Contains-append_cases front (r ∷ []) x c) [
+  | inl h ↦ none x h same
+  | inr h ↦ ne (sym same ∙ Contains-one r x h)
+])
+
+pub noted_less : (table : List ℕ) (front : List ℕ) (r : ℕ) → r < length table →
+    AreAllReached table (front ++ r ∷ []) → AreAllReached (set table r UNREACHED) front
+noted_less table front r lt noted p none = elim (cases_eq p r) [
+  | inl is ↦ ap (λ (k : ℕ). get_or (set table r UNREACHED) k UNREACHED) is
+      ∙ get_or-set_same table r UNREACHED UNREACHED lt
+  | inr ne ↦ get_or-set_other table r p UNREACHED UNREACHED ne ∙ noted_without table front r p noted ne none
+]
+
+pub noted_past : (table : List ℕ) (front : List ℕ) (r : ℕ) → length table ≤ r →
+    AreAllReached table (front ++ r ∷ []) → AreAllReached table front
+noted_past table front r past noted p none = elim (cases_eq p r) [
+  | inl is ↦ ap (label_in table) is ∙ get_or_past table r UNREACHED past
+  | inr ne ↦ noted_without table front r p noted ne none
+]
+
+-- ---- what is queued
+
+pub none_queued : (q : Queue) → queue_len q ≡ 0 → (d p : ℕ) → ¬ Queued q d p
+none_queued q none d p w = omega (arith, w.there.1, q.heap.data.ok.0)
+
+-- a lesser label is written in slot r, which is queued at that length
+pub low_put : (table : List ℕ) (old new : Queue) (r d : ℕ) → r < length table → d < label_in table r →
+    ((e p : ℕ) → Queued new e p → Queued old e p ⊎ ((e ≡ d) × (p ≡ r))) → LowLabels table old →
+    LowLabels (set table r d) new
+low_put table old new r d lt less added low e p w = elim (cases_eq p r) [
+  | inl is ↦
+      let here : label_in (set table r d) p ≡ d =
+      ap (label_in (set table r d)) is ∙ get_or-set_same table r d UNREACHED lt in
+      elim (added e p w) [
+        | inl was ↦ let le = low e p was in let same = ap (label_in table) is in omega arith
+        | inr at ↦ omega (arith, at.0)
+      ]
+  | inr ne ↦ elim (added e p w) [
+    | inl was ↦ let le = low e p was in omega (arith, get_or-set_other table r p d UNREACHED ne)
+    | inr at ↦ absurd (ne at.1)
+  ]
+]

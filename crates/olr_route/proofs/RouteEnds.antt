@@ -1,0 +1,77 @@
+-- Routes, split at their last line.
+use Rattle.olr_route.proofs.Common.{◌≡◌, ℕ, ◌+◌, List, [], ◌∷◌, ◌++◌, IsTrue, length, get_or, refl, sym, ap, ◌∙◌}
+use Rattle.olr_route.proofs.Common.{subst, arith, length-append, ◌≢◌, ◌≤◌, inl, inr, cases_eq, cases_lt, Map, has_line}
+use Rattle.olr_route.proofs.Common.{start, end, dm, IsRoute, dm_of, UniqueShortest, get_or_push, dm_of-append}
+use Rattle.olr_route.proofs.Common.{IsRoute-append, IsRoute-split}
+
+pub same_last : (xs ys : List ℕ) (x y : ℕ) → xs ++ x ∷ [] ≡ ys ++ y ∷ [] → x ≡ y
+same_last xs ys x y e =
+    let long : length (xs ++ x ∷ []) ≡ length (ys ++ y ∷ []) = ap (λ (zs : List ℕ). length zs) e in
+    let many : length ys ≡ length xs = omega (arith, length-append xs (x ∷ []), length-append ys (y ∷ [])) in
+    sym (get_or_push xs x 0 (length xs) refl) ∙ ap (λ (zs : List ℕ). get_or zs (length xs) 0) e
+    ∙ get_or_push ys y 0 (length xs) many
+
+-- a list is empty, or ends with an element
+pub data Ends (xs : List ℕ) : Type 0 where
+  empty : xs ≡ [] → Ends xs
+  ended : (front : List ℕ) (x : ℕ) → xs ≡ front ++ x ∷ [] → Ends xs
+
+ends_more : (y : ℕ) (ys : List ℕ) → Ends ys → Ends (y ∷ ys)
+ends_more y ys (empty e) = ended [] y (ap (λ (zs : List ℕ). y ∷ zs) e)
+ends_more y ys (ended front x e) = ended (y ∷ front) x (ap (λ (zs : List ℕ). y ∷ zs) e)
+
+pub ends_of : (xs : List ℕ) → Ends xs
+ends_of [] = empty refl
+ends_of (x ∷ xs) = ends_more x xs (ends_of xs)
+
+pub dm_of-line : (M : Map) (xs : List ℕ) (x : ℕ) → dm_of M (xs ++ x ∷ []) ≡ dm_of M xs + dm M x
+dm_of-line M xs x = omega (arith, dm_of-append M xs (x ∷ []))
+
+-- a route that is extended by a line, and back
+pub route_on : (M : Map) (s x : ℕ) (xs : List ℕ) → IsRoute M s (start M x) xs → IsTrue (has_line M x) →
+    IsRoute M s (end M x) (xs ++ x ∷ [])
+route_on M s x xs w k = IsRoute-append M s (start M x) (end M x) xs (x ∷ []) w (k, refl, refl)
+
+pub record LastStep (M : Map) (s t x : ℕ) (xs : List ℕ) : Type 0 where
+  pub front : IsRoute M s (start M x) xs
+  pub known : IsTrue (has_line M x)
+  pub to : end M x ≡ t
+
+pub last_step : (M : Map) (s t x : ℕ) (xs : List ℕ) → IsRoute M s t (xs ++ x ∷ []) → LastStep M s t x xs
+last_step M s t x xs w = grind (arith, IsRoute-split)
+
+-- ---- a line x after the unique shortest route to its start
+
+module _ (M : Map) (s x : ℕ) (route : List ℕ) where
+  -- by no other line is there a route to the end of x that is as short
+  abbrev pub IsAlone : Type 0
+  IsAlone =
+      (y : ℕ) (front : List ℕ) → IsTrue (has_line M y) → end M y ≡ end M x → IsRoute M s (start M y) front →
+      dm_of M front + dm M y ≤ dm_of M route + dm M x → y ≡ x
+
+  pub unique_on : IsTrue (has_line M x) → UniqueShortest M s (start M x) route → s ≢ end M x → IsAlone →
+      UniqueShortest M s (end M x) (route ++ x ∷ [])
+  unique_on line unique apart alone = record {
+    route = route_on M s x route unique.route line;
+    others = λ ys w ne. elim (ends_of ys) [
+      | empty none ↦ absurd (apart (subst (λ (zs : List ℕ). IsRoute M s (end M x) zs) none w))
+      | ended front z is ↦
+          let step = last_step M s (end M x) z front (subst (λ (zs : List ℕ). IsRoute M s (end M x) zs) is w) in
+          let total = dm_of-line M route x in
+          let parts : dm_of M ys ≡ dm_of M front + dm M z = ap (dm_of M) is ∙ dm_of-line M front z in
+          elim (cases_lt (dm_of M route + dm M x) (dm_of M ys)) [
+            | inl far ↦ omega arith
+            | inr near ↦
+                let same : z ≡ x = alone z front step.known step.to step.front (omega arith) in
+                let each : dm M z ≡ dm M x = ap (dm M) same in
+                let less =
+                unique.others front (subst (λ (n : ℕ). IsRoute M s (start M n) front) same step.front)
+                (λ e. ne (is ∙ ap (λ (zs : List ℕ). zs ++ z ∷ []) e ∙ ap (λ (n : ℕ). route ++ n ∷ []) same)) in
+                absurd (omega arith)
+          ]
+    ];
+  }
+
+  -- and only then
+  pub unique_alone : UniqueShortest M s (end M x) (route ++ x ∷ []) → IsAlone
+  unique_alone whole y front known to w le = grind (arith, cases_eq, front, to, route_on, known, same_last, dm_of-line)

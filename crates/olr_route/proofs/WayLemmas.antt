@@ -1,0 +1,215 @@
+-- Routes in one direction or the other, and the far ends of the lines at a node.
+use Rattle.olr_route.proofs.Common.{◌≡◌, ℕ, ◌+◌, ◌<◌, List, [], ◌∷◌, ◌++◌, Contains, IsTrue, length, get_or, refl, sym}
+use Rattle.olr_route.proofs.Common.{ap, ◌∙◌, subst, arith, length-append, get_or-map, length-map, get_or_default_zero}
+use Rattle.olr_route.proofs.Common.{Map, IsMap, HasEnds, has_node, has_line, dm, IsRoute, dm_of, LineEnd, Way, Leads}
+use Rattle.olr_route.proofs.Common.{positive}
+use Rattle.olr_route.proofs.Common.{near_end, far_end, lines_at, Direction, Along, Against, map, ends_at}
+use Rattle.olr_model.specs.Ends.{end_out, end_in}
+use Rattle.olr_route.proofs.ReadLemmas.{read_at, found_at}
+use Rattle.olr_route.proofs.RouteEnds.{ends_of, dm_of-line, route_on, last_step}
+use Rattle.olr_route.proofs.RouteEnds.Ends.{empty, ended}
+
+-- the line by which a route reaches its end
+pub record LastLine (M : Map) (direction : Direction) (s v : ℕ) (lines : List ℕ) : Type 0 where
+  pub line : ℕ
+  pub front : List ℕ
+  pub way : Way M direction s (near_end M direction line) front
+  pub known : IsTrue (has_line M line)
+  pub to : far_end M direction line ≡ v
+  pub long : dm_of M lines ≡ dm_of M front + dm M line
+  pub size : length lines ≡ length front + 1
+
+pub data WayEnds (M : Map) (direction : Direction) (s v : ℕ) (lines : List ℕ) : Type 0 where
+  stays : s ≡ v → dm_of M lines ≡ 0 → WayEnds M direction s v lines
+  continues : LastLine M direction s v lines → WayEnds M direction s v lines
+
+pub way_ends : (M : Map) (direction : Direction) (s v : ℕ) (lines : List ℕ) → Way M direction s v lines →
+    WayEnds M direction s v lines
+way_ends M Along s v lines w = elim (ends_of lines) [
+  | empty e ↦ stays (subst (λ (zs : List ℕ). IsRoute M s v zs) e w) (ap (dm_of M) e)
+  | ended front x e ↦
+      let step = last_step M s v x front (subst (λ (zs : List ℕ). IsRoute M s v zs) e w) in
+      let same : length lines ≡ length (front ++ x ∷ []) = ap (λ (zs : List ℕ). length zs) e in
+      let size : length lines ≡ length front + 1 = omega (arith, length-append front (x ∷ [])) in
+      let long = ap (dm_of M) e ∙ dm_of-line M front x in
+      continues (record { line = x; front = front; way = step.front; known = step.known; to = step.to; long = long; size = size })
+]
+way_ends M Against s v [] w = stays (sym w) refl
+way_ends M Against s v (x ∷ xs) w =
+    continues (record { line = x; front = xs; way = w.2; known = w.0; to = w.1; long = omega arith; size = omega arith })
+
+pub has_ends : (M : Map) → IsMap M → HasEnds M
+has_ends M m = record { starts = m.starts; ends = m.ends; long = positive M m }
+
+pub near_there : (M : Map) → HasEnds M → (direction : Direction) (x : ℕ) → IsTrue (has_line M x) →
+    IsTrue (has_node M (near_end M direction x))
+near_there M m Along x known = m.starts x known
+near_there M m Against x known = m.ends x known
+
+pub far_there : (M : Map) → HasEnds M → (direction : Direction) (x : ℕ) → IsTrue (has_line M x) →
+    IsTrue (has_node M (far_end M direction x))
+far_there M m Along x known = m.ends x known
+far_there M m Against x known = m.starts x known
+
+pub near_node : (M : Map) → IsMap M → (direction : Direction) (x : ℕ) → IsTrue (has_line M x) →
+    IsTrue (has_node M (near_end M direction x))
+near_node M m = near_there M (has_ends M m)
+
+pub far_node : (M : Map) → IsMap M → (direction : Direction) (x : ℕ) → IsTrue (has_line M x) →
+    IsTrue (has_node M (far_end M direction x))
+far_node M m = far_there M (has_ends M m)
+
+-- a route without lines stays where it begins
+pub leads_first : (M : Map) (direction : Direction) (from : List (ℕ × ℕ)) (s b : ℕ) → Contains from (s, b) →
+    IsTrue (has_node M s) → Leads M direction from s b
+leads_first M Along from s b listed there =
+    record { source = s; begun = b; lines = []; listed = listed; there = there; way = refl; long = omega arith }
+leads_first M Against from s b listed there =
+    record { source = s; begun = b; lines = []; listed = listed; there = there; way = refl; long = omega arith }
+
+-- and a line extends a route
+way_on : (M : Map) (direction : Direction) (s x : ℕ) (xs : List ℕ) → IsTrue (has_line M x) →
+    Way M direction s (near_end M direction x) xs → (ys : List ℕ) × Way M direction s (far_end M direction x) ys
+    × (dm_of M ys ≡ dm_of M xs + dm M x)
+way_on M Along s x xs known w = (xs ++ x ∷ [], route_on M s x xs w known, dm_of-line M xs x)
+way_on M Against s x xs known w = (x ∷ xs, (known, refl, w), omega arith)
+
+pub leads_on : (M : Map) (direction : Direction) (from : List (ℕ × ℕ)) (x d : ℕ) → IsTrue (has_line M x) →
+    Leads M direction from (near_end M direction x) d → Leads M direction from (far_end M direction x) (d + dm M x)
+leads_on M direction from x d known l =
+    let on = way_on M direction l.source x l.lines known l.way in
+    let long : l.begun + dm_of M on.0 ≡ d + dm M x = omega (arith, l.long, on.2) in
+    record { source = _; begun = _; lines = on.0; listed = l.listed; there = l.there; way = on.1; long = long }
+
+pub leads_node : (M : Map) → HasEnds M → (direction : Direction) (from : List (ℕ × ℕ)) (v d : ℕ) →
+    Leads M direction from v d → IsTrue (has_node M v)
+leads_node M m direction from v d l = elim (way_ends M direction l.source v l.lines l.way) [
+  | stays e none ↦ subst (λ (u : ℕ). IsTrue (has_node M u)) e l.there
+  | continues k ↦ subst (λ (u : ℕ). IsTrue (has_node M u)) k.to (far_there M m direction k.line k.known)
+]
+
+-- a route to a node begins at one
+pub way_start : (M : Map) → HasEnds M → (s v : ℕ) (xs : List ℕ) → IsRoute M s v xs → IsTrue (has_node M v) →
+    IsTrue (has_node M s)
+way_start M m s v [] w there = subst (λ (u : ℕ). IsTrue (has_node M u)) (sym w) there
+way_start M m s v (x ∷ xs) w there = subst (λ (u : ℕ). IsTrue (has_node M u)) w.1 (m.starts x w.0)
+
+-- ---- the far ends at a node
+
+-- the default for a far end
+abbrev pub no_end : LineEnd
+no_end = record { slot = 0; len = 0 }
+
+-- the element of a list that is made by a function
+made_at : (f : ℕ → LineEnd) (xs : List ℕ) (items : List LineEnd) (i : ℕ) → items ≡ map f xs →
+    i < length items → (i < length xs) × (get_or items i no_end ≡ f (get_or xs i 0))
+made_at f xs items i is lt =
+    let long : length items ≡ length xs = ap (λ (zs : List LineEnd). length zs) is ∙ length-map xs f in
+    (omega arith, ap (λ (zs : List LineEnd). get_or zs i no_end) is ∙ get_or-map f xs i 0 no_end (omega arith))
+
+-- the far end of a line
+abbrev far_of : Map → (ℕ → ℕ) → Direction → ℕ → LineEnd
+far_of M slot Along x = end_out M slot x
+far_of M slot Against x = end_in M slot x
+
+record IsFar (M : Map) (slot : ℕ → ℕ) (direction : Direction) (x : ℕ) (e : LineEnd) : Type 0 where
+  there : e.slot ≡ slot (far_end M direction x)
+  len : e.len ≡ dm M x
+
+far_is : (M : Map) (slot : ℕ → ℕ) (direction : Direction) (x : ℕ) → IsFar M slot direction x (far_of M slot direction x)
+far_is M slot Along x = record { there = refl; len = refl }
+far_is M slot Against x = record { there = refl; len = refl }
+
+ends_are : (M : Map) (slot : ℕ → ℕ) (direction : Direction) (v : ℕ) →
+    ends_at M slot direction v ≡ map (far_of M slot direction) (lines_at M direction v)
+ends_are M slot Along v = refl
+ends_are M slot Against v = refl
+
+pub record IsEnd (M : Map) (slot : ℕ → ℕ) (direction : Direction) (v : ℕ) (e : LineEnd) : Type 0 where
+  pub line : ℕ
+  pub known : IsTrue (has_line M line)
+  pub near : near_end M direction line ≡ v
+  pub there : e.slot ≡ slot (far_end M direction line)
+  pub len : e.len ≡ dm M line
+
+pub end_is : (M : Map) (slot : ℕ → ℕ) (direction : Direction) (v : ℕ) (items : List LineEnd) (i : ℕ) →
+    items ≡ ends_at M slot direction v → i < length items → IsEnd M slot direction v (get_or items i no_end)
+end_is M slot direction v items i is lt =
+    let xs = lines_at M direction v in
+    let k = made_at (far_of M slot direction) xs items i (is ∙ ends_are M slot direction v) lt in
+    let x = get_or xs i 0 in
+    let own = read_at M direction v xs i x refl k.0 (sym (get_or_default_zero xs i x k.0)) in
+    let f = subst (IsFar M slot direction x) (sym k.1) (far_is M slot direction x) in
+    record { line = x; known = own.0; near = own.1; there = f.there; len = f.len }
+
+-- each line that is entered at v has its far end in the list
+pub record HasEnd (M : Map) (slot : ℕ → ℕ) (direction : Direction) (items : List LineEnd) (x : ℕ) : Type 0 where
+  pub index : ℕ
+  pub within : index < length items
+  pub there : (get_or items index no_end).slot ≡ slot (far_end M direction x)
+  pub len : (get_or items index no_end).len ≡ dm M x
+
+pub has_end : (M : Map) (slot : ℕ → ℕ) (direction : Direction) (v x : ℕ) (items : List LineEnd) →
+    items ≡ ends_at M slot direction v → IsTrue (has_line M x) → near_end M direction x ≡ v →
+    HasEnd M slot direction items x
+has_end M slot direction v x items is known near =
+    let xs = lines_at M direction v in
+    let made = is ∙ ends_are M slot direction v in
+    let k = found_at M direction v xs x refl known near in
+    let long : length items ≡ length xs =
+    ap (λ (zs : List LineEnd). length zs) made ∙ length-map xs (far_of M slot direction) in
+    let e : get_or items k.0 no_end ≡ far_of M slot direction x =
+    ap (λ (zs : List LineEnd). get_or zs k.0 no_end) made ∙ get_or-map (far_of M slot direction) xs k.0 0 no_end k.1
+    ∙ ap (far_of M slot direction) k.2 in
+    let f = subst (IsFar M slot direction x) (sym e) (far_is M slot direction x) in
+    record { index = k.0; within = omega arith; there = f.there; len = f.len }
+
+-- the i-th line that is entered at a node, and its far end
+pub record IsEntry (M : Map) (slot : ℕ → ℕ) (direction : Direction) (v : ℕ) (lines : List ℕ) (i : ℕ) (e : LineEnd) : Type 0
+  where
+    pub within : i < length lines
+    pub known : IsTrue (has_line M (get_or lines i 0))
+    pub leads : near_end M direction (get_or lines i 0) ≡ v
+    pub there : e.slot ≡ slot (far_end M direction (get_or lines i 0))
+    pub len : e.len ≡ dm M (get_or lines i 0)
+
+pub entry_is : (M : Map) (slot : ℕ → ℕ) (direction : Direction) (v : ℕ) (lines : List ℕ) (items : List LineEnd) →
+    lines ≡ lines_at M direction v → items ≡ ends_at M slot direction v → (i : ℕ) → i < length items →
+    IsEntry M slot direction v lines i (get_or items i no_end)
+entry_is M slot direction v lines items same is i lt =
+    let made = is ∙ ends_are M slot direction v ∙ ap (λ (zs : List ℕ). map (far_of M slot direction) zs) (sym same) in
+    let k = made_at (far_of M slot direction) lines items i made lt in
+    let x = get_or lines i 0 in
+    let own = read_at M direction v lines i x same k.0 (sym (get_or_default_zero lines i x k.0)) in
+    let f = subst (IsFar M slot direction x) (sym k.1) (far_is M slot direction x) in
+    record { within = k.0; known = own.0; leads = own.1; there = f.there; len = f.len }
+
+pub as_many : (M : Map) (slot : ℕ → ℕ) (direction : Direction) (v : ℕ) (lines : List ℕ) (items : List LineEnd) →
+    lines ≡ lines_at M direction v → items ≡ ends_at M slot direction v → length items ≡ length lines
+as_many M slot direction v lines items same is =
+    ap (λ (es : List LineEnd). length es) (is ∙ ends_are M slot direction v)
+    ∙ length-map (lines_at M direction v) (far_of M slot direction) ∙ ap (λ (xs : List ℕ). length xs) (sym same)
+
+-- each line that is entered at v is in the lists
+pub record HasEntry (M : Map) (slot : ℕ → ℕ) (direction : Direction) (lines : List ℕ) (items : List LineEnd) (x : ℕ) : Type 0
+  where
+    pub index : ℕ
+    pub within : index < length items
+    pub line : x ≡ get_or lines index 0
+    pub there : slot (far_end M direction x) ≡ (get_or items index no_end).slot
+    pub len : dm M x ≡ (get_or items index no_end).len
+
+pub has_entry : (M : Map) (slot : ℕ → ℕ) (direction : Direction) (v x : ℕ) (lines : List ℕ) (items : List LineEnd) →
+    lines ≡ lines_at M direction v → items ≡ ends_at M slot direction v → IsTrue (has_line M x) → near_end M direction x ≡ v →
+    HasEntry M slot direction lines items x
+has_entry M slot direction v x lines items same is known near =
+    let k = found_at M direction v lines x same known near in
+    let many = as_many M slot direction v lines items same is in
+    let e = entry_is M slot direction v lines items same is k.0 (omega arith) in
+    record {
+      index = k.0;
+      within = omega arith;
+      line = sym k.2;
+      there = ap (λ y. slot (far_end M direction y)) (sym k.2) ∙ sym e.there;
+      len = ap (dm M) (sym k.2) ∙ sym e.len;
+    }

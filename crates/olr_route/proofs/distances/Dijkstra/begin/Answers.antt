@@ -1,0 +1,129 @@
+use Rattle.olr_route.proofs.Common.{◌≡◌, ◌≤◌, ℕ, IsTrue, get_or, refl, sym, subst, ◌∙◌, inl, inr, arith, below_more}
+use Rattle.olr_route.proofs.Common.{get_or_default, has_node, label_of, IsQueued, IsUnderWay, IsBegunAt, Map, List}
+use Rattle.olr_route.proofs.SearchLemmas.{empty_labelled}
+use Rattle.olr_route.proofs.SettledLemmas.{counted_none, counted_as}
+use Rattle.olr_route.proofs.CutLemmas.{settled_up_to}
+use Rattle.olr_route.proofs.MarkLemmas.{plain}
+use Rattle.olr_route.proofs.distances.Dijkstra.begin.Given.{Over}
+use Rattle.olr_route.proofs.distances.Dijkstra.begin.Goals.{After-loop-begin}
+use Rattle.olr_route.proofs.distances.Dijkstra.begin.Goals as goal
+
+pub loop-begin-init : goal.loop-begin-init
+loop-begin-init g c =
+    let e = c.in_ok-make_room.ensures.empty c.clear.ensures in
+    record {
+      labelled = grind (arith, empty_labelled);
+      begun = λ j low. absurd (omega arith);
+      front = λ p small. absurd (omega (arith, e.labels p));
+      near = λ p small. absurd (omega (arith, e.labels p));
+      way = refl;
+      limit = refl;
+    }
+
+-- a label that stays is still one with which the search begins
+begun_still : (M : Map) (slot : ℕ → ℕ) (from : List (ℕ × ℕ)) (old new : ℕ → ℕ) (p : ℕ) → new p ≡ old p →
+    IsBegunAt M slot from old p → IsBegunAt M slot from new p
+begun_still M slot from old new p same b = record {
+  source = b.source;
+  begun = b.begun;
+  listed = b.listed;
+  there = b.there;
+  at = b.at;
+  least = omega (arith, b.least);
+}
+
+pub loop-begin-preserved : goal.loop-begin-preserved
+loop-begin-preserved g c =
+    let M = g.M.MapRead.map c.args.map.now in
+    let slot = g.M.MapRead.node_slot c.args.map.now in
+    let inv = c.loop-begin.invariant in
+    let e = c.in_ok-start.ensures in
+    let items = c.args.from.now in
+    let item = c.begin-item.result in
+    let n = c.loop-begin.begin-index in
+    let Begun : ℕ × ℕ → Type 0 = λ x. IsTrue (has_node M x.0) → label_of c.start.new.frontier (slot x.0) ≤ x.1 in
+    record {
+      labelled =
+          e.labelled c.args.direction items (n, c.loop-begin-test.true, sym c.begin-item.is) inv.labelled;
+      begun = below_more (λ j. Begun (get_or items j (0, 0))) n
+          (λ j low known. let was = inv.begun j low known in let le = e.moves.better (slot (get_or items j (0, 0)).0) in
+          omega arith)
+          (subst Begun (c.begin-item.is ∙ get_or_default items n item (0, 0) c.loop-begin-test.true) e.begun);
+      front = λ p small. elim (e.moves.fresh p) [
+        | inl same ↦ subst (λ (n : ℕ). IsQueued c.start.new.frontier n p) (sym same)
+            (e.moves.kept (label_of c.loop-begin.self.frontier p) p (inv.front p (omega arith)))
+        | inr q ↦ q
+      ];
+      near = λ p small. elim (e.only items p (n, c.loop-begin-test.true, sym c.begin-item.is)) [
+        | inr b ↦ b
+        | inl same ↦
+            begun_still M slot items (label_of c.loop-begin.self.frontier) (label_of c.start.new.frontier) p same
+            (inv.near p (omega arith))
+      ];
+      way = inv.way;
+      limit = inv.limit;
+    }
+
+-- the search is under way when the loop has ended
+under_way : (g : Over) (c : After-loop-begin g) →
+    IsUnderWay (g.M.MapRead.map c.args.map.now) (g.M.MapRead.node_slot c.args.map.now) c.args.direction c.args.from.now
+    c.loop-begin.self.frontier
+under_way g c =
+    let items = c.args.from.now in
+    let f = c.loop-begin.self.frontier in
+    let inv = c.loop-begin.invariant in
+    let Begun : ℕ × ℕ → Type 0 = λ x.
+    IsTrue (has_node (g.M.MapRead.map c.args.map.now) x.0) → label_of f (g.M.MapRead.node_slot c.args.map.now x.0) ≤ x.1 in
+    record {
+      labelled = inv.labelled;
+      begun = λ s b listed known.
+          let is : get_or items listed.0 (0, 0) ≡ (s, b) =
+          get_or_default items listed.0 (0, 0) (s, b) listed.1 ∙ listed.2 in
+          subst Begun is (inv.begun listed.0 (omega (arith, listed.1))) known;
+      front = λ v known small. inr (inv.front (g.M.MapRead.node_slot c.args.map.now v) small);
+    }
+
+pub settle-requires-clause-begun : goal.settle-requires-clause-begun
+settle-requires-clause-begun g c =
+    let M = g.M.MapRead.map c.args.map.now in (
+      M,
+      c.args.from.now,
+      0,
+      0,
+      0,
+      plain M (g.M.MapRead.node_slot c.args.map.now) c.args.direction c.loop-begin.self.frontier 0,
+      under_way g (goal.at.settle-requires-clause-begun g c).After-loop-begin,
+      counted_none c.loop-begin.self.frontier c.loop-begin.invariant.front,
+      omega arith,
+    )
+
+pub returns-clause-search : goal.returns-clause-search
+returns-clause-search g c =
+    let M = g.M.MapRead.map c.args.map.now in
+    let slot = g.M.MapRead.node_slot c.args.map.now in
+    let e = c.in_ok-settled.ensures in
+    let none = counted_none c.loop-begin.self.frontier c.loop-begin.invariant.front in
+    let as_is = plain M slot c.args.direction c.loop-begin.self.frontier 0 in
+    let u = e.cut M c.args.from.now 0 0 0 none as_is (under_way g (goal.at.returns-clause-search g c).After-loop-begin) in
+    record {
+      way = c.loop-begin.invariant.way;
+      under_way = u;
+      small = omega arith;
+      settled = λ v d known le l.
+          settled_up_to _ _ c.args.direction c.args.from.now c.settle.new.frontier 0 u (omega arith) e.far v d
+          (omega arith) l;
+      near = λ p small. elim (e.near M 0 0 0 none as_is p) [
+        | inr k ↦ inr (record {
+          line = k.line;
+          known = k.known;
+          to = k.to;
+          near = omega (arith, k.near);
+          sum = k.sum;
+        })
+        | inl same ↦ inl (begun_still M slot c.args.from.now (label_of c.loop-begin.self.frontier)
+            (label_of c.settle.new.frontier) p same (c.loop-begin.invariant.near p (omega arith)))
+      ];
+      counted =
+          counted_as c.settle.new.frontier _ _ _ _ _ _ (omega arith) (omega arith) (omega arith)
+          (e.counted 0 0 0 none);
+    }

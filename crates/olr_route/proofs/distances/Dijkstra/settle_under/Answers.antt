@@ -1,0 +1,49 @@
+use Rattle.olr_route.proofs.Common.{ℕ, ◌+◌, List, sym, subst, arith, IsSearch, IsUnderWay, IsCut, Direction}
+use Rattle.olr_route.specs.Bounds.{IsUnder}
+use Rattle.olr_route.proofs.CutLemmas.{cut_settled}
+use Rattle.olr_route.proofs.MarkLemmas.{plain}
+use Rattle.olr_route.proofs.distances.Dijkstra.settle_under.Given.{Over}
+use Rattle.olr_route.proofs.distances.Dijkstra.settle_under.Goals as goal
+
+-- what the search is cut to
+cut : (g : Over) (c : goal.In_ok-settle g) (direction : Direction) (from : List (ℕ × ℕ)) →
+    IsSearch (g.M.MapRead.map c.args.map.now) (g.M.MapRead.node_slot c.args.map.now) direction from c.args.self.now →
+    IsCut (g.M.MapRead.map c.args.map.now) (g.M.MapRead.node_slot c.args.map.now) direction from
+    (IsUnder c.args.bounds.now) c.settle.new.frontier
+cut g c direction from h =
+    let M = g.M.MapRead.map c.args.map.now in
+    let slot = g.M.MapRead.node_slot c.args.map.now in
+    let s = c.args.self.now in
+    subst (λ (d : Direction). IsCut M slot d from (IsUnder c.args.bounds.now) c.settle.new.frontier) h.way
+    (c.in_ok-settle.ensures.cut M from s.settled s.limit (s.limit + 1) h.counted
+    (plain M slot s.direction s.frontier (s.limit + 1))
+    (subst (λ (d : Direction). IsUnderWay M slot d from s.frontier) (sym h.way) h.under_way))
+
+pub settle-requires-clause-begun : goal.settle-requires-clause-begun
+settle-requires-clause-begun g c =
+    let b = c.requires.begun in
+    let h = b.2 in
+    let M = g.M.MapRead.map c.args.map.now in
+    let slot = g.M.MapRead.node_slot c.args.map.now in
+    let s = c.args.self.now in (
+      M,
+      b.1,
+      s.settled,
+      s.limit,
+      s.limit + 1,
+      plain M slot s.direction s.frontier (s.limit + 1),
+      subst (λ (d : Direction). IsUnderWay M slot d b.1 s.frontier) (sym h.way) h.under_way,
+      h.counted,
+      h.small,
+    )
+
+pub returns-clause-labelled : goal.returns-clause-labelled
+returns-clause-labelled g c = λ direction from h. (cut g c direction from h).labelled
+
+pub returns-clause-settled : goal.returns-clause-settled
+returns-clause-settled g c = λ direction from h bounds v d there under leads.
+    let slot = g.M.MapRead.node_slot c.args.map.now in
+    cut_settled (g.M.MapRead.map c.args.map.now) slot direction from (IsUnder c.args.bounds.now) c.settle.new.frontier
+    (cut g c direction from h) (λ w e. IsUnder c.args.bounds.now (slot w) e)
+    (λ w e u. (u, omega arith, λ p q. let lt = c.in_ok-settle.ensures.far e p q in omega arith))
+    (λ w e k u le. omega arith) (λ x e known u. let less = bounds x known (omega arith) in omega arith) v d under leads

@@ -1,5 +1,0 @@
-use Rattle.std.proofs.Common.{refl}
-use Rattle.tests_journal.proofs.tests.keep_batch.Goals as goal
-
-pub keep-requires : goal.keep-requires
-keep-requires c = refl

@@ -1,6 +1,0 @@
-mod again;
-mod choices;
-mod extension;
-mod maps;
-mod margins;
-mod queries;

@@ -1,0 +1,177 @@
+//! Logs in files, and what stands in those files. The expected bytes were derived from the form of a log's file.
+
+use olr_input::Journal;
+use olr_log::{HostDisk, LogFile, LogFolder, OpenError, Unknown, open_place, set_aside};
+use std::fs::OpenOptions;
+use std::io::Write;
+use std::os::unix::fs::{MetadataExt, PermissionsExt};
+use std::test::Fail;
+use std::{fs, io};
+
+type Log<'a> = LogFile<HostDisk<Unknown>, LogFolder<'a>>;
+
+/// Makes an empty folder.
+fn empty_folder(rt: &HostRuntime, name: &str) -> io::Result<()> {
+    let _ = fs::remove_dir_all(rt, name);
+    fs::create_dir(rt, name)
+}
+
+/// Opens a log that isn't replaced for its size.
+fn opened<'a>(rt: &'a HostRuntime, path: &str, is_new: bool) -> Result<Log<'a>, OpenError> {
+    let (disk, folder) = open_place(rt, path, is_new, Unknown)?;
+    Ok(LogFile::open(rt.alloc(), disk, folder)?)
+}
+
+/// Why a log can't be opened.
+fn refusal(rt: &HostRuntime, path: &str, is_new: bool) -> Option<OpenError> {
+    opened(rt, path, is_new).err()
+}
+
+/// Opens a file that holds this.
+fn opened_with<'a>(rt: &'a HostRuntime, path: &str, file: &str) -> Result<Log<'a>, OpenError> {
+    fs::write(rt, path, file)?;
+    opened(rt, path, false)
+}
+
+/// Keeps a record.
+fn keep_record(log: &mut Log<'_>) -> io::Result<()> {
+    log.keep(b"delete-line,1\n")
+}
+
+/// Keeps a batch.
+fn keep_batch(log: &mut Log<'_>) -> io::Result<()> {
+    log.keep(b"begin\nb,2\ncommit,1\n")
+}
+
+/// Makes a log with these two, and doesn't close it.
+fn make_log(rt: &HostRuntime, path: &str) -> Result<bool, OpenError> {
+    let mut log = opened(rt, path, true)?;
+    let is_replaced = log.replace(b"")?;
+    keep_record(&mut log)?;
+    keep_batch(&mut log)?;
+    Ok(is_replaced)
+}
+
+/// Whether this is the text of a log.
+fn has_text(rt: &HostRuntime, log: &mut Log<'_>, text: &str) -> io::Result<bool> {
+    Ok(log.text(rt.alloc())?.as_slice() == text.as_bytes())
+}
+
+/// Whether a file holds this.
+fn holds(rt: &HostRuntime, path: &str, text: &str) -> io::Result<bool> {
+    Ok(fs::read(rt, path)?.as_slice() == text.as_bytes())
+}
+
+/// Sets aside what stands behind the text of a log. Whether that is this text.
+fn sets_aside(rt: &HostRuntime, log: &mut Log<'_>, left: &str) -> io::Result<bool> {
+    match set_aside(log)? {
+        Some(name) => holds(rt, name.as_str(), left),
+        None => Ok(left.is_empty()),
+    }
+}
+
+/// Keeps one record more in a log that was opened, and closes it.
+fn keep_last(log: &mut Log<'_>) -> io::Result<()> {
+    log.settle()?;
+    log.keep(b"delete-line,9\n")?;
+    log.close()
+}
+
+#[test]
+fn keeps_and_opens_again(rt: HostRuntime) -> Result<(), Fail> {
+    empty_folder(&rt, "kept_log")?;
+    assert!(rt; matches!(refusal(&rt, "kept_log/a", false), Some(OpenError::Missing)));
+    assert!(rt; make_log(&rt, "kept_log/a")?);
+    assert!(rt; matches!(refusal(&rt, "kept_log/a", true), Some(OpenError::Exists)));
+    let mut log = opened(&rt, "kept_log/a", false)?;
+    assert!(rt;
+        matches!(
+            refusal(&rt, "kept_log/a", false),
+            Some(OpenError::InUse(Some(_)))
+        )
+    );
+    assert!(rt; has_text(&rt, &mut log, "delete-line,1\nbegin\nb,2\ncommit,1\n")?);
+    assert!(rt; sets_aside(&rt, &mut log, "")?);
+    keep_last(&mut log)?;
+    assert!(rt;
+        holds(
+            &rt,
+            "kept_log/a",
+            "\ndelete-line,1\nbegin\nb,2\ncommit,1\ndelete-line,9\n"
+        )?
+    );
+    fs::remove_dir_all(&rt, "kept_log")?;
+    Ok(())
+}
+
+/// Opens a file of a record and this, which is no text, sets it aside, and goes on. Whether all of that left what it should.
+fn goes_on(rt: &HostRuntime, path: &str, file: &str, left: &str) -> Result<bool, OpenError> {
+    let mut log = opened_with(rt, path, file)?;
+    if log.left_over() != left.len() || !sets_aside(rt, &mut log, left)? {
+        return Ok(false);
+    }
+    keep_last(&mut log)?;
+    Ok(holds(rt, path, "\ndelete-line,1\ndelete-line,9\n")?)
+}
+
+#[test]
+fn sets_aside_what_stands_behind(rt: HostRuntime) -> Result<(), Fail> {
+    empty_folder(&rt, "torn_log")?;
+    // A group behind a carriage return, a batch without its commit, and a line without its end.
+    for (file, left) in [
+        ("\ndelete-line,1\n\rdelete-line,2\n\r", "\rdelete-line,2\n"),
+        (
+            "\ndelete-line,1\nbegin\ndelete-line,2\n\r\r",
+            "begin\ndelete-line,2\n",
+        ),
+        ("\ndelete-line,1\ndelete-line,2", "delete-line,2"),
+    ] {
+        assert!(rt; goes_on(&rt, "torn_log/a", file, left)?, "{file:?}");
+    }
+    fs::remove_dir_all(&rt, "torn_log")?;
+    Ok(())
+}
+
+/// Appends to a file as another program does.
+fn append(rt: &HostRuntime, path: &str) -> io::Result<()> {
+    OpenOptions::new()
+        .append(true)
+        .open(rt, path)?
+        .write_all(b"\n")
+}
+
+#[test]
+fn notices_another_file(rt: HostRuntime) -> Result<(), Fail> {
+    empty_folder(&rt, "moved_log")?;
+    let mut log = opened_with(&rt, "moved_log/a", "\n")?;
+    log.settle()?;
+    assert!(rt; log.is_in_place());
+    fs::rename(&rt, "moved_log/a", "moved_log/b")?;
+    assert!(rt; !log.is_in_place());
+    fs::write(&rt, "moved_log/a", "\n\r")?;
+    assert!(rt; !log.is_in_place());
+    fs::rename(&rt, "moved_log/b", "moved_log/a")?;
+    keep_batch(&mut log)?;
+    assert!(rt; log.is_in_place());
+    append(&rt, "moved_log/a")?;
+    assert!(rt; !log.is_in_place());
+    fs::remove_dir_all(&rt, "moved_log")?;
+    Ok(())
+}
+
+#[test]
+fn replaces_with_the_same_mode(rt: HostRuntime) -> Result<(), Fail> {
+    empty_folder(&rt, "replaced_log")?;
+    // All of a file is text that doesn't begin with an empty line.
+    let mut log = opened_with(&rt, "replaced_log/a", "delete-line,1\r\n")?;
+    fs::set_permissions(&rt, "replaced_log/a", fs::Permissions::from_mode(0o640))?;
+    assert!(rt; has_text(&rt, &mut log, "delete-line,1\r\n")?);
+    assert!(rt; !log.is_own() && log.settle().is_err());
+    assert!(rt; log.replace(b"delete-line,1\n")?);
+    assert!(rt; log.is_own() && log.is_in_place());
+    assert_eq!(rt; fs::metadata(&rt, "replaced_log/a")?.mode() & 0o7777, 0o640);
+    keep_last(&mut log)?;
+    assert!(rt; holds(&rt, "replaced_log/a", "\ndelete-line,1\ndelete-line,9\n")?);
+    fs::remove_dir_all(&rt, "replaced_log")?;
+    Ok(())
+}
