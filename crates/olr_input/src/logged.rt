@@ -75,10 +75,14 @@ impl<S: Source + Drop, W: Write + Drop, J: Journal + Drop> Session<Buffered<W>> 
     }
 
     fn renew(&mut self, records: &[u8]) {
-        self.gate.renew(records);
+        if self.gate.wants_records() {
+            self.gate.renew(records);
+        }
     }
 
     fn lack_records(&mut self) {
-        self.gate.lack_records();
+        if self.gate.wants_records() {
+            self.gate.lack_records();
+        }
     }
 }

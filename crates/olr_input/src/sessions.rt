@@ -34,15 +34,15 @@ pub trait Session<W> {
         ensures asked { result ≡ asks self.now }
         ensures unasked { result ≡ false → (output : W) → happens (self.now, output) (Renewed Unasked) (self.now, output) };
 
-    /// Keeps these records, which were asked for, in the place of a log, if it can.
+    /// Keeps these records in the place of a log, if it can. If they were not asked for, nothing changes.
     fn renew(&mut self, records: &[u8])
-        requires { asks self.old ≡ true }
-        ensures { (output : W) → happens (self.old, output) (Renewed (Given records.now)) (self.new, output) };
+        ensures asked { asks self.old ≡ true → (output : W) → happens (self.old, output) (Renewed (Given records.now)) (self.new, output) }
+        ensures unasked { asks self.old ≡ false → self.new ≡ self.old };
 
-    /// Says that the records, which were asked for, could not be made.
+    /// Says that the records could not be made. If they were not asked for, nothing changes.
     fn lack_records(&mut self)
-        requires { asks self.old ≡ true }
-        ensures { (output : W) → happens (self.old, output) (Renewed Lacking) (self.new, output) };
+        ensures asked { asks self.old ≡ true → (output : W) → happens (self.old, output) (Renewed Lacking) (self.new, output) }
+        ensures unasked { asks self.old ≡ false → self.new ≡ self.old };
 }
 
 /// Flushes an output if the source may wait. `Write` is the fault if it fails.

@@ -7,7 +7,7 @@ use Rattle.std.specs.Fmt.{signed_decimal}
 use Rattle.olr_spec.specs.Map.{MapFault, Node_exists, No_node, Line_exists, No_line, Node_in_use, Bad_shape}
 use Rattle.olr_spec.specs.Reference.{Attrs, First, Middle, Last, Reference}
 use Rattle.olr_spec.specs.Encoding.{Refusal, Unknown_line, Broken, Offset_too_long, No_next_point}
-use Rattle.olr_spec.specs.Bytes.{V3Fault, Length, Flags, Reserved}
+use Rattle.olr_spec.specs.Bytes.{Length, Flags, Reserved}
 use Rattle.olr_spec.specs.Bytes as b
 use Rattle.olr_commands.specs.State.{TextFault, Not_base64, Not_v3, Fault, Syntax, Range, Map_fault, Path_exists}
 use Rattle.olr_commands.specs.State.{No_path, Bad_path, Not_a_reference, Memory, Batch_open, No_batch, Count_differs}

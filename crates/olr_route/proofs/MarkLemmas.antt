@@ -1,13 +1,13 @@
 -- A search goes on where a line counts longer whose start isn't settled yet.
-use Rattle.olr_route.proofs.Common.{◌≡◌, ◌≢◌, ℕ, ◌+◌, ◌<◌, ◌≤◌, ◌⊎◌, List, [], ◌∷◌, ◌++◌, Contains, IsTrue, length, ap}
+use Rattle.olr_route.proofs.Common.{◌≡◌, ◌≢◌, ℕ, ◌+◌, ◌<◌, ◌≤◌, List, Contains, IsTrue, length, ap}
 use Rattle.olr_route.proofs.Common.{sym}
-use Rattle.olr_route.proofs.Common.{subst, inl, inr, arith, ◌∙◌, refl, ⊤, cases_eq, cases_lt, zero, suc, Map, has_node}
+use Rattle.olr_route.proofs.Common.{subst, inl, inr, arith, ◌∙◌, refl, cases_eq, zero, suc, Map, has_node}
 use Rattle.olr_route.proofs.Common.{has_line}
-use Rattle.olr_route.proofs.Common.{start, end, dm, dm_of, Way, Leads, near_end, far_end, label_of, IsQueued}
+use Rattle.olr_route.proofs.Common.{start, end, dm, dm_of, Way, Leads, near_end, far_end, label_of}
 use Rattle.olr_route.proofs.Common.{IsLabelled}
-use Rattle.olr_route.proofs.Common.{IsUnderWay, IsSearch, CutAt, GREATEST_LIMIT, Direction, Along, Against, Dijkstra}
+use Rattle.olr_route.proofs.Common.{IsUnderWay, IsSearch, GREATEST_LIMIT, Direction, Along, Against, Dijkstra}
 use Rattle.olr_route.proofs.Common.{HasEnds}
-use Rattle.olr_route.proofs.Common.{IsBegunAt, LabelsNear, FromWithin, IsOver, IsSearchedAs, Frontier}
+use Rattle.olr_route.proofs.Common.{IsOver, IsSearchedAs, Frontier}
 use Rattle.olr_route.proofs.CutLemmas.{settled_up_to}
 use Rattle.olr_route.proofs.WayLemmas.{way_ends, leads_first, leads_on, near_there, far_there}
 use Rattle.olr_route.proofs.WayLemmas.WayEnds.{stays, continues}

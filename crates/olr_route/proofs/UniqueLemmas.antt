@@ -1,10 +1,9 @@
 -- Whether a line extends a unique shortest path, by distances only.
 use Rattle.olr_route.proofs.Common.{◌≡◌, ℕ, ◌+◌, ◌≤◌, List, [], ◌∷◌, ◌++◌, IsTrue, ap, inl, inr, arith, cases_lt, Map}
 use Rattle.olr_route.proofs.Common.{has_node}
-use Rattle.olr_route.proofs.Common.{has_line, start, end, dm, IsRoute, dm_of, UniqueShortest, Contains-one, ◌⊎◌, subst}
+use Rattle.olr_route.proofs.Common.{has_line, start, end, dm, IsRoute, dm_of, UniqueShortest, Contains-one}
 use Rattle.olr_route.proofs.Common.{refl}
-use Rattle.olr_route.proofs.Common.{label_of, IsSearch, GREATEST_LIMIT, Along, Dijkstra, zero, FromWithin, IsQueued}
-use Rattle.olr_route.proofs.Common.{CutAt}
+use Rattle.olr_route.proofs.Common.{label_of, IsSearch, GREATEST_LIMIT, Along, Dijkstra}
 use Rattle.olr_route.proofs.Common.{IsOnlyPredecessor}
 use Rattle.olr_route.proofs.NoteLemmas.{first_one}
 use Rattle.olr_route.proofs.WayLemmas.{way_start}

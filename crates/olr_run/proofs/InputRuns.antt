@@ -17,7 +17,7 @@ use Rattle.olr_input.specs.Sessions.{csv_records}
 use Rattle.olr_run.specs.Runs as runs
 use Rattle.olr_input.specs.declared.ends.Status.{Status}
 use Rattle.olr_input.specs.declared.sessions.Plain.{Plain}
-use Rattle.std.specs.Prelude.{IfOk, Option, Result, Ok, Err}
+use Rattle.std.specs.Prelude.{IfOk, Result, Ok, Err}
 use Rattle.olr_run.proofs.RunLemmas.{claims_of}
 use Rattle.olr_run.proofs.Running.{represented}
 use Rattle.olr_run.proofs.Joining.{stopped_is}

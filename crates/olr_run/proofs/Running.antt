@@ -7,8 +7,8 @@ use Rattle.olr_run.specs.Runs as runs
 use Rattle.olr_run.proofs.Common.{exchanges, IsOfTaking, status_of, AnsweredOn, RanIn, CutIn, Past_the_most, In_text}
 use Rattle.olr_run.proofs.Common.{RunFault, IsErrAnd, run_more, AnswersRecord, last_events, map-append, Records, Known}
 use Rattle.olr_run.proofs.Common.{FaultedOn, EndedOn}
-use Rattle.std.proofs.Common.{arith, ◌≡◌, ◌∙◌, ◌+◌, ℕ, Bool, true, false, not, List, [], ◌∷◌, ◌++◌, length, map, Option}
-use Rattle.std.proofs.Common.{Some, None, Ok, ◌⊎◌, Err, Result, inl, inr, refl, sym, ap, subst, length-append}
+use Rattle.std.proofs.Common.{arith, ◌≡◌, ◌∙◌, ◌+◌, ℕ, Bool, true, false, not, List, [], ◌∷◌, ◌++◌, length, map}
+use Rattle.std.proofs.Common.{Ok, ◌⊎◌, Err, Result, inl, inr, refl, sym, ap, subst, length-append}
 use Rattle.olr_commands.specs.State.{IsContent, State}
 use Rattle.olr_run.specs.Output.{StopsAtFault, any_refused, run_status}
 use Rattle.olr_run.specs.Runs.{In_taking, No_text, OutcomesRenewed, IsRenewal, AreRenewal}

@@ -1,5 +1,5 @@
 use Rattle.olr_route.proofs.Common.{◌≡◌, ◌≤◌, ◌<◌, ◌+◌, ℕ, IsTrue, get_or, sym, ap, subst, ◌∙◌, arith, inl, inr, Map}
-use Rattle.olr_route.proofs.Common.{has_node, has_line, dm}
+use Rattle.olr_route.proofs.Common.{has_node, dm}
 use Rattle.olr_route.proofs.Common.{Leads, near_end, far_end, label_of, below_more, line_short, positive}
 use Rattle.olr_route.proofs.Common.{get_or_default_zero, IsSeenAs}
 use Rattle.olr_route.proofs.WayLemmas.{IsEntry, entry_is, has_entry, no_end, far_node, leads_on}

@@ -1,4 +1,4 @@
-use Rattle.olr_paths.proofs.Common.{◌∙◌, sym, arith, length-map, items, overlay_changes}
+use Rattle.olr_paths.proofs.Common.{arith, length-map, items, overlay_changes}
 use Rattle.olr_paths.proofs.NamedEntries.{item_of}
 use Rattle.olr_paths.proofs.Changed.{overlaid_long}
 use Rattle.olr_paths.proofs.overlaid_list.OverlaidList.len.Goals as goal

@@ -1,4 +1,4 @@
-use Rattle.olr_route.proofs.Common.{◌≡◌, ◌+◌, ◌≤◌, ◌++◌, ◌∷◌, [], ℕ, List, Map, IsSearch, UniqueShortest}
+use Rattle.olr_route.proofs.Common.{◌≡◌, ◌+◌, ◌≤◌, ◌++◌, ◌∷◌, [], ℕ, List, IsSearch, UniqueShortest}
 use Rattle.olr_route.proofs.Common.{IsOnlyPredecessor}
 use Rattle.olr_route.proofs.Common.{sym, ap, subst, arith, ◌∙◌, ◌↔◌, IsTrue, label_of, start, end, dm, dm_of, Along}
 use Rattle.olr_route.proofs.Common.{Against, lines_in}

@@ -1,4 +1,4 @@
-use Rattle.olr_route.proofs.Common.{◌+◌, ℕ, refl, sym, subst, arith, ⊤, IsUnderWay, IsCut, Direction, StaysWithin}
+use Rattle.olr_route.proofs.Common.{◌+◌, refl, sym, subst, arith, ⊤, IsUnderWay, IsCut, Direction, StaysWithin}
 use Rattle.olr_route.proofs.Common.{label_of}
 use Rattle.olr_route.proofs.Common.{IsSearchedAs}
 use Rattle.olr_route.proofs.CutLemmas.{settled_on_to}

@@ -1,5 +1,4 @@
-use Rattle.olr_route.proofs.Common.{◌+◌, ◌++◌, ◌∷◌, [], Along, false, ◌≡◌, ◌==◌, ap, cond, ℕ, subst, sym, ◌∙◌, inl, inr}
-use Rattle.olr_route.proofs.Common.{cases_eq, dm, start, Map, ne_eqb, MayCount}
+use Rattle.olr_route.proofs.Common.{◌+◌, ◌++◌, ◌∷◌, [], Along}
 use Rattle.std.proofs.lemmas.Result.{on_ok_weaker}
 use Rattle.olr_spec.specs.Margins.{counted}
 use Rattle.olr_route.proofs.CountingLemmas.{searched_as, may_go_on, with_own_fits}
