@@ -1,4 +1,5 @@
 """Tests of the parts of the service, without the program."""
+import asyncio
 import collections
 import io
 import os
@@ -7,7 +8,7 @@ import socket
 import sqlite3
 import tempfile
 import unittest
-from typing import Any, Deque, List, Tuple
+from typing import Any, Deque, List, Optional, Tuple
 from unittest import mock
 
 from olr_keep_tools.serve import exchange, logfile, table
@@ -15,6 +16,7 @@ from olr_keep_tools.serve.framing import NoReply, Replies
 from olr_keep_tools.serve.jobs import Change, Job, Kind, batch, dropped, preview, question_about
 from olr_keep_tools.serve.lines import Input, Sort
 from olr_keep_tools.serve.notify import Systemd
+from olr_keep_tools.serve.program import Ended, Program
 from olr_keep_tools.serve.table import Entry, Table, TableError
 
 PSYCOPG2: Any = getattr(table, "psycopg2")
@@ -39,6 +41,10 @@ class Source(Owner):
 
     def __init__(self) -> None:
         self.unsent: Deque[Job] = collections.deque()
+        self.replies: List[bytes] = []
+
+    def reply(self, text: bytes) -> None:
+        self.replies.append(text)
 
     def sent(self, size: int) -> None:
         """Nothing is noted."""
@@ -52,12 +58,16 @@ class Windows(unittest.TestCase):
         clock = mock.patch("time.monotonic", lambda: self.now)
         clock.start()
         self.addCleanup(clock.stop)
-        self.passed, self.source = exchange.Exchange(lambda *_: None, lambda: True), Source()
+        self.said: List[str] = []
+        self.passed, self.source = exchange.Exchange(lambda *_: None, lambda: True, self.why_uncompacted), Source()
         program: Any = mock.Mock(write=self.write)
         self.passed.connect(program)
 
     def write(self, text: bytes) -> None:
         self.written += text
+
+    def why_uncompacted(self) -> str:
+        return self.said.pop() if self.said else ""
 
     def carry_out(self, records: bytes, rate: float) -> None:
         """Has records carried out, so many in a second."""
@@ -84,6 +94,58 @@ class Windows(unittest.TestCase):
         self.now += 1
         self.carry_out(nodes, 500_000)
         self.assertAlmostEqual(self.passed.window, 50_000, delta=10_000)
+
+    def test_compact(self) -> None:
+        """It is sent alone. Its reply is a fault if the program says until then that the log is not replaced, and no other's is."""
+        for text in b"node,1,0,0\n", b"compact\n", b"show,a\n", b"compact\n":
+            self.source.unsent.append(Job(self.source, Kind.CHANGES if text.startswith(b"node") else Kind.QUESTION, text, 1))
+        self.passed.offer(self.source)
+        self.assertEqual(self.written, b"node,1,0,0\n")
+        self.said = ["before"]
+        self.passed.take_output(b"ok,0\n")
+        self.assertEqual(self.written, b"node,1,0,0\ncompact\n")
+        self.said = ["a full disk"]
+        self.passed.take_output(b"ok,0\n")
+        self.said = ["of no record"]
+        self.passed.take_output(b"fault,10,NoPath\n")
+        self.passed.take_output(b"ok,0\n")
+        self.assertEqual(self.written, b"node,1,0,0\ncompact\nshow,a\ncompact\n")
+        self.assertEqual(self.source.replies, [b"ok,0\n", b"fault,0,NotCompacted,the log is used as it is: a full disk\n", b"fault,10,NoPath\n", b"ok,0\n"])
+
+
+class Messages(unittest.TestCase):
+    def test_order(self) -> None:
+        """What the program said before a reply is known when the reply is, also if much was said."""
+        script = ("read; for k in $(seq $2); do echo message $k >&2; done; "
+                  "echo olr-keep: a is not compacted, and is used as it is: $1 >&2; echo ok,0; exit 9")
+        for count in range(20):
+            reader = TakesReplies()
+            asyncio.run(reader.run(["bash", "-c", script, "-", f"why {count}", f"{count * 300}"]))
+            self.assertEqual((reader.why, reader.ended and reader.ended.status), ([f"why {count}"], 9))
+
+
+class TakesReplies:
+    """Asks with each reply whether the log was replaced."""
+
+    def __init__(self) -> None:
+        self.why: List[str] = []
+        self.ended: Optional[Ended] = None
+
+    async def run(self, command: List[str]) -> None:
+        """Runs a program to its end."""
+        self.done = asyncio.Event()
+        self.program = await Program.start(command, self, lambda _: None)
+        self.program.write(b"\n")
+        await self.done.wait()
+
+    def take_output(self, data: bytes) -> None:
+        """Asks."""
+        self.why.append(self.program.why_uncompacted())
+
+    def take_end(self, ended: Ended) -> None:
+        """It has ended."""
+        self.ended = ended
+        self.done.set()
 
 
 class Notifications(unittest.TestCase):

@@ -3,7 +3,7 @@ import collections
 import time
 from typing import Callable, Deque, List, Protocol
 
-from olr_keep_tools.serve.framing import NoReply, Replies
+from olr_keep_tools.serve.framing import NoReply, Replies, Span
 from olr_keep_tools.serve.jobs import WEIGHT, Change, Job, Kind, Owner
 from olr_keep_tools.serve.program import Program
 
@@ -43,10 +43,12 @@ class Counts:
 class Exchange:
     """Jobs that wait, jobs that were sent, and the window: how many records are sent before their replies have arrived. It is
     what the program carries out in a moment, so that it never waits, and a connection that sends many holds up no other for long. A
-    question about all that there is fills the window."""
+    question about all that there is fills the window. A `compact` is sent when nothing is awaited, so that what the program says
+    until its reply is about it."""
 
-    def __init__(self, publish: Callable[[List[Change], str], None], may_send: Callable[[], bool]) -> None:
-        self.publish, self.may_send = publish, may_send
+    def __init__(self, publish: Callable[[List[Change], str], None], may_send: Callable[[], bool],
+                 why_uncompacted: Callable[[], str]) -> None:
+        self.publish, self.may_send, self.why_uncompacted = publish, may_send, why_uncompacted
         self.turns: Deque[Source] = collections.deque()
         self.sent: Deque[Job] = collections.deque()
         self.counts, self.replies = Counts(), Replies()
@@ -78,6 +80,9 @@ class Exchange:
             if source.is_slow:
                 self.turns.append(source)
                 continue
+            if source.unsent[0].is_compact and self.sent:
+                self.turns.appendleft(source)
+                break
             texts.append(self._send_one(source, now))
             if source.unsent:
                 self.turns.append(source)
@@ -101,6 +106,8 @@ class Exchange:
                 self.window = min(self.window, FIRST_WINDOW)
                 self.measured_since, self.measured, self.was_full = now, 0, False
             self.last_progress = self.last_end = now
+        if job.is_compact:
+            self.why_uncompacted()  # whatever was said before
         job.sent_at = now
         self.sent.append(job)
         self.awaited += job.weight
@@ -118,7 +125,7 @@ class Exchange:
             if span is None:
                 break
             self.measured += span.count
-            text = job.take(span)
+            text = self._reply_of(job, span)
             if text:
                 job.owner.reply(text)
             if job.done == job.count:
@@ -129,6 +136,12 @@ class Exchange:
                 raise NoReply("a reply to nothing")
         self._set_window(now)
         self.dispatch()
+
+    def _reply_of(self, job: Job, span: Span) -> bytes:
+        """What the owner of a job gets for replies. The program accepts `compact` also where the log can't be replaced."""
+        text = job.take(span)
+        why = self.why_uncompacted() if job.is_compact and text.startswith(b"ok,") else ""
+        return job.uncompacted(why) if why else text
 
     def _finish(self, job: Job, now: float) -> None:
         """A job has all its replies."""

@@ -7,6 +7,7 @@ class Word(enum.Enum):
 
     NOT_KNOWN = "NotKnown"
     NOT_SERVED = "NotServed"
+    NOT_COMPACTED = "NotCompacted"
     LINE_TOO_LONG = "LineTooLong"
     NO_LINE_END = "NoLineEnd"
     NO_COMMIT = "NoCommit"

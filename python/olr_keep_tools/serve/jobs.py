@@ -65,6 +65,11 @@ class Job:
     changes: List[Change] = field(default_factory=list)
 
     @property
+    def is_compact(self) -> bool:
+        """Whether it asks that the log be replaced by a dump."""
+        return self.kind is Kind.QUESTION and self.text == b"compact\n"
+
+    @property
     def weight(self) -> int:
         """How many records it counts as while its replies are awaited."""
         is_about_all = self.kind is Kind.QUESTION and self.text.rstrip(b"\n").partition(b",")[0] in ABOUT_ALL
@@ -88,6 +93,11 @@ class Job:
         elif self.kind is Kind.DROP_PATH and span.text.startswith(b"ok"):
             self.changes.append(Change(name_of(self.text.rstrip(b"\n")), None))
         return span.text
+
+    def uncompacted(self, why: str) -> bytes:
+        """What its owner gets if the log could not be replaced. The program has accepted it."""
+        self.rejected += 1
+        return fault(Word.NOT_COMPACTED, f"the log is used as it is: {why}")
 
     def _take_of_batch(self, first: int, span: Span) -> bytes:
         """The replies to `begin` and to changes were given before; then come those to `commit` or `preview`, and to `abort`."""

@@ -4,6 +4,7 @@ import collections
 import contextlib
 import ctypes
 import fcntl
+import os
 import re
 import signal
 from typing import Any, Callable, Deque, List, NamedTuple, Optional, Protocol
@@ -12,6 +13,7 @@ PIPE_SIZE = 1 << 20
 PR_SET_PDEATHSIG = 1
 PRCTL = ctypes.CDLL(None).prctl  # looked up here, since little may be done between fork and exec
 STARTED = re.compile(r"olr-keep: .* has \d+ records? and \d+ paths?")
+UNCOMPACTED = re.compile(r"olr-keep: .* is not compacted, and is used as it is: (.*)")
 ENDING = 4096  # bytes of a message that is kept until its line ends
 LAST_MESSAGES = 2  # the cause, and what follows from it
 
@@ -46,26 +48,36 @@ def dies_with_service() -> None:
 
 
 class Program(asyncio.SubprocessProtocol):
-    """A process that carries out records. Its messages are passed on as they are."""
+    """A process that carries out records. Its messages are passed on as they are. They come through a pipe that is read here, so that
+    what it said before a reply is known when the reply is."""
 
-    def __init__(self, reader: Reader, say: Callable[[str], None]) -> None:
-        self.reader, self.say = reader, say
+    def __init__(self, reader: Reader, say: Callable[[str], None], said: int) -> None:
+        self.reader, self.say, self.said = reader, say, said
         self.transport: Optional[asyncio.SubprocessTransport] = None
         self.input: Optional[asyncio.WriteTransport] = None
-        self.messages = b""
+        self.messages, self.uncompacted = b"", ""
         self.last_messages: Deque[str] = collections.deque(maxlen=LAST_MESSAGES)
 
     @classmethod
     async def start(cls, command: List[str], reader: Reader, say: Callable[[str], None]) -> "Program":
         """Starts it. Raises OSError if that isn't possible."""
         loop = asyncio.get_running_loop()
-        started = await loop.subprocess_exec(lambda: cls(reader, say), *command, preexec_fn=dies_with_service)
+        said, says = os.pipe()
+        try:
+            started = await loop.subprocess_exec(lambda: cls(reader, say, said), *command, stderr=says, preexec_fn=dies_with_service)
+        except OSError:
+            os.close(said)
+            raise
+        finally:
+            os.close(says)
         program: "Program" = started[1]
         return program
 
     def connection_made(self, transport: asyncio.BaseTransport) -> None:
         assert isinstance(transport, asyncio.SubprocessTransport)
         self.transport = transport
+        os.set_blocking(self.said, False)
+        asyncio.get_running_loop().add_reader(self.said, self.read_messages)
         pipe: Any = transport.get_pipe_transport(0)
         self.input = pipe
         # It may have ended already, with its pipe closed.
@@ -95,20 +107,38 @@ class Program(asyncio.SubprocessProtocol):
                 self.transport.kill()
 
     def pipe_data_received(self, fd: int, data: bytes) -> None:
-        if fd == 1:
-            self.reader.take_output(data)
-            return
-        *lines, self.messages = (self.messages + data).split(b"\n")
-        self.messages = self.messages[-ENDING:]
-        for it in lines:
-            message = it.decode("utf-8", "replace")
-            self.say(message)
-            self.last_messages.append(message.replace("olr-keep: ", "", 1))
-            if STARTED.match(message):
-                self.last_messages.clear()
+        self.reader.take_output(data)
+
+    def read_messages(self) -> None:
+        """Takes the messages that it has written."""
+        with contextlib.suppress(BlockingIOError):
+            while data := os.read(self.said, 1 << 16):
+                *lines, self.messages = (self.messages + data).split(b"\n")
+                self.messages = self.messages[-ENDING:]
+                for it in lines:
+                    self.take_message(it.decode("utf-8", "replace"))
+            asyncio.get_running_loop().remove_reader(self.said)
+
+    def take_message(self, message: str) -> None:
+        """Takes a message."""
+        self.say(message)
+        self.last_messages.append(message.replace("olr-keep: ", "", 1))
+        if STARTED.match(message):
+            self.last_messages.clear()
+        elif found := UNCOMPACTED.match(message):
+            self.uncompacted = found[1]
+
+    def why_uncompacted(self) -> str:
+        """Why the log was not replaced since this was asked last, or nothing. It is said before the reply to `compact` leaves."""
+        self.read_messages()
+        why, self.uncompacted = self.uncompacted, ""
+        return why
 
     def connection_lost(self, error: Optional[Exception]) -> None:
         assert self.transport is not None
+        self.read_messages()
+        asyncio.get_running_loop().remove_reader(self.said)
+        os.close(self.said)
         status = self.transport.get_returncode()
         self.transport.close()
         self.reader.take_end(Ended(-signal.SIGKILL if status is None else status, "; ".join(self.last_messages)))

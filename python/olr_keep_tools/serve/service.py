@@ -88,7 +88,7 @@ class Service:
         self.keeper = Keeper(
             lambda: Table(settings.table, settings.channel, settings.retained),
             Events(self.take_written, self.ask_for_all, self.take_table_fault))
-        self.exchange = Exchange(self.publish, self.may_send)
+        self.exchange = Exchange(self.publish, self.may_send, self.why_uncompacted)
         self.questions = Questions(self)
         self.limits = Limits(settings.connections, settings.waiting)
         self.health = Health(self.exchange.counts, settings.log)
@@ -116,6 +116,10 @@ class Service:
             self.is_other = not self.was_loaded
             if self.program:
                 self.program.kill()
+
+    def why_uncompacted(self) -> str:
+        """Why the log was not replaced since this was asked last, or nothing."""
+        return self.program.why_uncompacted() if self.program else ""
 
     def take_end(self, ended: Ended) -> None:
         """The program has ended."""
