@@ -17,7 +17,8 @@ from olr_keep_tools.serve.jobs import Change, Job, Kind, batch, dropped, preview
 from olr_keep_tools.serve.lines import Input, Sort
 from olr_keep_tools.serve.notify import Systemd
 from olr_keep_tools.serve.program import Ended, Program
-from olr_keep_tools.serve.table import Entry, Table, TableError
+from olr_keep_tools.serve.table import Entry, Table, TableError, Taken
+from olr_keep_tools.serve.writer import Limits
 
 PSYCOPG2: Any = getattr(table, "psycopg2")
 
@@ -146,6 +147,25 @@ class TakesReplies:
         """It has ended."""
         self.ended = ended
         self.done.set()
+
+
+class Places(unittest.TestCase):
+    def test_idle(self) -> None:
+        """If all places are taken, the one that has been idle for longest is given away, one with an open batch last."""
+        limits = Limits(3, 1, 60.0)
+        with mock.patch("time.monotonic", lambda: 100.0):
+            for active, is_idle, held, wanted in (
+                ((10, 20, 30), (True, True, True), "", [1, 2]), ((50, 40, 30), (True, True, True), "", [0, 1]),
+                ((30, 40, 50), (True, True, True), "0", [0, 2]), ((30, 41, 50), (True, True, True), "0", [1, 2]),
+                ((10, 20, 30), (False, False, True), "", [0, 1]), ((10, 20, 30), (False, False, False), "", [0, 1, 2]),
+                ((41, 42, 43), (True, True, True), "", [0, 1, 2])):
+                writers = [mock.Mock(active=at, is_idle=idle, batch=1 if str(k) in held else None)
+                           for k, (at, idle) in enumerate(zip(active, is_idle))]
+                for it in writers:
+                    it.give_place = mock.Mock(side_effect=lambda it=it: limits.open.discard(it))
+                limits.open = set(writers)
+                self.assertEqual(limits.has_room(), len(wanted) == 2)
+                self.assertEqual([k for k, it in enumerate(writers) if it in limits.open], wanted)
 
 
 class Notifications(unittest.TestCase):
@@ -290,6 +310,7 @@ class Tables(unittest.TestCase):
     def test_history(self) -> None:
         with tempfile.TemporaryDirectory() as folder:
             table = Table(f"{folder}/table", retained=1000)
+            self.addCleanup(table.close)
             entries = [Entry(Change("a", "text,A"), "now", "jane"), Entry(Change("b", "text,B"), "now", "joe"), Entry(Change("a", None), "now", "joe")]
             self.assertEqual(table.write(entries), 3)
             self.assertEqual(table.published(), [("b", "text,B")])
@@ -308,7 +329,7 @@ class Tables(unittest.TestCase):
             table = Table(f"{folder}/table")
             table.write([Entry(Change("a", "text,A"), "now", "jane")])
             table.close()
-            self.assertEqual(os.listdir(folder), ["table"])
+            self.assertEqual(sorted(os.listdir(folder)), ["table", "table.lock"])
             with open(f"{folder}/table", "rb") as file:
                 self.assertEqual(file.read(20)[18:], b"\1\1")
 
@@ -320,9 +341,26 @@ class Tables(unittest.TestCase):
         with one, other, mock.patch.object(table, "ANSWERS", 0.05):
             self.assertRaises(PSYCOPG2.OperationalError, table.wait, silent)
 
+    def test_taken(self) -> None:
+        """A table is one process's, whatever name it is opened by; what that one leaves is free at once, also if it fails."""
+        with tempfile.TemporaryDirectory() as folder:
+            os.symlink("table", f"{folder}/other")
+            first = Table(f"{folder}/table", owner="/log on a")
+            self.assertRaisesRegex(Taken, "that of /log on a;", Table, f"{folder}/other", owner="/log on b")
+            with self.assertRaises(TableError) as again:
+                Table(f"{folder}/table", owner="/log on a")
+            self.assertNotIsInstance(again.exception, Taken)
+            first.close()
+            Table(f"{folder}/other", owner="/log on b").close()
+            with sqlite3.connect(f"{folder}/wrong") as wrong:
+                wrong.execute("create table history (name text)")
+            for _ in range(2):
+                self.assertRaisesRegex(TableError, "no such column|no column", Table, f"{folder}/wrong", owner="/log on a")
+
     def test_another_writer(self) -> None:
         with tempfile.TemporaryDirectory() as folder:
             table = Table(f"{folder}/table")
+            self.addCleanup(table.close)
             with sqlite3.connect(f"{folder}/table") as other:
                 other.execute("insert into history values (1, 'x', 'text,X', 'now', 'joe')")
             self.assertRaises(TableError, table.write, [Entry(Change("a", None), "now", "jane")])

@@ -27,11 +27,11 @@ async def until_end(reader: asyncio.StreamReader) -> None:
 
 
 class Readers:
-    """All connections that read."""
+    """All connections that read. As many as may follow the changes may ask something besides."""
 
     def __init__(self, keeper: Keeper, health: Callable[[], Health], most: int) -> None:
         self.keeper, self.health, self.most = keeper, health, most
-        self.open = 0
+        self.open = self.following = 0
         self.written = asyncio.Event()
 
     def wake(self) -> None:
@@ -43,8 +43,8 @@ class Readers:
         """Serves one connection until its end."""
         self.open += 1
         try:
-            if self.open > self.most:
-                writer.write(fault(Word.CONNECTIONS, f"{self.most} are open, and no more are taken"))
+            if self.open > 2 * self.most:
+                writer.write(self._full())
             else:
                 await self._answer(reader, writer)
             await writer.drain()
@@ -53,6 +53,10 @@ class Readers:
         finally:
             self.open -= 1
             writer.close()
+
+    def _full(self) -> bytes:
+        """What a connection gets for which there is no place."""
+        return fault(Word.CONNECTIONS, f"{self.most} are open, and no more are taken")
 
     async def _answer(self, reader: asyncio.StreamReader, writer: asyncio.StreamWriter) -> None:
         """Reads what is asked, and answers it."""
@@ -67,8 +71,14 @@ class Readers:
         elif line.startswith("GET"):
             text = self.health().prometheus().encode()
             writer.write(b"HTTP/1.0 200 OK\r\nContent-Type: text/plain; version=0.0.4\r\nContent-Length: %d\r\n\r\n%s" % (len(text), text))
+        elif self.following == self.most:
+            writer.write(self._full())
         else:
-            await self._follow(reader, writer, int(asked[1]) if asked[1] else None)
+            self.following += 1
+            try:
+                await self._follow(reader, writer, int(asked[1]) if asked[1] else None)
+            finally:
+                self.following -= 1
 
     async def _follow(self, reader: asyncio.StreamReader, writer: asyncio.StreamWriter, position: Optional[int]) -> None:
         """Writes changes as they are made; to a reader that has ended its input, all that there are."""

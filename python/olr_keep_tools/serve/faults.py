@@ -13,6 +13,7 @@ class Word(enum.Enum):
     NO_COMMIT = "NoCommit"
     TOO_MUCH_WAITS = "TooMuchWaits"
     CONNECTIONS = "Connections"
+    IDLE = "Idle"
     NO_POSITION = "NoPosition"
     TABLE = "Table"
 

@@ -1,12 +1,13 @@
 """The thread that writes the table, and reads it for others. Everything reaches it through one queue, in order."""
 import asyncio
+import math
 import queue
 import threading
 import time
 from typing import Any, Callable, Dict, List, NamedTuple, Optional, Tuple, Union
 
 from olr_keep_tools.serve.jobs import Change
-from olr_keep_tools.serve.table import Entry, Row, Table, TableError, now
+from olr_keep_tools.serve.table import Entry, Row, Table, TableError, Taken, now
 
 MOST_BEHIND = 100_000  # changes that wait for the table, after which no more records are carried out
 AT_ONCE = 20_000  # changes of one transaction
@@ -148,7 +149,9 @@ class Keeper:
         """The table has failed. It is opened again later."""
         if self.table:
             self.table.close()
-        self.table, self.is_right, self.next_try = None, False, time.monotonic() + RETRY
+        self.table, self.is_right = None, False
+        # One that is another's isn't taken as soon as that one is being started again.
+        self.next_try = math.inf if isinstance(error, Taken) else time.monotonic() + RETRY
         self._tell(self.events.failed, str(error))
 
     def _write(self, entries: List[Entry]) -> None:

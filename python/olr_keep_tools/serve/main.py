@@ -61,6 +61,8 @@ def arguments(about: str) -> argparse.Namespace:
     add("--compact-at", default="", metavar="SIZE", help="the program's option")
     add("--deadline", type=amount, metavar="SECONDS", help="for a reply, before the program is ended (60, and 20 for each MB of LOG)")
     add("--most-connections", type=number, default=100, metavar="N", help="of writers, and of readers (100)")
+    add("--idle", type=amount, default=60.0, metavar="SECONDS",
+        help="after which a writer that waits for nothing gives its place to another, if all places are taken (60)")
     add("--most-waiting", type=number, default=256, metavar="MB", help="of open batches, and of replies that a writer doesn't read (256)")
     add("--metrics", default="", metavar="FILE", help="write metrics for Prometheus to this file")
     add("log", metavar="LOG", help="the log")
@@ -115,7 +117,7 @@ def settings_of(chosen: argparse.Namespace, program: List[str], accepted: List[s
     command = [*program, "-l", chosen.log, "--lines", *(["--compact-at", chosen.compact_at] if chosen.compact_at else [])]
     table = chosen.table or f"{chosen.log}.published.sqlite"
     return Settings(chosen.log, command, table, chosen.notify, chosen.history, chosen.deadline, chosen.most_connections,
-                    chosen.most_waiting << 20, chosen.most_fewer, accepted, chosen.metrics, records, changes)
+                    chosen.idle, chosen.most_waiting << 20, chosen.most_fewer, accepted, chosen.metrics, records, changes)
 
 
 async def serve(settings: Settings, systemd: Systemd) -> int:

@@ -40,12 +40,17 @@ class Settings:
     retained: int
     deadline: Optional[float]  # seconds for a reply; by the size of the log if None
     connections: int
+    idle: float  # seconds
     waiting: int
     most_fewer: float
     accepted: List[str]  # what speaks against serving the log, and is right
     metrics: str
     records_socket: socket.socket
     changes_socket: socket.socket
+
+    def name(self) -> str:
+        """What others are told who want the table."""
+        return f"{os.path.realpath(self.log)} on {socket.gethostname()}"
 
     def seconds_for_reply(self) -> float:
         """How long a reply may take."""
@@ -86,11 +91,11 @@ class Service:
     def __init__(self, settings: Settings, systemd: Systemd) -> None:
         self.settings, self.systemd = settings, systemd
         self.keeper = Keeper(
-            lambda: Table(settings.table, settings.channel, settings.retained),
+            lambda: Table(settings.table, settings.channel, settings.retained, settings.name()),
             Events(self.take_written, self.ask_for_all, self.take_table_fault))
         self.exchange = Exchange(self.publish, self.may_send, self.why_uncompacted)
         self.questions = Questions(self)
-        self.limits = Limits(settings.connections, settings.waiting)
+        self.limits = Limits(settings.connections, settings.waiting, settings.idle)
         self.health = Health(self.exchange.counts, settings.log)
         self.readers = Readers(self.keeper, self.current_health, settings.connections)
         self.program: Optional[Program] = None
@@ -170,7 +175,7 @@ class Service:
     def take_table_fault(self, why: str) -> None:
         """The table can't be written."""
         if why != self.health.table_fault:
-            say(f"the table is not written, and is tried again each second: {why}")
+            say(f"the table is not written: {why}")
         self.health.table_fault = why
         self.readers.wake()
 
@@ -369,7 +374,7 @@ class Service:
     def current_health(self) -> Health:
         """What is known now."""
         health = self.health
-        health.connections, health.readers = len(self.limits.open), self.readers.open
+        health.connections, health.readers = len(self.limits.open), self.readers.following
         health.behind, health.waiting_bytes = self.keeper.behind, self.limits.held
         return health
 

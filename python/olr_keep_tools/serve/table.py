@@ -2,9 +2,11 @@
 
 `published` has a row for each path: its answer as in replies, when that changed, by which user, and its position. `history` has a
 row for each change, by position, from 1; the answer of a dropped path is `dropped`. What one call of `write` changes in both is
-one transaction.
+one transaction. One process at a time has a table: a lock, which ends with it, keeps others from writing it.
 """
 import contextlib
+import fcntl
+import os
 import select
 import sqlite3
 import time
@@ -22,6 +24,9 @@ except ImportError:
 DROPPED = "dropped"
 ROWS = 1000
 ANSWERS = 60.0  # seconds in which a database has to answer
+LOCK = 7165_0030  # of pg_try_advisory_lock, with the number of the schema
+SERVES = "olr-keep-serve "  # before the name of who has a table
+MOST_NAME = 63  # bytes of it in PostgreSQL
 TABLES = """
 create table if not exists published (name text primary key, answer text not null, changed text not null,
     "user" text not null, position bigint not null);
@@ -35,6 +40,13 @@ Row = Tuple[Any, ...]
 
 class TableError(Exception):
     """The table can't be read or written."""
+
+
+class Taken(TableError):
+    """Another service has the table."""
+
+    def __init__(self, owner: str) -> None:
+        super().__init__(f"another service writes it, that of {owner}; start this one again when that one has ended")
 
 
 class Entry(NamedTuple):
@@ -64,14 +76,31 @@ class Store(Protocol):
 
 
 class SQLite:
-    """A file."""
+    """A file, with another one that is locked and names who has it."""
 
-    failures: Tuple[Type[BaseException], ...] = (sqlite3.Error,)
+    failures: Tuple[Type[BaseException], ...] = (sqlite3.Error, OSError)
 
-    def __init__(self, name: str) -> None:
-        self.file = sqlite3.connect(name, isolation_level=None, timeout=20, check_same_thread=False)
-        self.file.execute("pragma journal_mode=wal")
-        self.file.execute("pragma synchronous=full")
+    def __init__(self, name: str, owner: str) -> None:
+        self.lock = open(f"{os.path.realpath(name)}.lock", "a+", encoding="utf-8")
+        try:
+            self._own(owner)
+            self.file = sqlite3.connect(name, isolation_level=None, timeout=20, check_same_thread=False)
+            self.file.execute("pragma journal_mode=wal")
+            self.file.execute("pragma synchronous=full")
+        except BaseException:
+            self.lock.close()
+            raise
+
+    def _own(self, owner: str) -> None:
+        """Locks the table for this process."""
+        try:
+            fcntl.flock(self.lock, fcntl.LOCK_EX | fcntl.LOCK_NB)
+        except BlockingIOError:
+            self.lock.seek(0)
+            raise taken(self.lock.read(), owner) from None
+        self.lock.truncate(0)
+        self.lock.write(owner)
+        self.lock.flush()
 
     def rows(self, text: str, values: Sequence[Any] = ()) -> List[Row]:
         return self.file.execute(text, values).fetchall()
@@ -88,6 +117,7 @@ class SQLite:
             self.file.execute("pragma busy_timeout=0")
             self.file.execute("pragma journal_mode=delete")
         self.file.close()
+        self.lock.close()
 
 
 def wait(connection: Any) -> None:
@@ -99,18 +129,39 @@ def wait(connection: Any) -> None:
             raise psycopg2.OperationalError(f"the database hasn't answered for {ANSWERS:.0f} seconds")
 
 
+# The server, too, notices that this machine is gone, so that the lock ends.
+OPTIONS = ("-c lock_timeout=20s -c client_min_messages=warning -c tcp_keepalives_idle=10 -c tcp_keepalives_interval=5 "
+           "-c tcp_keepalives_count=3")
+
+
 class PostgreSQL:
     """Tables in the first schema of the search path of a database."""
 
-    def __init__(self, url: str) -> None:
+    def __init__(self, url: str, owner: str) -> None:
         if psycopg2 is None:
             raise TableError("for PostgreSQL install Debian's python3-psycopg2, and run this with /usr/bin/python3")
         psycopg2.extensions.set_wait_callback(wait)
         self.failures: Tuple[Type[BaseException], ...] = (psycopg2.Error,)
+        given = psycopg2.extensions.parse_dsn(url).get("options", "")
         self.connection = psycopg2.connect(
-            url, connect_timeout=10, application_name="olr-keep-serve", keepalives_idle=10, keepalives_interval=5,
-            keepalives_count=3, tcp_user_timeout=30_000, options="-c lock_timeout=20s -c client_min_messages=warning")
+            url, connect_timeout=10, application_name=(SERVES + owner)[:MOST_NAME], keepalives_idle=10, keepalives_interval=5,
+            keepalives_count=3, tcp_user_timeout=30_000, options=f"{OPTIONS} {given}")
         self.connection.autocommit = True
+        try:
+            self._own(owner[: MOST_NAME - len(SERVES)])
+        except BaseException:
+            self.connection.close()
+            raise
+
+    def _own(self, owner: str) -> None:
+        """Locks the tables for this session, until it ends."""
+        schema = "coalesce(current_schema()::regnamespace::oid, 0)"
+        if self.rows(f"select pg_try_advisory_lock(?, {schema}::int)", (LOCK,)) == [(True,)]:
+            return
+        found = self.rows(f"""select application_name from pg_locks join pg_stat_activity using (pid)
+            where locktype = 'advisory' and granted and classid = ? and objid = {schema}
+                and pg_locks.database = (select oid from pg_database where datname = current_database())""", (LOCK,))
+        raise taken("".join(it[len(SERVES) :] for (it,) in found), owner)
 
     def rows(self, text: str, values: Sequence[Any] = ()) -> List[Row]:
         with self.connection.cursor() as cursor:
@@ -137,11 +188,16 @@ def is_url(name: str) -> bool:
     return name.startswith(("postgresql://", "postgres://"))
 
 
-def store_of(name: str) -> Store:
-    """The database of this name."""
+def store_of(name: str, owner: str) -> Store:
+    """The database of this name, for this process alone."""
     if is_url(name):
-        return PostgreSQL(name)
-    return SQLite(name)
+        return PostgreSQL(name, owner)
+    return SQLite(name, owner)
+
+
+def taken(other: str, owner: str) -> TableError:
+    """Why a table can't be had that is locked. What a service left that was killed ends in a moment."""
+    return Taken(other) if other not in ("", owner) else TableError("an earlier process of this service has it")
 
 
 def now() -> str:
@@ -153,19 +209,23 @@ def now() -> str:
 class Table:
     """The tables. All calls raise TableError if the database fails; the connection is then of no use any more."""
 
-    def __init__(self, name: str, channel: str = "", retained: int = 0) -> None:
+    def __init__(self, name: str, channel: str = "", retained: int = 0, owner: str = "") -> None:
         """Opens the table, and makes it if it is missing. With a `channel` PostgreSQL notifies it of each position; the
-        newest `retained` changes stay in the history, all if it is 0."""
+        newest `retained` changes stay in the history, all if it is 0. Others are told that `owner` has it."""
         self.channel, self.retained = channel, retained
-        self.failures: Tuple[Type[BaseException], ...] = (sqlite3.Error,)
+        self.failures: Tuple[Type[BaseException], ...] = (sqlite3.Error, OSError)
         try:
             if is_url(name) and psycopg2 is not None:
                 self.failures = (psycopg2.Error,)
-            self.store = store_of(name)
+            self.store = store_of(name, owner)
+        except self.failures as error:
+            raise TableError(" ".join(str(error).split())) from None
+        try:
             for statement in TABLES.split(";"):
                 self.store.run(statement)
             self.position = self.last_position()
         except self.failures as error:
+            self.close()
             raise TableError(" ".join(str(error).split())) from None
 
     def last_position(self) -> int:

@@ -4,6 +4,7 @@ import collections
 import pwd
 import socket
 import struct
+import time
 from dataclasses import dataclass, field
 from typing import Deque, Optional, Set, Union
 
@@ -27,10 +28,22 @@ class Limits:
 
     connections: int
     waiting: int  # bytes of open batches, and of the replies that one connection doesn't read
+    idle: float  # seconds after which a connection that waits for nothing gives its place to another
     open: "Set[Writer]" = field(default_factory=set)
     refused: "Set[Writer]" = field(default_factory=set)  # connections that get the answer that there are too many
     held: int = 0  # bytes of open batches
     is_stopping: bool = False
+
+    def has_room(self) -> bool:
+        """Whether one more connection is taken. If all places are taken, the connection that has been idle for longest gives its
+        place, one with an open batch last."""
+        if self.is_stopping or len(self.open) < self.connections:
+            return not self.is_stopping
+        since = time.monotonic() - self.idle
+        idle = [it for it in self.open if it.is_idle and it.active <= since]
+        if idle:
+            min(idle, key=lambda it: (it.batch is not None, it.active)).give_place()
+        return bool(idle)
 
 
 @dataclass
@@ -66,13 +79,14 @@ class Writer(asyncio.Protocol):
         self.input, self.batch = Input(), None  # type: Input, Optional[Batch]
         self.is_slow = self.is_paused = self.has_ended = self.is_lost = False
         self.transport: Optional[asyncio.Transport] = None
+        self.active = time.monotonic()  # when something was last sent or answered
 
     # ---- the connection
 
     def connection_made(self, transport: asyncio.BaseTransport) -> None:
         assert isinstance(transport, asyncio.Transport)
         self.transport = transport
-        if len(self.limits.open) >= self.limits.connections or self.limits.is_stopping:
+        if not self.limits.has_room():
             self._refuse(transport)
             return
         self.user = user_of(transport.get_extra_info("socket"))
@@ -94,6 +108,7 @@ class Writer(asyncio.Protocol):
     def data_received(self, data: bytes) -> None:
         if self.has_ended:
             return
+        self.active = time.monotonic()
         for piece in self.input.feed(data):
             self._take(piece)
         if self.unsent:
@@ -235,6 +250,7 @@ class Writer(asyncio.Protocol):
 
     def finish(self, job: Job) -> None:
         """A job has all its replies. Of one that was sent in parts, the last part is the job itself."""
+        self.active = time.monotonic()
         if self.due and self.due[0] is job:
             self.due.popleft()
         while self.due and isinstance(self.due[0], bytes):
@@ -249,11 +265,24 @@ class Writer(asyncio.Protocol):
         if not self.due and self.transport is not None:
             self.transport.close()
 
-    def end(self) -> None:
-        """The service ends: nothing more is read, and the connection is closed once its replies are written."""
+    def end(self, why: str = "the service ends", last: bytes = b"") -> None:
+        """Nothing more is read, and the connection is closed once its replies, and the last one, are written."""
         if self.transport is not None and not self.has_ended:
             self.has_ended = True
             if self.batch:
                 self._end_batch()
-                self._say(fault(Word.NO_COMMIT, "the service ends within this batch: nothing of it is carried out"))
+                self._say(fault(Word.NO_COMMIT, f"{why} within this batch: nothing of it is carried out"))
+            if last:
+                self._say(last)
             self._close_if_done()
+
+    @property
+    def is_idle(self) -> bool:
+        """Whether it waits for nothing: all its records are answered, and it has read the answers."""
+        return not self.due and self.transport is not None and not self.transport.get_write_buffer_size()
+
+    def give_place(self) -> None:
+        """Ends this connection, since another one needs its place."""
+        self.limits.open.discard(self)
+        why = f"nothing was sent for {self.limits.idle:g} s, and another connection needs the place: connect again"
+        self.end("this connection ends", fault(Word.IDLE, why))
