@@ -168,17 +168,22 @@ class Strip(Polyline):
         super().__init__(points)
         self.cell = cell
         self.cells: Dict[Tuple[float, float], List[int]] = defaultdict(list)
-        for k, (a, b) in enumerate(zip(points, points[1:])):
-            for it in cells_along(a, b, cell):
-                self.cells[it].append(k)
+        places = [(x // cell, y // cell) for x, y in points]
+        for k, it in enumerate(zip(places, places[1:])):
+            if it[0] == it[1]:
+                self.cells[it[0]].append(k)
+            else:
+                for place in cells_along(points[k], points[k + 1], cell):
+                    self.cells[place].append(k)
 
     def segments_near(self, point: Place, metres: Optional[float] = None) -> Sequence[int]:
         """The segments near a point: all up to this distance from it, or, without one, up to the size of a cell."""
         (x, y), cell, cells = point, self.cell, self.cells
         far = cell if metres is None else metres
         low, right, bottom, top = (x - far) // cell, (x + far) // cell, (y - far) // cell, (y + far) // cell
-        if low == right and bottom == top:
-            return cells.get((low, bottom), ())
+        if right - low <= 1 and top - bottom <= 1:
+            four = cells.get((low, bottom)), cells.get((low, top)), cells.get((right, bottom)), cells.get((right, top))
+            return sorted({k for it in four if it for k in it}) if any(four) else ()
         found: Set[int] = set()
         while low <= right:
             high = bottom
@@ -207,19 +212,20 @@ class Network:
 
     def add(self, lines: Mapping[int, Line]) -> None:
         """Adds lines."""
+        known, leaving, nodes, boxes, cells = self.lines, self.leaving, self.nodes, self.boxes, self.cells
         for number, line in lines.items():
-            if number not in self.lines:
-                self.lines[number], points = line, line.points
-                self.leaving[line.start].append(number)
-                self.nodes[line.start], self.nodes[line.end] = points[0], points[-1]
+            if number not in known:
+                known[number], points, start = line, line.points, line.start
+                leaving[start].append(number)
+                nodes[start], nodes[line.end] = points[0], points[-1]
                 lons, lats = zip(*points)
-                self.boxes[number] = box = min(lons), min(lats), max(lons), max(lats)
-                low, bottom, right, top = box[0] // CELL, box[1] // CELL, box[2] // CELL, box[3] // CELL
-                if low == right and bottom == top:
-                    self.cells[low, bottom].append(number)
+                boxes[number] = west, south, east, north = min(lons), min(lats), max(lons), max(lats)
+                low, bottom = west // CELL, south // CELL
+                if low == east // CELL and bottom == north // CELL:
+                    cells[low, bottom].append(number)
                 else:
                     for it in set().union(*(cells_along(a, b, CELL) for a, b in zip(points, points[1:]))):
-                        self.cells[it].append(number)
+                        cells[it].append(number)
 
     def near(self, place: Place, east: float, north: float) -> List[int]:
         """The lines whose boxes are within these degrees of a place on both axes."""
@@ -291,18 +297,17 @@ class Follower:
         """The positions along the course at which it passes a node: of each pass the nearest one, and its end, if that is near."""
         found = self.positions.get(node)
         if found is None:
-            point = self.node(node)
-            found = self.passes(point)
-            if math.dist(point, self.course.points[-1]) <= self.tolerance:
+            lon, lat = self.network.nodes[node]
+            point = lon * self.plane.wide, lat * METRES
+            segments = self.course.segments_near(point, self.tolerance)
+            found = self.passes(point, segments) if segments else []
+            if segments and math.dist(point, self.course.points[-1]) <= self.tolerance:
                 found = sorted({*found, self.course.length})
             self.positions[node] = found
         return found
 
-    def passes(self, point: Place) -> List[float]:
-        """The positions along the course at which it passes a point."""
-        segments = self.course.segments_near(point, self.tolerance)
-        if not segments:
-            return []
+    def passes(self, point: Place, segments: Sequence[int]) -> List[float]:
+        """The positions along the course at which it passes a point, on these segments."""
         near = [(at, far) for far, at in self.course.project(point, segments) if far <= self.tolerance]
         passes: List[Tuple[float, float, float]] = []
         for at, far in sorted(near):
@@ -425,7 +430,8 @@ class Follower:
             if last <= self.tolerance and self.course.length - low <= 2 * self.tolerance and best[label].step:
                 relax(cost + last * last, END, (None, 0.0, 0.0), label)
             for number in self.network.leaving.get(node, ()):
-                if self.positions_of(self.lines[number].end):
+                highs = self.positions_of(self.lines[number].end)
+                if highs and low - highs[-1] <= SNAP:
                     for more, after, step in self.steps(number, 0.0, low):
                         relax(cost + more, after, step, label)
                 if number in ends[END]:

@@ -227,12 +227,12 @@ class MapUpdate:
         self.cursor.execute("delete from olr_keep.street where street = any(%s::text[])", (keys,))
         rows, vertices = [], []
         for key, it in self.rows.items():
-            street = self.after.get(key)
+            street, name = self.after.get(key), key.translate(ESCAPES)
             rows.append((key, it.digest, it.source, *(street[:3] if street else (None, None, None)), it.shape))
             for part, places in enumerate(street.parts if street else ()):
-                vertices += [(key, part, k, place) for k, place in enumerate(places)]
+                vertices += [f"{name}\t{part}\t{k}\t{place}\n" for k, place in enumerate(places)]
         copy(self.cursor, "street", "street, digest, source, class, form, direction, shape", rows)
-        copy(self.cursor, "vertex", "street, part, k, place", vertices)
+        copy_lines(self.cursor, "vertex", "street, part, k, place", vertices)
 
     def write_nodes(self, cut: Cut) -> None:
         """Writes the nodes of a cut, and their records."""
@@ -354,8 +354,13 @@ def point_hex(place: int) -> str:
 
 def copy(cursor: Any, table: str, columns: str, rows: Iterable[Sequence[object]]) -> None:
     """Inserts rows by COPY; None is NULL, and texts may have any characters."""
+    copy_lines(cursor, table, columns, map(copy_line, rows))
+
+
+def copy_lines(cursor: Any, table: str, columns: str, lines: Iterable[str]) -> None:
+    """Inserts rows by COPY, of these lines."""
     file = io.StringIO()
-    file.writelines(map(copy_line, rows))
+    file.writelines(lines)
     if file.tell():
         file.seek(0)
         cursor.copy_expert(f"copy olr_keep.{table} ({columns}) from stdin", file, 1 << 18)

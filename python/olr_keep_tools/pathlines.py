@@ -165,8 +165,11 @@ def point(place: Optional[Place]) -> Optional[str]:
 
 def text_array(items: Iterable[object]) -> str:
     """The text of an array of these, as PostgreSQL reads it."""
-    quoted = (str(it).replace("\\", "\\\\").replace('"', '\\"') for it in items)
-    return "{" + ",".join(f'"{it}"' for it in quoted) + "}"
+    found = list(map(str, items))
+    text = '","'.join(found)
+    if "\\" in text or text.count('"') > 2 * (len(found) - 1):
+        text = '","'.join(it.replace("\\", "\\\\").replace('"', '\\"') for it in found)
+    return f'{{"{text}"}}' if found else "{}"
 
 
 def number_array(items: Iterable[object]) -> str:
@@ -178,15 +181,14 @@ def cells_near(course: Sequence[Place], tolerance: float) -> Set[Cell]:
     """The cells in which lines near a course may have points."""
     high = 1.1 * tolerance / METRES
     wide = high / max(0.01, math.cos(math.radians(max(abs(it[1]) for it in course))))
-    found: Set[Cell] = set()
+    places = list(course[:1])
     for a, b in zip(course, course[1:]):
         count = int(max(abs(b[0] - a[0]), abs(b[1] - a[1])) / CELL) + 1
-        ends = [between(a, b, k / count) for k in range(count + 1)]
-        for (lon, lat), (east, north) in zip(ends, ends[1:]):
-            low, right = int((min(lon, east) - wide) // CELL), int((max(lon, east) + wide) // CELL)
-            bottom, top = int((min(lat, north) - high) // CELL), int((max(lat, north) + high) // CELL)
-            found.update((x, y) for x in range(low, right + 1) for y in range(bottom, top + 1))
-    return found
+        places += [between(a, b, k / count) for k in range(1, count)] if count > 1 else ()
+        places.append(b)
+    boxes = [((x - wide) // CELL, (x + wide) // CELL, (y - high) // CELL, (y + high) // CELL) for x, y in places]
+    ranges = {(min(a[0], b[0]), max(a[1], b[1]), min(a[2], b[2]), max(a[3], b[3])) for a, b in zip(boxes, boxes[1:])}
+    return {(x, y) for w, e, s, n in ranges for x in range(int(w), int(e) + 1) for y in range(int(s), int(n) + 1)}
 
 
 def boxes_of(cells: Iterable[Cell]) -> Iterator[Tuple[float, float, float, float]]:
@@ -230,10 +232,9 @@ class Finder:
 
     def take(self, found: Iterable[Tuple[Any, ...]]) -> List[Row]:
         """The lines that a query found. A line without coordinates has those of its stretch's other direction, which is there."""
-        rows = [self.rows.get(it[0]) or Row._make((*it[:11], coordinates(it[11]) or ())) for it in found]
-        if not all(it.points for it in rows):
-            there = {it[6:10]: it.points for it in rows if it.points}
-            rows = [it if it.points else it._replace(points=there[it[6:10]][::-1]) for it in rows]
+        read = [(it, coordinates(it[11])) for it in found]
+        there = {it[6:10]: points for it, points in read if points}
+        rows = [self.rows.get(it[0]) or Row._make((*it[:11], points or there[it[6:10]][::-1])) for it, points in read]
         new = {it.number: it for it in rows}
         self.rows.update(new)
         self.network.add(new)

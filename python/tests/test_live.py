@@ -618,8 +618,8 @@ class Searches(unittest.TestCase):
             self.assertEqual(Search(update, ["p"], FakeFinder(), self.NOTHING, {"p": course}, {}).is_long(), is_long)
 
     def test_parts(self) -> None:
-        sizes = {count: [len(it) for it in parts_of([str(k) for k in range(count)])] for count in (0, 50, 51, 300, 1100)}
-        self.assertEqual(sizes, {0: [], 50: [50], 51: [50, 1], 300: [150, 150], 1100: [500, 500, 100]})
+        sizes = {count: [len(it) for it in parts_of([str(k) for k in range(count)])] for count in (0, 50, 51, 300, 2100)}
+        self.assertEqual(sizes, {0: [], 50: [50], 51: [50, 1], 300: [150, 150], 2100: [1000, 1000, 100]})
 
     def test_a_killed_search_is_made_again(self) -> None:
         search = Search(PathsUpdate(FakeCursor(), Affected(), 20.0), ["p"], FakeFinder(row(1, "a")), self.NOTHING,
@@ -653,6 +653,10 @@ class Searches(unittest.TestCase):
 
     def test_arrays(self) -> None:
         self.assertEqual(text_array(['a"b', "c\\d"]), '{"a\\"b","c\\\\d"}')
+        given: List[List[object]] = [[], [""], ["a", "b c"], ['"'], ["a", '"', "b"], ["\\"], [1, 2]]
+        found = [text_array(it) for it in given]
+        wanted = ["{}", '{""}', '{"a","b c"}', '{"\\""}', '{"a","\\"","b"}', '{"\\\\"}', '{"1","2"}']
+        self.assertEqual(found, wanted)
 
 
 # ---- another process
