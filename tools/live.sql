@@ -503,17 +503,17 @@ create or replace function olr_keep.records() returns setof text language sql st
 $$;
 comment on function olr_keep.records is 'The records of the map and the paths as they are published, for the other tools.';
 
--- A geometry in degrees without Z and M, or NULL if its coordinates can't be transformed. Not for parallel queries, since it
--- catches errors.
-create or replace function olr_keep.degrees(geom geometry) returns geometry language plpgsql immutable strict as $$
+-- A geometry in degrees without Z and M, or NULL if its coordinates can't be transformed. The second function is not for parallel
+-- queries, since it catches errors, and takes longer for that.
+create or replace function olr_keep.transformed(geom geometry) returns geometry language plpgsql immutable strict as $$
 begin
-    if ST_SRID(geom) = 4326 then
-        return ST_Force2D(geom);
-    end if;
     return ST_Transform(ST_Force2D(geom), 4326);
 exception when others then
     return null;
 end $$;
+create or replace function olr_keep.degrees(geom geometry) returns geometry language sql immutable as $$
+    select case when ST_SRID(geom) = 4326 then ST_Force2D(geom) else olr_keep.transformed(geom) end
+$$;
 
 \o /dev/null
 select olr_keep.make_triggers(0, 'olr_keep.path', 'name');
