@@ -241,7 +241,8 @@ class Sender:
         lines = [it.line for it in self.step if it.line]
         if all(it.word in QUESTIONS for it in self.step):
             return "nothing was sent that changes anything"
-        text = f"whether lines {lines[0]} to {lines[-1]} took effect is not known"
+        which = f"line {lines[0]}" if len(lines) == 1 else f"lines {lines[0]} to {lines[-1]}"
+        text = f"whether {which} took effect is not known"
         return f"{text}; {self.before()}" if self.done else text
 
     def interrupted(self) -> bool:
