@@ -89,12 +89,6 @@ module _ {D F : Type 0} {d : disk.Ghosts D} {f : folder.Ghosts F D} where
     λ is. absurd (let never : true ≡ false = sym is ∙ fails in cc),
   )
 
-  pub cut_from : (j k last : LogFile D F d f) (ok : Bool) → k ≡ j →
-      ((t : List ℕ) → left_of last t → left_of k t ⊎ (IsTrue ok × (t ≡ kept_of k))) → (t : List ℕ) → left_of last t →
-      left_of j t ⊎ (IsTrue ok × (t ≡ kept_of j))
-  cut_from j k last ok e cut =
-      subst (λ (x : LogFile D F d f). (t : List ℕ) → left_of last t → left_of x t ⊎ (IsTrue ok × (t ≡ kept_of x))) e cut
-
   pub unbegun_read : (log read : LogFile D F d f) (rejected : Bool) → kept_of read ≡ kept_of log →
       ((t : List ℕ) → left_of read t → left_of log t)
       → (rejected ≡ true → is_clean read ≡ true → (c : Content) → IsContentOf (kept_of log) c → ⊥)

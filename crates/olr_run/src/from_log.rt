@@ -1,13 +1,15 @@
 //! The program with a log.
 
-ghost use Rattle.std.specs.Prelude.{◌≡◌, ◌≤◌, ◌⊎◌, ℕ, List, [], Ok, Err, true, length, IfOk, IfErr, IsTrue, is_ok};
+ghost use Rattle.std.specs.Prelude.{◌≡◌, ◌≤◌, ◌⊎◌, ℕ, List, [], Ok, Err, Some, true, length, IfOk, IfErr, IsTrue, is_ok};
 ghost use Rattle.olr_arguments.specs.Opens.{Opens};
 ghost use Rattle.olr_arguments.specs.Options.{options_of};
+ghost use Rattle.olr_arguments.specs.Sizes.{IsLength};
 ghost use Rattle.olr_log.specs.Logs.{kept_of, left_of};
 ghost use Rattle.olr_run.specs.LogEnds.{is_rejected};
 ghost use Rattle.olr_run.specs.ProgramEnds.{FromLog, LogEnds, UnbegunCode, UnopenedCode, ended_code};
 ghost use Rattle.olr_run.specs.Runs.{both_records, file_bytes};
 ghost use Rattle.olr_input.specs.Buffers.{held};
+ghost use Rattle.olr_input.specs.Gates.{compaction};
 ghost use Rattle.olr_input.specs.Statuses.{exit_code};
 ghost use Rattle.olr_input.specs.Sessions.{most_held};
 
@@ -16,7 +18,7 @@ use crate::logged::run_with_log;
 use crate::starts::{RejectedRecord, StartFault, begin_with};
 use crate::streams::NO_FILE;
 use olr_arguments::{CompactionLength, Options, WRONG_ARGUMENTS, compaction_length, open_file};
-use olr_input::{Buffered, LogFault, RunFault, Status, end_status, report_fault};
+use olr_input::{Buffered, Gate, LogFault, RunFault, Status, end_status, report_fault};
 use olr_log::{Folder, LogFile, OpenError};
 use olr_register::Register;
 use sqlite_disk::Disk;
@@ -167,22 +169,25 @@ fn report_begun<E: Write>(
 
 /// What is asked of a run with a log.
 #[derive(Clone, Copy)]
-struct Asked<'a> {
-    name: &'a str,
+struct Asked<'a, 'b> {
+    name: &'b str,
+    options: &'a Options<'b>,
     /// The least length of the log that is replaced by the records of the register.
     from: CompactionLength,
-    /// Whether to stop at the first rejected record.
-    stop: bool,
 }
 
-/// Cuts the padding of a log off after a run that was not cut off. If that fails, the next start does without it.
+/// The log of a run that was replaced from the length on that the options ask for. Its padding is cut off after a run that was not
+/// cut off. If that fails, the next start does without it.
 fn close_log<D: Disk + Drop, G: Folder<D>>(
+    _options: &Options<'_>,
     ended: &Result<Status, RunFault>,
-    log: LogFile<D, G>,
+    gate: Gate<LogFile<D, G>>,
 ) -> LogFile<D, G>
-    ensures cut { (t : List ℕ) → left_of result t → left_of log t ⊎ (IsTrue (is_ok ended.now) × (t ≡ kept_of log)) }
+    requires sized { IsLength (options_of _options.now).compact_at (Some (compaction gate).renewed_from) }
+    ensures cut { (t : List ℕ) → left_of result t
+        → left_of gate.journal t ⊎ (IsTrue (is_ok ended.now) × (t ≡ kept_of gate.journal)) }
 {
-    let mut log = log;
+    let mut log = gate.into_journal();
     if ended.is_ok() {
         let _ = log.close();
     }
@@ -201,13 +206,14 @@ fn run_from_log<
 >(
     alloc: Global,
     log: LogFile<D, G>,
-    asked: &Asked<'_>,
+    asked: &Asked<'_, '_>,
     file: Option<F>,
     input: R,
     output: &mut Buffered<W>,
     errors: &mut E,
 ) -> (u8, LogFile<D, G>)
-    ensures ends { FromLog W.contents log result.1 asked.now.stop
+    requires sized { IsLength (options_of asked.now.options.now).compact_at (Some asked.now.from.bytes) }
+    ensures ends { FromLog W.contents log result.1 asked.now.options.now.stop
         (both_records (file_bytes F.remaining file) (R.remaining input))
         output.old output.new result.0 }
     ensures bounded { result.0 ≤ 7 }
@@ -229,12 +235,12 @@ fn run_from_log<
         log,
         asked.from,
         output,
-        asked.stop,
+        asked.options.stop,
     );
     let fault = gate.fault();
     let in_batch = register.is_open();
     mem::forget(register);
-    let log = close_log(&ended, gate.into_journal());
+    let log = close_log(asked.options, &ended, gate);
     (log_status(asked.name, ended, fault, in_batch, errors), log)
 }
 
@@ -280,8 +286,8 @@ pub fn with_log<
     };
     let run = Asked {
         name,
+        options: asked,
         from,
-        stop: asked.stop,
     };
     let Ok((file, input)) = read_inputs(alloc, file, input, asked.lines) else {
         return (report_fault(RunFault::Memory, errors), Some(log));

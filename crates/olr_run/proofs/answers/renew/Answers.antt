@@ -1,5 +1,5 @@
 -- The records of the register are given if they are asked for.
-use Rattle.std.proofs.Common.{◌≡◌, ◌∙◌, sym, subst, true, ℕ, List}
+use Rattle.std.proofs.Common.{◌∙◌, sym, subst, ℕ, List}
 use Rattle.olr_input.specs.Sessions.{Unasked, Given, Lacking}
 use Rattle.olr_run.specs.Runs.{AreRenewal}
 use Rattle.olr_run.proofs.answers.renew.Goals as goal
