@@ -28,11 +28,13 @@ class Event(NamedTuple):
 
 
 def events(trace: str) -> Iterator[Event]:
-    """The events in a file that `trace.c` wrote."""
+    """The events in a file that `trace.c` wrote. The last one is left out if the program was killed while it was noted."""
     with open(trace, "rb") as file:
-        while head := file.readline():
+        while (head := file.readline()).endswith(b"\n"):
             kind, number, at, size = head.decode().split()
-            yield Event(kind, int(number), int(at), file.read(int(size)))
+            data = file.read(int(size))
+            if len(data) == int(size):
+                yield Event(kind, int(number), int(at), data)
 
 
 @dataclass
@@ -124,8 +126,10 @@ class Disk:
             if name not in self.names and event.at & CREATE:
                 made = File()
                 self.rename(lambda names: names.__setitem__(name, made))
-            if name in self.names:
-                self.opened[event.file] = self.names[name]
+            elif name not in self.names:
+                # It was there before, with a content that isn't looked at.
+                self.names[name] = self.certain[name] = File()
+            self.opened[event.file] = self.names[name]
 
     def sync(self, event: Event) -> None:
         """A file, or the names in the folder, are certain."""

@@ -1,21 +1,48 @@
 // Stops a program at a call of the file system. Loaded before it (LD_PRELOAD), this counts the calls that read or change a file
 // other than the standard streams, and what is written to standard output, and kills the process at the Nth, where the variable
 // STOP is N: before the call, or, if it is a write, after half of its bytes. With the variable FAIL `N` the Nth call fails
-// instead (EIO), and all later ones succeed. The number of calls is written to the file that CALLS names.
-typedef unsigned long size_t;
-typedef long ssize_t;
-typedef long off_t;
+// instead (EIO), and all later ones succeed. The number of calls is written to the file that CALLS names. The calls that succeeded
+// are noted as `trace.c` does.
+#define write traced_write
+#define __write traced_write_too
+#define pwrite traced_pwrite
+#define pwrite64 traced_pwrite64
+#define fsync traced_fsync
+#define fdatasync traced_fdatasync
+#define ftruncate traced_ftruncate
+#define ftruncate64 traced_ftruncate64
+#define rename traced_rename
+#define renameat traced_renameat
+#define unlink traced_unlink
+#define unlinkat traced_unlinkat
+#define open traced_open
+#define open64 traced_open64
+#define openat traced_openat
+#define openat64 traced_openat64
+#define opened traced_opened
+#include "trace.c"
+#undef write
+#undef __write
+#undef pwrite
+#undef pwrite64
+#undef fsync
+#undef fdatasync
+#undef ftruncate
+#undef ftruncate64
+#undef rename
+#undef renameat
+#undef unlink
+#undef unlinkat
+#undef open
+#undef open64
+#undef openat
+#undef openat64
+#undef opened
 extern int *__errno_location(void);
-extern char *getenv(const char *name);
 extern long strtol(const char *text, char **end, int base);
-extern long syscall(long number, ...);
 extern int dprintf(int file, const char *format, ...);
 
-enum {
-    READ = 0, WRITE = 1, OPEN = 2, PREAD = 17, PWRITE = 18, GETPID = 39, KILL = 62, FLOCK = 73, FSYNC = 74, FDATASYNC = 75,
-    TRUNCATE = 77, RENAME = 82, UNLINK = 87, FCHMOD = 91, FCHOWN = 93, OPENAT = 257, RENAMEAT = 264, UNLINKAT = 263,
-    CREATE = 0100, IO_FAULT = 5, SIGKILL = 9
-};
+enum { READ = 0, PREAD = 17, KILL = 62, FLOCK = 73, FCHMOD = 91, FCHOWN = 93, IO_FAULT = 5, SIGKILL = 9 };
 
 static long calls;
 
@@ -36,10 +63,11 @@ static int counted(void) {
 }
 
 // The same for a write, of which half is carried out before the process is killed.
-static int counted_write(long number, int file, const void *from, size_t size, off_t at) {
+static int counted_write(int file, const void *from, size_t size, off_t at) {
     calls++;
     if (calls == wanted("STOP")) {
-        if (size > 1) syscall(number, file, from, size / 2, at);
+        if (size > 1 && at < 0) traced_write(file, from, size / 2);
+        if (size > 1 && at >= 0) traced_pwrite(file, from, size / 2, at);
         stop();
     }
     if (calls != wanted("FAIL")) return 0;
@@ -60,31 +88,31 @@ ssize_t pread(int file, void *into, size_t size, off_t at) {
 ssize_t pread64(int file, void *into, size_t size, off_t at) { return pread(file, into, size, at); }
 
 ssize_t write(int file, const void *from, size_t size) {
-    if (file != 2 && counted_write(WRITE, file, from, size, 0)) return -1;
-    return syscall(WRITE, file, from, size);
+    if (file != 2 && counted_write(file, from, size, -1)) return -1;
+    return traced_write(file, from, size);
 }
 ssize_t __write(int file, const void *from, size_t size) { return write(file, from, size); }
 
 ssize_t pwrite(int file, const void *from, size_t size, off_t at) {
-    if (counted_write(PWRITE, file, from, size, at)) return -1;
-    return syscall(PWRITE, file, from, size, at);
+    if (counted_write(file, from, size, at)) return -1;
+    return traced_pwrite(file, from, size, at);
 }
 ssize_t pwrite64(int file, const void *from, size_t size, off_t at) { return pwrite(file, from, size, at); }
 
-int fsync(int file) { return counted() ? -1 : (int)syscall(FSYNC, file); }
-int fdatasync(int file) { return counted() ? -1 : (int)syscall(FDATASYNC, file); }
-int ftruncate(int file, off_t size) { return counted() ? -1 : (int)syscall(TRUNCATE, file, size); }
+int fsync(int file) { return counted() ? -1 : traced_fsync(file); }
+int fdatasync(int file) { return counted() ? -1 : traced_fdatasync(file); }
+int ftruncate(int file, off_t size) { return counted() ? -1 : traced_ftruncate(file, size); }
 int ftruncate64(int file, off_t size) { return ftruncate(file, size); }
-int rename(const char *from, const char *to) { return counted() ? -1 : (int)syscall(RENAME, from, to); }
-int renameat(int a, const char *from, int b, const char *to) { return counted() ? -1 : (int)syscall(RENAMEAT, a, from, b, to); }
-int unlink(const char *name) { return counted() ? -1 : (int)syscall(UNLINK, name); }
-int unlinkat(int folder, const char *name, int flags) { return counted() ? -1 : (int)syscall(UNLINKAT, folder, name, flags); }
+int rename(const char *from, const char *to) { return counted() ? -1 : traced_rename(from, to); }
+int renameat(int a, const char *from, int b, const char *to) { return counted() ? -1 : traced_renameat(a, from, b, to); }
+int unlink(const char *name) { return counted() ? -1 : traced_unlink(name); }
+int unlinkat(int folder, const char *name, int flags) { return counted() ? -1 : traced_unlinkat(folder, name, flags); }
 int fchmod(int file, unsigned mode) { return counted() ? -1 : (int)syscall(FCHMOD, file, mode); }
 int fchown(int file, unsigned user, unsigned group) { return counted() ? -1 : (int)syscall(FCHOWN, file, user, group); }
 int flock(int file, int how) { return counted() ? -1 : (int)syscall(FLOCK, file, how); }
 
 static int opened(int folder, const char *name, int flags, unsigned mode) {
-    return counted() ? -1 : (int)syscall(OPENAT, folder, name, flags, mode);
+    return counted() ? -1 : traced_opened(folder, name, flags, mode);
 }
 
 int openat(int folder, const char *name, int flags, ...) {

@@ -1,28 +1,47 @@
 // Notes what a program does to files. Loaded before it (LD_PRELOAD), this appends an event to the file that TRACE names for each
 // call that opens, writes, cuts, syncs, renames or removes a file, once it has succeeded, and for each write to standard output.
 // An event is a line `KIND DESCRIPTOR OFFSET SIZE` and so many bytes: what was written, or names with a zero byte between them.
-// With the variable DROP_SYNCS a sync does nothing, isn't noted, and answers that it was made: to show that a test finds it.
+// With the variable TRACES, a folder, each process of olr_keep has a file of its own there, which begins with its process id.
+// A sync that is noted isn't made, which would take most of the time: the tests lose what isn't synced by these notes. With the
+// variable DROP_SYNCS it isn't noted either, and answers that it was made: to show that a test finds it.
 typedef unsigned long size_t;
 typedef long ssize_t;
 typedef long off_t;
+extern char *program_invocation_short_name;
 extern char *getenv(const char *name);
+extern int strcmp(const char *one, const char *other);
 extern long syscall(long number, ...);
 extern int snprintf(char *to, size_t size, const char *format, ...);
 
 enum {
-    WRITE = 1, OPEN = 2, SEEK = 8, PWRITE = 18, FSYNC = 74, FDATASYNC = 75, TRUNCATE = 77, RENAME = 82, UNLINK = 87, OPENAT = 257,
-    RENAMEAT = 264, UNLINKAT = 263, CREATE = 0100, HERE = -100
+    WRITE = 1, OPEN = 2, CLOSE = 3, SEEK = 8, PWRITE = 18, GETPID = 39, CONTROL = 72, FSYNC = 74, FDATASYNC = 75, TRUNCATE = 77,
+    RENAME = 82, UNLINK = 87, OPENAT = 257, RENAMEAT = 264, UNLINKAT = 263, CREATE = 0100, NEW = 0200, APPEND = 02000, HERE = -100,
+    DUPLICATE = 1030, NONE = -2
 };
 
 static int trace = -1;
 
+static int open_trace(void) {
+    char name[4096];
+    const char *one = getenv("TRACE"), *folder = getenv("TRACES");
+    int file = -1;
+    if (one) file = (int)syscall(OPEN, one, 01 | CREATE | APPEND, 0600);
+    if (!one && folder && !strcmp(program_invocation_short_name, "olr_keep"))
+        for (int k = 0; file < 0 && k < 100; k++) {
+            snprintf(name, sizeof name, "%s/%ld.%d", folder, syscall(GETPID), k);
+            file = (int)syscall(OPEN, name, 01 | CREATE | NEW | APPEND, 0600);
+        }
+    if (file < 0) return NONE;
+    // Not among the standard streams, of which some may be closed.
+    int high = (int)syscall(CONTROL, file, DUPLICATE, 500);
+    syscall(CLOSE, file);
+    return high < 0 ? NONE : high;
+}
+
 static void note(const char *kind, int file, long at, const void *bytes, size_t size) {
     char head[80];
-    if (trace < 0) {
-        const char *name = getenv("TRACE");
-        if (!name) return;
-        trace = (int)syscall(OPEN, name, 01 | CREATE | 02000, 0600);
-    }
+    if (trace == -1) trace = open_trace();
+    if (trace < 0) return;
     int n = snprintf(head, sizeof head, "%s %d %ld %lu\n", kind, file, at, size);
     syscall(WRITE, trace, head, n);
     if (size) syscall(WRITE, trace, bytes, size);
@@ -51,9 +70,8 @@ ssize_t pwrite64(int file, const void *from, size_t size, off_t at) { return pwr
 
 static int synced(long number, int file) {
     if (getenv("DROP_SYNCS")) return 0;
-    int status = (int)syscall(number, file);
-    if (!status) note("sync", file, 0, "", 0);
-    return status;
+    note("sync", file, 0, "", 0);
+    return trace < 0 ? (int)syscall(number, file) : 0;
 }
 int fsync(int file) { return synced(FSYNC, file); }
 int fdatasync(int file) { return synced(FDATASYNC, file); }
