@@ -177,8 +177,8 @@ class Round:
             known = self.waited.get(name)
             if known and known.hold is not None and not known.is_released:
                 holds.setdefault(known.hold, {})[name] = Waiting(known.hold, it, self.effect(name, it))
-        return {name: it for held in holds.values() for name, it in held.items()
-                if limits.are_exceeded(Counts.of([it.effect for it in held.values()]), count)}
+        exceeded = [it for it in holds.values() if limits.are_exceeded(Counts.of([one.effect for one in it.values()]), count)]
+        return {name: it for held in exceeded for name, it in held.items()}
 
     def held_now(self, fresh: Mapping[str, Answer], limits: Limits, count: int) -> List[Hold]:
         """The clusters of changes whose strings have to wait: (number, names, counts, streets)."""

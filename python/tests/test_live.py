@@ -728,6 +728,17 @@ class Holding(unittest.TestCase):
         outcome = self.round("", rows).judge({"a": "text,old-a", "b": "text,new"}, self.LIMITS)
         self.assertEqual((outcome.waiting, outcome.ended, set(outcome.published)), ({}, set("abc"), set("bc")))
 
+    def test_a_hold_is_judged_once(self) -> None:
+        """However many paths wait in it, so that a save beside a great hold takes no longer."""
+        names = [f"p{k}" for k in range(100)]
+        rows: Dict[str, Sequence[Any]] = {
+            "where round > 0": [(it, "old", None) for it in names],
+            "olr_keep.waiting": [(it, 1, None, "refused,1,5", "refused", False) for it in names]}
+        with unittest.mock.patch.object(Limits, "are_exceeded", autospec=True, side_effect=Limits.are_exceeded) as asked:
+            outcome = self.round("", rows).judge({"p7": "refused,1,6"}, self.LIMITS)
+        self.assertEqual((set(outcome.waiting), outcome.published), (set(names), {}))
+        self.assertLessEqual(asked.call_count, 2)
+
     def test_what_waits_as_before_is_not_written(self) -> None:
         waiting = [(name, 1, None, "refused,1,5", "refused", False) for name in "abc"]
         it = self.round("", {"where round > 0": self.PUBLISHED, "from olr_keep.waiting": waiting})
