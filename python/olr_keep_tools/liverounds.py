@@ -288,6 +288,7 @@ class Clusters:
         self.cursor, self.change, self.affected, self.names = cursor, change, affected, names
         self.parents: Dict[Item, Item] = {}
         self.cells: Dict[str, Set[Tuple[int, int]]] = {}
+        self.there: List[Item] = []  # the cells of the changes, or one of them if all are one cluster
 
     def root(self, item: Item) -> Item:
         """The first item of a cluster."""
@@ -327,10 +328,12 @@ class Clusters:
         for key, x, y in self.affected_cells(keys):
             cell = "cell", x, y
             self.join(("street", key), cell)
-        for _, x, y in [it for it in self.parents if it[0] == "cell"]:
+        cells = [it for it in self.parents if it[0] == "cell"]
+        for _, x, y in cells:
             for other in around(x, y):
                 if other in self.parents:
                     self.join(("cell", x, y), other)
+        self.there = cells if len({self.root(it) for it in cells}) > 1 else cells[:1]
 
     def affected_cells(self, keys: Iterable[str]) -> List[Tuple[str, int, int]]:
         """The cells of streets: of their vertices now, and of their boxes before."""
@@ -346,9 +349,8 @@ class Clusters:
         cells = self.cells_of(name)
         for x, y in cells:
             found.update(it for it in around(x, y) if it in self.parents)
-        if not found and cells:
-            there = [it for it in self.parents if it[0] == "cell"]
-            found = {min(there, key=lambda it: min(math.dist(it[1:], cell) for cell in cells))} if there else found
+        if not found and cells and self.there:
+            found = {min(self.there, key=lambda it: min(math.dist(it[1:], cell) for cell in cells))}
         return {self.root(it) for it in found} or {"compared"}
 
     def cells_of(self, name: str) -> Set[Tuple[int, int]]:
