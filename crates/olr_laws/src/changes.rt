@@ -1,9 +1,9 @@
 //! The laws of footprints, changes and coverage queries, and worked rows of changed lines and queries.
-ghost use Rattle.std.specs.Prelude.{◌≡◌, ℕ, [], ◌∷◌};
+ghost use Rattle.std.specs.Prelude.{◌≡◌, ℕ, List, [], ◌∷◌};
 ghost use Rattle.olr_spec.specs.Laws;
 ghost use Rattle.olr_spec.specs.Margins.{Margin};
 ghost use Rattle.olr_spec.specs.Queries.{querying};
-ghost use Rattle.olr_spec.specs.Map.{empty_map, no_coord, Add_node, Add_line};
+ghost use Rattle.olr_spec.specs.Map.{Map, ShapePoint, empty_map, no_coord, dm, Add_node, Add_line, Set_line};
 ghost use Rattle.olr_spec.specs.Detours.{changes_of};
 ghost use Rattle.olr_laws.specs.Rows.{leg10};
 
@@ -49,8 +49,11 @@ pub fn rows_querying()
     ensures three_lines { querying (11 ∷ 12 ∷ 13 ∷ []) (0 ∷ 3 ∷ []) ≡ 0 ∷ [] }
 {}
 
-/// The lines that an edit changes: an added line with its length, and none for an added node.
+/// The lines that an edit changes: an added line with its length, and none for an added node, or where a line is set to
+/// the length that it has.
 pub fn rows_changes()
     ensures line { changes_of empty_map (Add_line 7 leg10.line) ≡ record { from = 1; to = 2; len = 5610 } ∷ [] }
     ensures node { changes_of empty_map (Add_node 7 no_coord) ≡ [] }
+    ensures own_length { (M : Map) (x frc fow : ℕ) (shape : List ShapePoint)
+        → changes_of M (Set_line x frc fow (dm M x) shape) ≡ [] }
 {}

@@ -1,14 +1,13 @@
 -- The slots of an edit's nodes: of an accepted edit, and where no node's slot changes. The faults of a map as returned.
 use Rattle.olr_map.proofs.Common.{common_steps, TableChange, change_edit, IsReserved, tables_map, AreSlots, node_slot}
-use Rattle.olr_map.proofs.Common.{eqb-true, has_node, RoadMap, slot_by, SlotIndex, Option, Result, eq-eqb, IsOk, arith}
-use Rattle.olr_map.proofs.Common.{start, subst, List, Some, refl, true, ◌==◌, ◌||◌, Err, Map, end, has, map, sym, ◌∙◌}
+use Rattle.olr_map.proofs.Common.{eqb-true, has_node, RoadMap, slot_by, SlotIndex, Result, eq-eqb, IsOk, arith}
+use Rattle.olr_map.proofs.Common.{start, subst, Some, refl, true, ◌==◌, ◌||◌, Err, Map, end, has, map, sym, ◌∙◌}
 use Rattle.olr_map.proofs.Common.{◌∷◌, ◌≡◌, Ok, [], ap, ℕ}
 use Rattle.std.proofs.Common.{MatchResult}
-use Rattle.std.specs.Option.{option_to_list}
 use Rattle.olr_spec.specs.Map.{MapFault}
 use Rattle.olr_spec.specs.Detours.{ChangedLine, changes_of}
 use Rattle.olr_model.specs.Edits.{edit_fault_of}
-use Rattle.olr_map.specs.EditPlans.{IsEditPlan}
+use Rattle.olr_map.specs.EditPlans.{IsEditPlan, planned_changes}
 use Rattle.olr_model.specs.declared.edit.EditFault.{EditFault}
 use Rattle.olr_map.specs.declared.judging.EditPlan.{EditPlan}
 use Rattle.olr_map.proofs.Making.{made_from}
@@ -32,10 +31,8 @@ slots_reserved old mid at e c r same h =
     (slots_stay old.index mid.index (tables_map old) (tables_map mid) at e r.slots r.map h)
 
 -- the ends of the one changed line
-planned_ends : (line : Option ℕ) (from to len : ℕ) (c : ChangedLine) →
-    ◌≡◌ {A = List ChangedLine} (map (λ (_ : ℕ). record { from = from; to = to; len = len }) (option_to_list line))
-    (c ∷ []) → (from ≡ c.from) × (to ≡ c.to)
-planned_ends line from to len c e = grind (arith, common_steps)
+planned_ends : (j : EditPlan) (c : ChangedLine) → planned_changes j ≡ c ∷ [] → (j.nodes.0 ≡ c.from) × (j.nodes.1 ≡ c.to)
+planned_ends j c e = grind (arith, common_steps)
 
 -- the one node
 planned_node : (v a b : ℕ) → ((u : ℕ) → has (v ∷ []) u ≡ ((a == u) || (b == u))) → v ≡ a
@@ -57,7 +54,7 @@ module _ (t : RoadMap) where
       has_node M c.from ≡ true → has_node M c.to ≡ true
       → (slot_by b c.from ≡ Some j.slots.0) × (slot_by b c.to ≡ Some j.slots.1)
   ends_at j e c h is from to =
-      let ends = planned_ends j.line j.nodes.0 j.nodes.1 j.len c (h.changes ∙ is) in
+      let ends = planned_ends j c (h.changes ∙ is) in
       (slot_at c.from j.nodes.0 j.slots.0 ends.0 h.first from, slot_at c.to j.nodes.1 j.slots.1 ends.1 h.second to)
 
   line_ends : (x : ℕ) → maps.has_line M x ≡ true → (has_node M (start M x) ≡ true) × (has_node M (end M x) ≡ true)
@@ -74,7 +71,7 @@ module _ (t : RoadMap) where
       ends_at j (maps.Add_line x l) _ h refl s.1 s.2
   plan_slots (maps.Set_line x frc fow len shape) j h =
       let s = line_ends x (made_from M (maps.Set_line x frc fow len shape) h.accepted).0 in
-      ends_at j (maps.Set_line x frc fow len shape) _ h refl s.0 s.1
+      (slot_at (start M x) j.nodes.0 j.slots.0 h.ends.0 h.first s.0, slot_at (end M x) j.nodes.1 j.slots.1 h.ends.1 h.second s.1)
   plan_slots (maps.Drop_line x) j h =
       let s = line_ends x (made_from M (maps.Drop_line x) h.accepted).0 in
       ends_at j (maps.Drop_line x) _ h refl s.0 s.1

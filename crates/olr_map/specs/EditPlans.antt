@@ -1,10 +1,10 @@
 -- What an edit touches on a map that accepts it, as one value.
---     plan_lines j, planned_changes j      its line, and that line as a changed one
+--     plan_lines j, planned_changes j      its line, and that line as a changed one, if the edit can change routes
 --     IsEditPlan M slot e j      the map accepts edit e, and j is what it touches: nodes with their slots, and a line
 --         with its change
 --     AreSlots b M at e, AreEnds M nodes e      at: the slots of the nodes of e that exist before it; nodes: the
 --         ends of the line that e sets
-use Rattle.std.specs.Prelude.{◌≡◌, ◌==◌, ◌||◌, ℕ, List, map, Some, IsTrue, IsOk, ⊤}
+use Rattle.std.specs.Prelude.{◌≡◌, ◌==◌, ◌||◌, ℕ, List, [], ◌∷◌, Some, IsTrue, IsOk, if◌then◌else◌, ⊤}
 use Rattle.std.specs.Option.{option_to_list}
 use Rattle.olr_spec.specs.Map as maps
 use Rattle.olr_spec.specs.Map.{Map, has_node, start, end, edited, touched_nodes, touched_lines, has, HasCoord}
@@ -17,7 +17,13 @@ abbrev pub plan_lines : EditPlan → List ℕ
 plan_lines j = option_to_list j.line
 
 abbrev pub planned_changes : EditPlan → List ChangedLine
-planned_changes j = map (λ _. record { from = j.nodes.0; to = j.nodes.1; len = j.len }) (option_to_list j.line)
+planned_changes j =
+    if j.changes_routes then record { from = j.nodes.0; to = j.nodes.1; len = j.len } ∷ [] else []
+
+-- the ends of the line that e sets
+abbrev pub AreEnds : Map → ℕ × ℕ → maps.Edit → Type 0
+AreEnds M nodes (maps.Set_line x frc fow len shape) = (nodes.0 ≡ start M x) × (nodes.1 ≡ end M x)
+AreEnds M nodes _ = ⊤
 
 pub record IsEditPlan (M : Map) (slot : ℕ → ℕ) (e : maps.Edit) (j : EditPlan) : Type 0 where
   pub accepted : IsOk (edited M e)
@@ -25,6 +31,7 @@ pub record IsEditPlan (M : Map) (slot : ℕ → ℕ) (e : maps.Edit) (j : EditPl
   pub nodes : (v : ℕ) → has (touched_nodes M e) v ≡ ((j.nodes.0 == v) || (j.nodes.1 == v))
   pub lines : plan_lines j ≡ touched_lines e
   pub changes : planned_changes j ≡ changes_of M e
+  pub ends : AreEnds M j.nodes e
   pub first : IsTrue (has_node M j.nodes.0) → slot j.nodes.0 ≡ j.slots.0
   pub second : IsTrue (has_node M j.nodes.1) → slot j.nodes.1 ≡ j.slots.1
 
@@ -35,8 +42,3 @@ AreSlots b M at (maps.Set_line x frc fow len shape) =
     (slot_by b (start M x) ≡ Some at.0) × (slot_by b (end M x) ≡ Some at.1)
 AreSlots b M at (maps.Drop_line x) = (slot_by b (start M x) ≡ Some at.0) × (slot_by b (end M x) ≡ Some at.1)
 AreSlots b M at _ = ⊤
-
--- the ends of the line that e sets
-abbrev pub AreEnds : Map → ℕ × ℕ → maps.Edit → Type 0
-AreEnds M nodes (maps.Set_line x frc fow len shape) = (nodes.0 ≡ start M x) × (nodes.1 ≡ end M x)
-AreEnds M nodes _ = ⊤

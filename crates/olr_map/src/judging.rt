@@ -1,5 +1,5 @@
 //! Why a map rejects an edit, or what the edit touches, for every `MapRead`.
-ghost use Rattle.std.specs.Prelude.{◌≡◌, Some, None, Err, IsOk, IfOk, MatchResult};
+ghost use Rattle.std.specs.Prelude.{◌≡◌, Some, None, Err, false, IsOk, IfOk, MatchResult};
 ghost use Rattle.std.specs.FinMap.{get};
 ghost use Rattle.olr_spec.specs.Map.{edited, Add_node, Move_node, Drop_node, Add_line, Set_line, Drop_line};
 ghost use Rattle.olr_model.specs.Edits.{edit_of, edit_fault_of};
@@ -20,6 +20,8 @@ pub struct EditPlan {
     /// The lesser of the line's lengths before and after the edit, in decimetres. The line's length if it is added or
     /// removed. 0 if no line is touched.
     pub len: u32,
+    /// Whether the edit can change the length of routes: the line is added or removed, or set to another length.
+    pub changes_routes: bool,
 }
 
 /// The first fault of the edit on this map, or what the edit touches. Out of memory is not tested.
@@ -107,6 +109,7 @@ fn judge_line_added<M: MapRead>(map: &M, id: LineId, line: &Line) -> Result<Edit
         slots: (from, to),
         line: Some(id),
         len: line.len,
+        changes_routes: true,
     })
 }
 
@@ -129,7 +132,7 @@ fn judge_line_set<M: MapRead>(
     if !has_good_fields(frc, fow, len, shape) {
         return Err(EditFault::BadShape);
     }
-    Ok(line_plan(map, id, was, was.len.min(len)))
+    Ok(line_plan(map, id, was, was.len.min(len), was.len != len))
 }
 
 /// A line can be removed only if it is on the map.
@@ -139,31 +142,40 @@ fn judge_line_dropped<M: MapRead>(map: &M, id: LineId) -> Result<EditPlan, EditF
     ensures plan { IfOk result (IsEditPlan (M.map map.now) (M.node_slot map.now) (Drop_line id)) }
 {
     match map.line(id) {
-        Some(was) => Ok(line_plan(map, id, was, was.len)),
+        Some(was) => Ok(line_plan(map, id, was, was.len, true)),
         None => Err(EditFault::NoLine),
     }
 }
 
 /// What an edit touches that adds, moves or removes a node.
 fn node_plan(id: NodeId, slot: u32) -> EditPlan
-    ensures { result ≡ record { nodes = (id, id); slots = (slot, slot); line = None; len = 0 } }
+    ensures { result ≡ record { nodes = (id, id); slots = (slot, slot); line = None; len = 0; changes_routes = false } }
 {
     EditPlan {
         nodes: (id, id),
         slots: (slot, slot),
         line: None,
         len: 0,
+        changes_routes: false,
     }
 }
 
-/// What an edit touches that sets or removes this line of the map, with the lesser of its lengths.
-fn line_plan<M: MapRead>(map: &M, id: LineId, was: &Line, len: u32) -> EditPlan
+/// What an edit touches that sets or removes this line of the map, with the lesser of its lengths, and whether it can
+/// change the length of routes.
+fn line_plan<M: MapRead>(
+    map: &M,
+    id: LineId,
+    was: &Line,
+    len: u32,
+    changes_routes: bool,
+) -> EditPlan
     requires { get (M.map map.now).lines id ≡ Some was.now }
     ensures nodes { result.nodes ≡ (was.now.from, was.now.to) }
     ensures begin { M.node_slot map.now was.now.from ≡ result.slots.0 }
     ensures end { M.node_slot map.now was.now.to ≡ result.slots.1 }
     ensures line { result.line ≡ Some id }
     ensures len { result.len ≡ len }
+    ensures changes { result.changes_routes ≡ changes_routes }
 {
     let from = map.slot_of(was.from).unwrap();
     let to = map.slot_of(was.to).unwrap();
@@ -172,5 +184,6 @@ fn line_plan<M: MapRead>(map: &M, id: LineId, was: &Line, len: u32) -> EditPlan
         slots: (from, to),
         line: Some(id),
         len,
+        changes_routes,
     }
 }

@@ -6,12 +6,12 @@ use Rattle.olr_register.proofs.Common.{EditPlan, Item, AreEncodingsIfAny, all_na
 use Rattle.olr_register.proofs.Common.{ChangeSet, IsNotedOf, AreEditsNoted, Some, RoadMap, map_of, map_before}
 use Rattle.olr_register.proofs.Common.{under_batch, IsRegister, CanRenew, Batch, ◌==◌, Contains, Margin, IsContent}
 use Rattle.olr_register.proofs.Common.{to_renew, content_on, follows_without, is_margin, map, without_answer, Begins, CoverageQuery}
-use Rattle.std.proofs.Common.{IsTrue}
+use Rattle.std.proofs.Common.{IsTrue, Bool, cond}
 use Rattle.olr_register.proofs.Listed.{named_to_renew}
 use Rattle.std.specs.Option.{option_to_list}
-use Rattle.std.proofs.lemmas.Bool.{or_left}
+use Rattle.std.proofs.lemmas.Bool.{or_left, cases_Bool}
 use Rattle.std.proofs.lemmas.List.Elements.{Contains-append_cases}
-use Rattle.olr_spec.specs.Map.{Add_node, Move_node, Drop_node, Add_line, Set_line, Drop_line, end}
+use Rattle.olr_spec.specs.Map.{Add_node, Move_node, Drop_node, Add_line, Set_line, Drop_line, end, dm}
 use Rattle.olr_spec.proofs.ListLemmas.{has_here, Contains-cases}
 use Rattle.olr_spec.proofs.ChangeLemmas.{edit_differs, none_differs, differences_add}
 use Rattle.olr_commands.specs.State.{ArePaths, NamesDiffer}
@@ -31,13 +31,17 @@ starts_of_one T d c h k =
           absurd (none_contained c n)
     ]
 
+listed_unless : (same : Bool) (d c : ChangedLine) → Contains (cond same [] (d ∷ [])) c → Contains (d ∷ []) c
+listed_unless same d c k = grind (arith, none_contained, cases_Bool same)
+
 starts_of : (M : Map) (e : Edit) (c : ChangedLine) → Contains (changes_of M e) c → has (touched_nodes M e) c.from ≡ true
 starts_of M (Add_node v p) c k = absurd (none_contained c k)
 starts_of M (Move_node v p) c k = absurd (none_contained c k)
 starts_of M (Drop_node v) c k = absurd (none_contained c k)
 starts_of M (Add_line x l) c k = starts_of_one (l.from ∷ l.to ∷ []) _ c (has_here l.from (l.to ∷ [])) k
 starts_of M (Set_line x frc fow len shape) c k =
-    starts_of_one (start M x ∷ end M x ∷ []) _ c (has_here (start M x) (end M x ∷ [])) k
+    starts_of_one (start M x ∷ end M x ∷ []) _ c (has_here (start M x) (end M x ∷ []))
+    (listed_unless (dm M x == len) _ c k)
 starts_of M (Drop_line x) c k = starts_of_one (start M x ∷ end M x ∷ []) _ c (has_here (start M x) (end M x ∷ [])) k
 
 -- ---- no edit, and one edit more

@@ -20,11 +20,13 @@ use olr_renewal::{
 use std::alloc::{AllocError, Global};
 
 /// The line that a judged edit changes: its ends, and the lesser of its lengths before and after. None if the edit is
-/// of a node.
+/// of a node, or leaves the line as long as it was.
 pub(crate) fn line_changed(plan: &EditPlan) -> Option<ChangedLine>
     ensures { list_map change_of (option_to_list result) ≡ planned_changes plan.now }
 {
-    plan.line?;
+    if !plan.changes_routes {
+        return None;
+    }
     Some(ChangedLine {
         from: plan.nodes.0,
         to: plan.nodes.1,

@@ -3,8 +3,8 @@ use Rattle.olr_spec.proofs.Common.{inl, ◌≡◌, ◌≢◌, ℕ, false, List, 
 use Rattle.olr_spec.proofs.Common.{◌==◌, Some, T, nat_cmp, [], both_ways, or_parts, list_any-append, get, FinMap, Map}
 use Rattle.olr_spec.proofs.Common.{Line, has_line, start, end, dm, Edit, edited, touched_nodes, SameRound, has}
 use Rattle.olr_spec.proofs.Common.{ChangedLine, AccountsFor, Coord, Contains-append_left, Contains-append_right}
-use Rattle.olr_spec.proofs.Common.{changes_of, IsChangedLine, EditsDiffer, NoDifference, DifferencesAdd}
-use Rattle.olr_spec.proofs.Facts.{known_record, Contains-here}
+use Rattle.olr_spec.proofs.Common.{changes_of, IsChangedLine, EditsDiffer, NoDifference, DifferencesAdd, cases_eq}
+use Rattle.olr_spec.proofs.Facts.{known_record, Contains-here, same_way, same_way_on}
 use Rattle.olr_spec.proofs.EditLemmas.{edits_are_local, other_lines, edit_laws}
 
 -- ---- one edit
@@ -18,16 +18,16 @@ abbrev BothAccount : List ChangedLine → Map → Map → Type 0
 BothAccount C M N = AccountsFor C M N × AccountsFor C N M
 
 nodes_accounted : (M N : Map) (nodes : FinMap nat_cmp Coord) → record M { nodes = nodes } ≡ N → BothAccount [] M N
-nodes_accounted M N nodes is = rw (← is) ((λ x h. inl refl), (λ x h. inl refl))
+nodes_accounted M N nodes is = rw (← is) ((λ x h. inl (same_way M _ x refl)), (λ x h. inl (same_way _ M x refl)))
 
 lines_accounted : (M N : Map) (y : ℕ) (lines : FinMap nat_cmp Line) (c : ChangedLine) → record M { lines = lines } ≡ N →
     ((x : ℕ) → x ≢ y → get lines x ≡ get M.lines x) → (IsTrue (has_line M y) → IsChangedLine (c ∷ []) M y) →
     ((l : Line) → get lines y ≡ Some l → (c.from ≡ l.from) × (c.to ≡ l.to) × (c.len ≤ l.len)) →
     BothAccount (c ∷ []) M N
-lines_accounted M N y lines c is other before after = grind (arith, known_record)
+lines_accounted M N y lines c is other before after = grind (arith, known_record, same_way)
 
 edit_accounted : (M N : Map) (e : Edit) → edited M e ≡ Ok N → BothAccount (changes_of M e) M N
-edit_accounted M N e p = grind (arith, edit_laws, nodes_accounted, lines_accounted, accounted_alone, both_ways)
+edit_accounted M N e p = grind (arith, edit_laws, nodes_accounted, lines_accounted, accounted_alone, both_ways, cases_eq, same_way)
 
 pub edit_differs : EditsDiffer
 edit_differs M N e p =
@@ -43,7 +43,7 @@ edit_differs M N e p =
 -- ---- no difference
 
 pub none_differs : NoDifference
-none_differs M = search (inl)
+none_differs M = search (inl, same_way)
 
 -- ---- consecutive changes
 
@@ -59,4 +59,4 @@ not_either xs ys v h = or_parts (has xs v) (has ys v) (sym (list_any-append (λ 
 
 pub differences_add : DifferencesAdd
 differences_add L M N T U X Y C D p q =
-    grind (arith, Contains-append_left C D, Contains-append_right C D, not_either T U, round_on L M N, not_either X Y)
+    grind (arith, Contains-append_left C D, Contains-append_right C D, not_either T U, round_on L M N, not_either X Y, same_way_on)

@@ -9,7 +9,7 @@ pub use Rattle.olr_spec.specs.Coordinates.{Coord, abs24, fits16, is_coord, relat
 pub use Rattle.olr_spec.specs.Coordinates.{is_latitude, is_longitude, nearest}
 pub use Rattle.olr_spec.specs.Decoded.{IsNear, decoded_bound, decoded, steps_sum}
 pub use Rattle.olr_spec.specs.Degrees.{before_point, digits_value}
-pub use Rattle.olr_spec.specs.Detours.{AccountsFor, ChangedLine, Detour, Near, IsChangedLine, changes_of}
+pub use Rattle.olr_spec.specs.Detours.{AccountsFor, ChangedLine, Detour, Near, IsChangedLine, SameWay, changes_of}
 pub use Rattle.olr_spec.specs.Encoding.{Answer, Encodes, EncodesWith, Encoding, EncodingWith, Points, Refusal, Refused}
 pub use Rattle.olr_spec.specs.Encoding.{answer_by_points, answer_by_points_with, first_break, first_unknown, path_fault}
 pub use Rattle.olr_spec.specs.Encoding.{IsPoint, IsPointWith, No_next_point, Unknown_line}

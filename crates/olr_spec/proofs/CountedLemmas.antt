@@ -37,7 +37,7 @@ pub counted_other : (g : Margin) (M : Map) (xs : List ℕ) (y : ℕ) → has xs 
 counted_other g M xs y off = grind (arith, get_counted g M xs y, cases_Bool (has_line M y), cases_Bool (g.routes == 0))
 
 -- without a margin a line counts as it is
-counted_none : (g : Margin) (len : ℕ) → g.routes ≡ 0 → counted_dm g len ≡ len
+pub counted_none : (g : Margin) (len : ℕ) → g.routes ≡ 0 → counted_dm g len ≡ len
 counted_none g len e = omega (arith, ap (λ r. (len * r + 999) / 1000) e)
 
 pub counted_own : (g : Margin) (M : Map) (xs : List ℕ) (y : ℕ) → IsTrue (has_line M y) → has xs y ≡ true →

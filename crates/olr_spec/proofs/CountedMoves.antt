@@ -1,29 +1,35 @@
 -- What counts the same on two maps, and what the front of a route counts.
-use Rattle.olr_spec.proofs.Common.{inl, inr, ◌≡◌, ℕ, ◌+◌, ◌≤◌, ◌↔◌, cond, List, [], ◌∷◌, ◌++◌, refl, sym, ap, subst}
-use Rattle.olr_spec.proofs.Common.{◌∙◌, Option, Some, is_some, unwrap_or, arith, IsTrue, ◌&&◌, ◌==◌, cases_Bool, has}
-use Rattle.olr_spec.proofs.Common.{get, Line, no_line, Map, has_line, dm_of, SameLine, IsRoute, append-nil}
+use Rattle.olr_spec.proofs.Common.{inl, inr, ◌≡◌, ℕ, ◌+◌, ◌≤◌, ◌↔◌, cond, List, [], ◌∷◌, ◌++◌, refl, sym, subst}
+use Rattle.olr_spec.proofs.Common.{◌∙◌, Bool, arith, IsTrue, ◌&&◌, ◌==◌, cases_Bool, has, SameWay}
+use Rattle.olr_spec.proofs.Common.{Map, has_line, dm, dm_of, IsRoute, append-nil}
 use Rattle.olr_spec.proofs.Common.{list_any-append, or_left, ChangedLine, AccountsFor, Detour}
-use Rattle.olr_spec.specs.Margins.{Margin, counted, counted_dm_of, CountedRoute}
+use Rattle.olr_spec.specs.Margins.{Margin, counted, counted_dm, counted_dm_of, CountedRoute}
 use Rattle.olr_spec.proofs.ListLemmas.{Each, Each-head, Each-tail, Each-left, Each-right}
 use Rattle.olr_spec.proofs.RouteLemmas.{dm_of-append, IsRoute-append}
 use Rattle.olr_spec.proofs.WayLemmas.{route_known}
-use Rattle.olr_spec.proofs.AgreeLemmas.{same_dm_of}
 use Rattle.olr_spec.proofs.RouteMoves.{SameRoutes, IsRoute-moves, unique_same, same_there, same_here, detour_of}
-use Rattle.olr_spec.proofs.CountedLemmas.{longer, get_counted, route_counted, counted_least, counted_own, counted_other}
+use Rattle.olr_spec.proofs.RouteMoves.{ways_dm_of}
+use Rattle.olr_spec.proofs.CountedLemmas.{get_counted, route_counted, counted_least, counted_own, counted_other}
+use Rattle.olr_spec.proofs.CountedLemmas.{counted_none, counted_known, counted_start, counted_end}
 
--- the record that a line counts with, by the one that it has
-abbrev as_counted : Margin → List ℕ → ℕ → Option Line → Option Line
-as_counted g xs x o = cond (g.routes == 0) o (cond (has xs x && is_some o) (Some (longer g (unwrap_or o no_line))) o)
+-- what a line counts, by whether it is on the map, and its length
+abbrev as_counted : Margin → List ℕ → ℕ → Bool → ℕ → ℕ
+as_counted g xs x known len = cond (has xs x && known) (counted_dm g len) len
 
-got_counted : (g : Margin) (M : Map) (xs : List ℕ) (x : ℕ) → get (counted g M xs).lines x ≡ as_counted g xs x (get M.lines x)
-got_counted g M xs x = grind (arith, get_counted g M xs x, cases_Bool (g.routes == 0))
+got_counted : (g : Margin) (M : Map) (xs : List ℕ) (x : ℕ) → dm (counted g M xs) x ≡ as_counted g xs x (has_line M x) (dm M x)
+got_counted g M xs x = grind (arith, get_counted g M xs x, cases_Bool (g.routes == 0), counted_none)
 
-counted_line_same : (g : Margin) (M N : Map) (xs : List ℕ) (x : ℕ) → SameLine M N x → SameLine (counted g M xs) (counted g N xs) x
-counted_line_same g M N xs x e = got_counted g M xs x ∙ ap (as_counted g xs x) e ∙ sym (got_counted g N xs x)
+counted_way_same : (g : Margin) (M N : Map) (xs : List ℕ) (x : ℕ) → SameWay M N x → SameWay (counted g M xs) (counted g N xs) x
+counted_way_same g M N xs x e = record {
+  known = counted_known g M xs x ∙ e.known ∙ sym (counted_known g N xs x);
+  from = counted_start g M xs x ∙ e.from ∙ sym (counted_start g N xs x);
+  to = counted_end g M xs x ∙ e.to ∙ sym (counted_end g N xs x);
+  len = got_counted g M xs x ∙ (λ i. as_counted g xs x (e.known i) (e.len i)) ∙ sym (got_counted g N xs x);
+}
 
-pub counted_length_same : (g : Margin) (M N : Map) (xs : List ℕ) → Each (SameLine M N) xs → counted_dm_of g M xs ≡ counted_dm_of g N xs
+pub counted_length_same : (g : Margin) (M N : Map) (xs : List ℕ) → Each (SameWay M N) xs → counted_dm_of g M xs ≡ counted_dm_of g N xs
 counted_length_same g M N xs h =
-    same_dm_of (counted g M xs) (counted g N xs) xs (λ x on. counted_line_same g M N xs x (h x on))
+    ways_dm_of (counted g M xs) (counted g N xs) xs (λ x on. counted_way_same g M N xs x (h x on))
 
 pub counted_longer : (g : Margin) (M : Map) (xs ys : List ℕ) → Each (λ x. IsTrue (has_line M x)) ys → dm_of M ys ≤ dm_of (counted g M xs) ys
 counted_longer g M xs [] known = omega arith
@@ -39,7 +45,7 @@ pub counted_routes : (g : Margin) (M N : Map) (xs : List ℕ) (s t d : ℕ) → 
 counted_routes g M N xs s t d same ys w h =
     let here = route_counted g M xs s t ys w in
     let each = same ys here (omega (arith, h, counted_longer g M xs ys (route_known M s t ys here))) in
-    λ x on. counted_line_same g M N xs x (each x on)
+    λ x on. counted_way_same g M N xs x (each x on)
 
 -- lines count at least as much where more of them are own ones
 more_counts : (g : Margin) (M : Map) (xs rest ys : List ℕ) → Each (λ x. IsTrue (has_line M x)) ys →
@@ -79,7 +85,7 @@ clear_front g M N C there here s v t xs ys w u clear =
     let whole = IsRoute-append M s v t xs ys w u in
     let same = same_there M N C s t (counted_dm_of g M (xs ++ ys)) there here clear (xs ++ ys) whole
     (counted_longer g M (xs ++ ys) (xs ++ ys) (route_known M s t (xs ++ ys) whole)) in
-    let rest = Each-right (SameLine M N) xs ys same in
+    let rest = Each-right (SameWay M N) xs ys same in
     let d = counted_dm_of g M xs in
     let clear_part : ¬ Detour N C s v d = λ o. clear (detour_of o.first o.last o.first_listed o.last_listed o.before
     (o.after ++ ys) o.leads (IsRoute-append N o.last.to v t o.after ys o.returns (IsRoute-moves M N v t ys rest u))
@@ -88,12 +94,12 @@ clear_front g M N C there here s v t xs ys w u clear =
       o.within,
       front_counts g M xs ys (route_known M s v xs w) (route_known M v t ys u),
       dm_of-append N o.after ys,
-      same_dm_of M N ys rest,
+      ways_dm_of M N ys rest,
     ))) in
     unique_same (counted g M xs) (counted g N xs) s v d
     (counted_routes g M N xs s v d (same_there M N C s v d there here clear_part))
     (counted_routes g N M xs s v d (same_here M N C s v d there here clear_part)) xs
-    (counted_length_same g M N xs (Each-left (SameLine M N) xs ys same)) (omega arith)
+    (counted_length_same g M N xs (Each-left (SameWay M N) xs ys same)) (omega arith)
 
 pub clear_whole : (g : Margin) (M N : Map) (C : List ChangedLine) → AccountsFor C M N → AccountsFor C N M → (s t : ℕ)
     (xs : List ℕ) → IsRoute M s t xs → ¬ Detour N C s t (counted_dm_of g M xs) → CountedRoute g M s t xs ↔ CountedRoute g N s t xs

@@ -19,7 +19,7 @@ pub use Rattle.olr_spec.proofs.RouteLemmas.{IsRoute-append, IsRoute-split, dm_of
 pub use Rattle.olr_spec.proofs.RouteLemmas.{longer, not_before_itself, nothing_below_nil, one_least, positive}
 pub use Rattle.olr_spec.proofs.RouteLemmas.{prefix_of_least, prefix_of_unique, unique_least}
 pub use Rattle.olr_spec.proofs.RouteMoves.{IsRoute-moves, clear_unique, near_same, reach_same, routes_same}
-pub use Rattle.olr_spec.proofs.RouteMoves.{same_there, unique_same, within, within_other}
+pub use Rattle.olr_spec.proofs.RouteMoves.{same_there, same_way, same_way_on, same_ways, unique_same, within, within_other}
 pub use Rattle.olr_spec.proofs.RunLemmas.{AreRuns, end_runs, extended_keeps, last_known, last_push, no_longer, one_end}
 pub use Rattle.olr_spec.proofs.RunLemmas.{one_start, one_tried, start_runs}
 pub use Rattle.olr_spec.proofs.RunMoves.{Alike, EndRun-known, EndRun-push, StartRun-known, longest_end_moves}

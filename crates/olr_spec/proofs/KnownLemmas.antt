@@ -4,9 +4,9 @@ use Rattle.olr_spec.proofs.WayLemmas.{route_known}
 use Rattle.olr_spec.proofs.CountedLemmas.{route_counted}
 use Rattle.olr_spec.proofs.CountedMoves.{counted_longer, counted_length_same, clear_front, clear_whole}
 use Rattle.olr_spec.proofs.Common.{◌≡◌, ℕ, ◌+◌, List, ◌∷◌, ◌<◌, ◌≤◌, sym, ap, ◌∙◌, subst, arith, slice_index, [], Map}
-use Rattle.olr_spec.proofs.Common.{start, end, SameLine, IsRoute, stretch, ChangedLine, AccountsFor, Detour, IsClear}
+use Rattle.olr_spec.proofs.Common.{start, end, SameWay, IsRoute, stretch, ChangedLine, AccountsFor, Detour, IsClear}
 use Rattle.olr_spec.proofs.Common.{KnownQuery, KnownRetained, All-contains, get_or}
-use Rattle.olr_spec.proofs.Facts.{Each, Each-head, Each-right, IsRoute-split, same_start, IsRoute-moves}
+use Rattle.olr_spec.proofs.Facts.{Each, Each-head, Each-right, IsRoute-split, IsRoute-moves}
 use Rattle.olr_spec.proofs.Facts.{same_there, stretch_first}
 use Rattle.olr_spec.specs.Queries.{IsKnownWith}
 use Rattle.olr_spec.proofs.QueryLemmas.{stretch_parts}
@@ -32,7 +32,7 @@ module _ {g : Margin} (M N : Map) (C : List ChangedLine) (there : AccountsFor C 
   abbrev part : ℕ → List ℕ
   part m = stretch ls e.first m
 
-  same : Each (SameLine M N) whole
+  same : Each (SameWay M N) whole
   same = same_there M N C s t e.query.within there here clear whole k.route
       (omega (arith, k.within, counted_longer g M whole whole (route_known M s t whole k.route)))
 
@@ -56,9 +56,9 @@ module _ {g : Margin} (M N : Map) (C : List ChangedLine) (there : AccountsFor C 
         within = k.within ∙ counted_length_same g M N whole same;
         before = λ m h lt.
             let parts = stretch_parts ls e.first m e.last h (omega arith) in
-            let rest = Each-right (SameLine M N) (part m) (stretch ls m e.last) (subst (Each (SameLine M N)) parts same) in
-            let line = same_start M N (slice_index ls m) (Each-head (SameLine M N) (slice_index ls m) (stretch ls (m + 1) e.last)
-            (subst (Each (SameLine M N)) (stretch_first ls m e.last lt (omega arith)) rest)) in
+            let rest = Each-right (SameWay M N) (part m) (stretch ls m e.last) (subst (Each (SameWay M N)) parts same) in
+            let line = (Each-head (SameWay M N) (slice_index ls m) (stretch ls (m + 1) e.last)
+            (subst (Each (SameWay M N)) (stretch_first ls m e.last lt (omega arith)) rest)).from in
             subst (λ (v : ℕ). CountedRoute g N s v (part m)) line
             ((clear_front g M N C there here s (start M (slice_index ls m)) t (part m) (stretch ls m e.last)
             (front m h lt) (after m h lt)

@@ -4,9 +4,9 @@ use Rattle.olr_spec.specs.Margins.{Margin, counted, counted_dm_of, CountedRoute,
 use Rattle.olr_spec.proofs.Common.{inl, inr, ◌≡◌, ℕ, ◌+◌, ◌-◌, min, List, ◌++◌, length, ◌<◌, ◌≤◌, sym, ap, subst, arith}
 use Rattle.olr_spec.proofs.Common.{drop-drop, ◌↔◌, slice_index, cases_lt, Map, start, end, SameLine, SameRound, IsRoute}
 use Rattle.olr_spec.proofs.Common.{dm_of, Reaches, limit, stretch, CoveredWith, ChangedLine, AccountsFor}
-use Rattle.olr_spec.proofs.Common.{Detour, Needed, IsLastTestedWith, query_to_with, IsClear}
+use Rattle.olr_spec.proofs.Common.{Detour, Needed, IsLastTestedWith, query_to_with, IsClear, SameWay}
 use Rattle.olr_spec.proofs.Facts.{Each, Each-range, has_index, same_start, same_end}
-use Rattle.olr_spec.proofs.Facts.{same_dm_of, IsRoute-moves, unique_same, within, within_other}
+use Rattle.olr_spec.proofs.Facts.{same_dm_of, same_ways, IsRoute-moves, unique_same, within, within_other}
 use Rattle.olr_spec.proofs.Facts.{way_between, next_start}
 use Rattle.olr_spec.proofs.WayLemmas.{route_known}
 use Rattle.olr_spec.proofs.JoinLemmas.{CountedTo}
@@ -72,8 +72,8 @@ module _ {g : Margin} (M N : Map) (ls : List ℕ) (same : Each (SameLine M N) ls
   parts : (m : ℕ) → i < m → m ≤ k → part k ≡ part m ++ stretch ls m k
   parts m h upto = stretch_parts ls (i + 1) m k (omega arith) upto
 
-  part_same : (p q : ℕ) → Each (SameLine M N) (stretch ls p q)
-  part_same p q = Each-range (SameLine M N) ls p q same
+  ways : (p q : ℕ) → Each (SameWay M N) (stretch ls p q)
+  ways p q = same_ways M N (stretch ls p q) (Each-range (SameLine M N) ls p q same)
 
   -- with the ends that the lines have on the other map
   moved : (m : ℕ) → m ≤ k → CountedRoute g M from (at m) (part m) ↔ CountedRoute g N from (at m) (part m)
@@ -85,7 +85,7 @@ module _ {g : Margin} (M N : Map) (ls : List ℕ) (same : Each (SameLine M N) ls
   to_same = λ j. record {
     from = from_same j;
     to = at_same k query.inside j;
-    within = counted_length_same g M N (part k) (part_same (i + 1) k) j;
+    within = counted_length_same g M N (part k) (ways (i + 1) k) j;
   }
 
   pub clear_routes : (C : List ChangedLine) → AccountsFor C M N → AccountsFor C N M → IsClear N C (query_to_with g M ls i k)
@@ -105,7 +105,7 @@ module _ {g : Margin} (M N : Map) (ls : List ℕ) (same : Each (SameLine M N) ls
       moved m upto (unique_same (counted g M (part m)) (counted g N (part m)) from (at m) d
       (counted_routes g M N (part m) from (at m) d (within M N from d round (at m)))
       (counted_routes g N M (part m) from (at m) d (within_other M N from d round (at m))) (part m)
-      (counted_length_same g M N (part m) (part_same (i + 1) m))
+      (counted_length_same g M N (part m) (ways (i + 1) m))
       (omega (arith, short, ap (counted_dm_of g M) (parts m h upto))))
 
 needed_moves : (M N : Map) (ls : List ℕ) (i m : ℕ) →
@@ -143,7 +143,7 @@ module _ {g : Margin} (M N : Map) (ls : List ℕ) (same : Each (SameLine M N) ls
   covered_stays here there j h upto near = elim (cases_lt k (min j (length ls - 1))) [
     | inl beyond ↦
         let not_here = covered_known g M here ls s t joined i k query j h upto near beyond in
-        let not_there = covered_known g N there ls s t (IsRoute-moves M N s t ls same joined) i k query_stays j h upto
+        let not_there = covered_known g N there ls s t (IsRoute-moves M N s t ls (same_ways M N ls same) joined) i k query_stays j h upto
         (subst (λ (d : ℕ). d ≤ limit) (alike i j) near) beyond in
         ((λ c. absurd (not_here c)), (λ c. absurd (not_there c)))
     | inr close ↦ covered_same j (omega (arith, close))

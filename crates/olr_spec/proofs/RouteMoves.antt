@@ -3,36 +3,63 @@
 use Rattle.olr_spec.proofs.Common.{inl, inr, ◌≡◌, ℕ, ◌+◌, List, ◌∷◌, ◌++◌, ◌≤◌, ◌↔◌, IsTrue, refl, sym, ◌∙◌, arith, ◌⊎◌}
 use Rattle.olr_spec.proofs.Common.{Contains, true, false, ◌-◌, [], cases_lt, cases_Bool, Map, has_line, start, end}
 use Rattle.olr_spec.proofs.Common.{SameLine, SameRound, dm, has, IsRoute, dm_of, Reaches, UniqueShortest, ChangedLine}
-use Rattle.olr_spec.proofs.Common.{AccountsFor, Detour, Near, NearStays}
+use Rattle.olr_spec.proofs.Common.{AccountsFor, Detour, Near, NearStays, SameWay}
 use Rattle.olr_spec.proofs.RouteLemmas.{IsRoute-append, dm_of-append}
 use Rattle.olr_spec.proofs.ListLemmas.{Each, Each-nil, Each-cons, Each-head, Each-tail}
-use Rattle.olr_spec.proofs.AgreeLemmas.{turned_round, by_leaving, same_known, same_start, same_end, same_dm, same_dm_of}
+use Rattle.olr_spec.proofs.AgreeLemmas.{turned_round, by_leaving, same_known, same_start, same_end, same_dm}
 
 pub turned_lines : (M N : Map) (xs : List ℕ) → Each (SameLine M N) xs → Each (SameLine N M) xs
 turned_lines M N xs h x i = sym (h x i)
 
-pub IsRoute-moves : (M N : Map) (s t : ℕ) (xs : List ℕ) → Each (SameLine M N) xs → IsRoute M s t xs → IsRoute N s t xs
-IsRoute-moves M N s t [] h w = grind (arith)
-IsRoute-moves M N s t (x ∷ xs) h w = grind (arith, IsRoute-moves M N (end M x) t xs (Each-tail (SameLine M N) x xs h) w.2, Each-head, Each-tail, same_known, same_start, same_end)
+-- ---- lines with the same ends and lengths
 
--- the routes from s to t of at most d have the same lines on both maps
+pub same_way : (M N : Map) (x : ℕ) → SameLine M N x → SameWay M N x
+same_way M N x e = record {
+  known = same_known M N x e;
+  from = same_start M N x e;
+  to = same_end M N x e;
+  len = same_dm M N x e;
+}
+
+pub same_ways : (M N : Map) (xs : List ℕ) → Each (SameLine M N) xs → Each (SameWay M N) xs
+same_ways M N xs h x on = same_way M N x (h x on)
+
+pub same_way_on : (L M N : Map) (x : ℕ) → SameWay L M x → SameWay M N x → SameWay L N x
+same_way_on L M N x v w =
+    record { known = v.known ∙ w.known; from = v.from ∙ w.from; to = v.to ∙ w.to; len = v.len ∙ w.len }
+
+pub ways_dm_of : (M N : Map) (xs : List ℕ) → Each (SameWay M N) xs → dm_of M xs ≡ dm_of N xs
+ways_dm_of M N [] h = refl
+ways_dm_of M N (x ∷ xs) h =
+    λ i. (Each-head (SameWay M N) x xs h).len i + ways_dm_of M N xs (Each-tail (SameWay M N) x xs h) i
+
+pub IsRoute-moves : (M N : Map) (s t : ℕ) (xs : List ℕ) → Each (SameWay M N) xs → IsRoute M s t xs → IsRoute N s t xs
+IsRoute-moves M N s t [] h w = w
+IsRoute-moves M N s t (x ∷ xs) h w =
+    let is = Each-head (SameWay M N) x xs h in
+    let rest = IsRoute-moves M N (end M x) t xs (Each-tail (SameWay M N) x xs h) w.2 in
+    (sym is.known ∙ w.0, sym is.from ∙ w.1, coe 0 1 (i. IsRoute N (is.to i) t xs) rest)
+
+-- ---- routes
+
+-- the lines of the routes from s to t of at most d have the same ends and lengths on both maps
 abbrev pub SameRoutes : Map → Map → ℕ → ℕ → ℕ → Type 0
-SameRoutes M N s t d = (xs : List ℕ) → IsRoute M s t xs → dm_of M xs ≤ d → Each (SameLine M N) xs
+SameRoutes M N s t d = (xs : List ℕ) → IsRoute M s t xs → dm_of M xs ≤ d → Each (SameWay M N) xs
 
 pub route_moves : (M N : Map) (s t d : ℕ) → SameRoutes M N s t d → (xs : List ℕ) → IsRoute M s t xs × (dm_of M xs ≤ d) →
     IsRoute N s t xs × (dm_of N xs ≤ d)
-route_moves M N s t d same xs w = grind (arith, IsRoute-moves, same_dm_of)
+route_moves M N s t d same xs w = grind (arith, IsRoute-moves, ways_dm_of)
 
 unique_moves : (M N : Map) (s t d : ℕ) → SameRoutes M N s t d → SameRoutes N M s t d → (xs : List ℕ) → dm_of M xs ≤ d →
     UniqueShortest M s t xs → UniqueShortest N s t xs
 unique_moves M N s t d there back xs h unique =
     let each = there xs unique.route h in
-    let e = same_dm_of M N xs each in
+    let e = ways_dm_of M N xs each in
     record {
       route = IsRoute-moves M N s t xs each unique.route;
       others = λ ys w other.
           let same = back ys w in
-          grind (arith, same, cases_lt, same_dm_of N M ys, unique.others ys, IsRoute-moves N M s t ys);
+          grind (arith, same, cases_lt, ways_dm_of N M ys, unique.others ys, IsRoute-moves N M s t ys);
     }
 
 pub unique_same : (M N : Map) (s t d : ℕ) → SameRoutes M N s t d → SameRoutes N M s t d → (xs : List ℕ) →
@@ -50,13 +77,14 @@ module _ (M N : Map) (s limit : ℕ) (round : (v : ℕ) → Reaches M s limit v 
       grind (arith, same_known, same_start, Each-cons, IsRoute-append, same_end, same_dm, dm_of-append, (onward K same (end M x) t (front ++ x ∷ []) xs))
 
   pub within : (t : ℕ) → SameRoutes M N s t limit
-  within t xs w h = onward M (λ v x r k e. (by_leaving M N v x r k e, refl)) s t [] xs refl w (omega arith)
+  within t xs w h =
+      same_ways M N xs (onward M (λ v x r k e. (by_leaving M N v x r k e, refl)) s t [] xs refl w (omega arith))
 
   other : (v x : ℕ) → SameRound M N v → IsTrue (has_line N x) → start N x ≡ v → SameLine M N x × SameLine N M x
   other v x r k e = let is = by_leaving N M v x (turned_round M N v r) k e in (sym is, is)
 
   pub within_other : (t : ℕ) → SameRoutes N M s t limit
-  within_other t xs w h = turned_lines M N xs (onward N other s t [] xs refl w (omega arith))
+  within_other t xs w h = same_ways N M xs (turned_lines M N xs (onward N other s t [] xs refl w (omega arith)))
 
   pub reach_same : (v : ℕ) → Reaches M s limit v ↔ Reaches N s limit v
   reach_same v = (
@@ -81,34 +109,34 @@ detour_of first last f l before after leads returns h = record {
 
 -- a detour of both maps
 abbrev Parts : Map → Map → List ChangedLine → ℕ → ℕ → ℕ → Type 0
-Parts M N C s t d = (o : Detour M C s t d) × Each (SameLine M N) o.before × Each (SameLine M N) o.after
+Parts M N C s t d = (o : Detour M C s t d) × Each (SameWay M N) o.before × Each (SameWay M N) o.after
 
 module _ (M N : Map) (C : List ChangedLine) (accounts : AccountsFor C M N) (t : ℕ) where
   -- the parts of a route before its first changed line and after its last one
-  parts_of : (s d : ℕ) (xs : List ℕ) → IsRoute M s t xs → dm_of M xs ≤ d → Each (SameLine M N) xs ⊎ Parts M N C s t d
-  parts_of s d [] w h = inl (Each-nil (SameLine M N))
+  parts_of : (s d : ℕ) (xs : List ℕ) → IsRoute M s t xs → dm_of M xs ≤ d → Each (SameWay M N) xs ⊎ Parts M N C s t d
+  parts_of s d [] w h = inl (Each-nil (SameWay M N))
   parts_of s d (x ∷ xs) w h =
-      let rest : Each (SameLine M N) xs ⊎ Parts M N C (end M x) t (d - dm M x) =
+      let rest : Each (SameWay M N) xs ⊎ Parts M N C (end M x) t (d - dm M x) =
       parts_of (end M x) (d - dm M x) xs w.2 (omega arith) in
       elim (accounts x w.0) [
         | inl is ↦ elim rest [
-          | inl each ↦ inl (Each-cons (SameLine M N) x xs is each)
+          | inl each ↦ inl (Each-cons (SameWay M N) x xs is each)
           | inr (o, b, a) ↦ inr (
             detour_of o.first o.last o.first_listed o.last_listed (x ∷ o.before) o.after (w.0, w.1, o.leads) o.returns
                 (omega arith),
-            Each-cons (SameLine M N) x o.before is b,
+            Each-cons (SameWay M N) x o.before is b,
             a,
           )
         ]
         | inr c ↦ elim rest [
           | inl each ↦ inr (
             detour_of c.change c.change c.listed c.listed [] xs (sym w.1 ∙ sym c.from) (rw c.to w.2) (omega arith),
-            Each-nil (SameLine M N),
+            Each-nil (SameWay M N),
             each,
           )
           | inr (o, b, a) ↦ inr (
             detour_of c.change o.last c.listed o.last_listed [] o.after (sym w.1 ∙ sym c.from) o.returns (omega arith),
-            Each-nil (SameLine M N),
+            Each-nil (SameWay M N),
             a,
           )
         ]
@@ -119,7 +147,7 @@ module _ (M N : Map) (C : List ChangedLine) (s t d : ℕ) (there : AccountsFor C
     (clear : ¬ Detour N C s t d) where
   pub same_there : SameRoutes M N s t d
   same_there xs w h =
-      let parts = parts_of M N C there t s d xs w h in grind (arith, parts, IsRoute-moves, same_dm_of)
+      let parts = parts_of M N C there t s d xs w h in grind (arith, parts, IsRoute-moves, ways_dm_of)
 
   pub same_here : SameRoutes N M s t d
   same_here xs w h = elim (parts_of N M C here t s d xs w h) [ inl each ↦ each | inr p ↦ absurd (clear p.0) ]

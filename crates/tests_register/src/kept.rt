@@ -11,6 +11,9 @@ use olr_route::Work;
 use std::alloc::Global;
 use std::process::Abort;
 
+/// The text of the worked path where line 20 has class 4 and no shape, by another program.
+const STRAIGHT_TEXT: &str = "CwRbWyNG9RpsCQCb/jsjsgT/6/+jK1lE";
+
 /// Adds a road of two lines from node 2 to a dead end.
 fn add_blind_road(rt: &impl Abort, alloc: Global, register: &mut Register) {
     edits(rt, register, new_node((6, 613_000, 4_960_400)));
@@ -80,6 +83,22 @@ fn a_coverage_query_that_is_clear_is_not_searched_again(rt: HostRuntime) {
     make_longer(&rt, rt.alloc(), &mut register);
     expect_text(&rt, &register, "a", Some(TEXT));
     ends(&rt, register, 4);
+}
+
+#[test]
+fn a_line_that_is_set_to_its_own_length_has_nothing_searched(rt: HostRuntime) {
+    let mut register = three_points(&rt, rt.alloc());
+    expect_searches(&rt, &register, 1);
+    // The coverage query runs along the line, and another class and shape change the string.
+    let other = other_line(rt.alloc(), 20, 2000, STRAIGHT).expect(&rt, "memory");
+    expect_reported(
+        &rt,
+        &mut register,
+        Command::Edit(other),
+        &[("a", Ok(STRAIGHT_TEXT))],
+    );
+    expect_searches(&rt, &register, 1);
+    ends(&rt, register, 2);
 }
 
 #[test]

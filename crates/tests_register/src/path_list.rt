@@ -63,18 +63,18 @@ fn two_paths(rt: &impl Abort, alloc: Global) -> PathList
     list
 }
 
-/// The line that a judged edit changes. None if the edit is one of a node.
+/// The line that a judged edit changes. None if the edit is one of a node, or leaves the line as long as it was.
 fn line_changed(plan: &EditPlan) -> Option<ChangedLine>
     ensures { list_map change_of (option_to_list result) ≡ planned_changes plan.now }
 {
-    match plan.line {
-        Some(_) => Some(ChangedLine {
-            from: plan.nodes.0,
-            to: plan.nodes.1,
-            len: plan.len,
-        }),
-        None => None,
+    if !plan.changes_routes {
+        return None;
     }
+    Some(ChangedLine {
+        from: plan.nodes.0,
+        to: plan.nodes.1,
+        len: plan.len,
+    })
 }
 
 /// Makes an edit of a map, and encodes the new paths of a list and those that the edit may affect.
