@@ -264,7 +264,7 @@ class Manager:
 
     def wait(self, name, wanted, unit="olr-keep.service"):
         """Waits until a property of the service, or of another unit, is this."""
-        until, found = time.monotonic() + 15, None
+        until, found = time.monotonic() + 60, None
         while time.monotonic() < until:
             if (found := self.show(name, unit)) == wanted:
                 return

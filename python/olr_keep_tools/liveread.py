@@ -184,13 +184,15 @@ class Reader:
         return next((first_place(bytes(it)) for (it,) in shapes if it is not None), None)
 
     def removed_sources(self) -> None:
-        """The streets of tables that are no sources any more, and their notes."""
-        self.notes("source > 0 and not exists (select from olr_keep.source where source.source = note.source)")
-        self.cursor.execute("""select street from olr_keep.street
-            where not exists (select from olr_keep.source where source = street.source)""")
-        gone = {street for (street,) in self.cursor}
-        if gone:
-            self.change.keys[NO_SOURCE] = gone
+        """The streets of tables that are no sources any more, and their notes. They are sought among all streets if there are such
+        notes, or if a table is compared."""
+        noted = self.notes("source > 0 and not exists (select from olr_keep.source where source.source = note.source)")
+        if noted or self.change.compared or not self.sources:
+            self.cursor.execute("""select street from olr_keep.street
+                where not exists (select from olr_keep.source where source = street.source)""")
+            gone = {street for (street,) in self.cursor}
+            if gone:
+                self.change.keys[NO_SOURCE] = gone
         self.cursor.execute("""delete from olr_keep.problem
             where source is not null and not exists (select from olr_keep.source where source = problem.source)""")
 
