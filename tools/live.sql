@@ -210,6 +210,10 @@ comment on table olr_keep.source is 'The tables of streets, with the expressions
 create index if not exists node_end on olr_keep.node using gist (geom) where is_end;
 comment on column olr_keep.node.is_end is 'Whether only one stretch of a street ends there, and nothing else is.';
 create index if not exists string_open on olr_keep.string (name) where lost or found_elsewhere;
+create index if not exists string_open_streets on olr_keep.string using gin (streets) where lost or found_elsewhere;
+create index if not exists string_lost_at on olr_keep.string using gist (lost_at) where lost_at is not null;
+create index if not exists string_without_place on olr_keep.string (name)
+    where (lost or found_elsewhere) and lost_at is null;
 comment on column olr_keep.string.found_elsewhere is
     'Whether the lines are not those of the streets or the course that an operator gave, since these can''t be had.';
 comment on column olr_keep.string.at_junctions is

@@ -43,6 +43,20 @@ class Placed(NamedTuple):
 
 
 Before = Tuple[Known, int, int]  # a path as it was found, and the two offsets of its record
+# The paths that are not found as said, and are over some streets or near some boxes; each part has an index of its own, since
+# they may be very many.
+NEAR_OPEN = """with near as materialized (
+        select ST_MakeEnvelope(w, s, e, n, 4326) as box
+        from unnest(%s::float8[], %s::float8[], %s::float8[], %s::float8[]) as one(w, s, e, n)
+    )
+    select name from olr_keep.string where (lost or found_elsewhere) and streets && %s::text[]
+    union select name from olr_keep.path join olr_keep.string using (name)
+    where (lost or found_elsewhere) and path.streets && %s::text[]
+    union select name from near join olr_keep.string on (lost or found_elsewhere) and lost_at is not null
+        and ST_Intersects(lost_at, box)
+    union select name from olr_keep.string left join olr_keep.path using (name)
+    where (lost or found_elsewhere) and lost_at is null and exists (
+        select from near where ST_Intersects(coalesce(geom, course), box) or ST_Intersects(coalesce(said_course, course), box))"""
 
 
 class PathsUpdate:
@@ -107,14 +121,7 @@ class PathsUpdate:
             return {it for (it,) in self.cursor}
         marked = text_array(mark + it for it in keys for mark in ("", "<", ">"))
         boxes = [[f"{it:.7f}" for it in side] for side in zip(*self.affected.boxes)] or [[]] * 4
-        self.cursor.execute(
-            """select name from olr_keep.string left join olr_keep.path using (name)
-            where (lost or found_elsewhere) and (string.streets && %s::text[] or path.streets && %s::text[] or exists (
-                select from unnest(%s::float8[], %s::float8[], %s::float8[], %s::float8[]) as one(w, s, e, n)
-                cross join lateral (select ST_MakeEnvelope(w, s, e, n, 4326) as box) as it
-                where case when lost_at is not null then ST_Intersects(lost_at, box)
-                    else ST_Intersects(coalesce(geom, course), box) or ST_Intersects(coalesce(said_course, course), box) end))""",
-            (marked, marked, *map(number_array, boxes)))
+        self.cursor.execute(NEAR_OPEN, (*map(number_array, boxes), marked, marked))
         return {it for (it,) in self.cursor}
 
     def read_search(self, names: Sequence[str]) -> Search:
