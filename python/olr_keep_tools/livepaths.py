@@ -14,7 +14,7 @@ from .liveread import Change
 from .pathlines import (Course, Edited, Finder, Known, PathSearch, Place, Placement, Road, State, Unread, Wanted, coordinates,
                         course_of, marked_street, number_array, point, text_array)
 
-PART = 1000  # paths that are read at once
+PART = 500  # paths that are read at once
 LEAST = 50  # paths that are sought in the process itself
 SEARCHING = 2  # processes that search for paths, if there are several parts
 LONG = 50_000  # coordinates of courses

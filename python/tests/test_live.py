@@ -618,8 +618,8 @@ class Searches(unittest.TestCase):
             self.assertEqual(Search(update, ["p"], FakeFinder(), self.NOTHING, {"p": course}, {}).is_long(), is_long)
 
     def test_parts(self) -> None:
-        sizes = {count: [len(it) for it in parts_of([str(k) for k in range(count)])] for count in (0, 50, 51, 300, 2100)}
-        self.assertEqual(sizes, {0: [], 50: [50], 51: [50, 1], 300: [150, 150], 2100: [1000, 1000, 100]})
+        sizes = {count: [len(it) for it in parts_of([str(k) for k in range(count)])] for count in (0, 50, 51, 300, 1100)}
+        self.assertEqual(sizes, {0: [], 50: [50], 51: [50, 1], 300: [150, 150], 1100: [500, 500, 100]})
 
     def test_a_killed_search_is_made_again(self) -> None:
         search = Search(PathsUpdate(FakeCursor(), Affected(), 20.0), ["p"], FakeFinder(row(1, "a")), self.NOTHING,
