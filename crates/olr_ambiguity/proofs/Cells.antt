@@ -2,11 +2,11 @@
 use Rattle.olr_spec.proofs.Common.{◌≡◌, ℕ, ◌+◌, ◌-◌, ◌<◌, ◌≤◌, inl, inr, ℤ, Bool, true, false, nat_lt, nat_le, List}
 use Rattle.olr_spec.proofs.Common.{length, take, drop, get_or, Contains, IsTrue, IsFalse, arith, ap, ◌∙◌, subst}
 use Rattle.olr_spec.proofs.Common.{cases_lt, ltb-true, leb-false, get_or-drop, get_or-take, length-drop, length-take-le}
-use Rattle.olr_spec.proofs.Common.{Map, coord_at, has_node, Coord}
+use Rattle.olr_spec.proofs.Common.{Map, coord_at, Coord}
 use Rattle.olr_spec.specs.Ambiguity.{is_farther, usual_slack}
 use Rattle.olr_ambiguity.specs.declared.grid.Placed.{Placed}
 use Rattle.olr_ambiguity.specs.declared.rivals.Window.{Window}
-use Rattle.olr_ambiguity.specs.Grids.{Starts, Ends, cell_at, cells_from, lowest_lat, lowest_lon, IsGrid, IsWindow, Notes}
+use Rattle.olr_ambiguity.specs.Grids.{Starts, Ends, cell_at, cells_from, lowest_lat, lowest_lon, IsGridOf, IsWindow, Notes}
 
 -- an element whose cell is within is between the two positions
 between : (es : List Placed) (first last i j k : ℕ) (e : Placed) → Starts es first i → Ends es last j → k < length es →
@@ -47,6 +47,14 @@ in_range es first last i n j s f few more e h low high =
 pub in_row : (w0 w1 row column : ℕ) → w0 ≤ column → column ≤ w1 → (cell_at row w0 ≤ cell_at row column) × (cell_at row column ≤ cell_at row w1)
 in_row w0 w1 row column low high = (omega (arith, low), omega (arith, high))
 
+-- a grid of other nodes, each of which it has
+pub grid_more : (M : Map) (F G : ℕ → Type 0) (es : List Placed) → IsGridOf M F es → ((v : ℕ) → G v → F v) → IsGridOf M G es
+grid_more M F G es g more =
+    record {
+      placing = record { right = g.placing.right; whole = λ v asked. g.placing.whole v (more v asked) };
+      sorted = g.sorted;
+    }
+
 -- ---- rows of a window
 
 -- what was noted of the rows from `start` up to this one, in the columns from c0 to c1
@@ -72,15 +80,15 @@ rows_more rival es near start c0 c1 row old new h n all =
       ];
     }
 
--- each node that isn't farther by more than the slack was looked at
+-- each rival was looked at: it isn't farther by more than the slack
 pub whole_window : (M : Map) (rival : ℕ → Bool) (es : List Placed) (w : Window) (p : ℤ × ℤ) (c : Coord) (row : ℕ) (found : List ℕ) →
-    IsGrid M es → IsWindow p c w → Rows rival es w.rows.0 w.columns.0 w.columns.1 row found → w.rows.1 < row →
+    IsGridOf M (λ v. IsTrue (rival v)) es → IsWindow p c w → Rows rival es w.rows.0 w.columns.0 w.columns.1 row found → w.rows.1 < row →
     ((v : ℕ) → IsTrue (rival v) → IsFalse (is_farther usual_slack p c (coord_at M v))) →
-    (v : ℕ) → IsTrue (has_node M v) → IsTrue (rival v) → Contains found v
-whole_window M rival es w p c row found g win h past near v known is =
-    let e = (g.placing.whole v known).0 in
-    let there = (g.placing.whole v known).1 in
-    let same : e.node ≡ v = (g.placing.whole v known).2 in
+    (v : ℕ) → IsTrue (rival v) → Contains found v
+whole_window M rival es w p c row found g win h past near v is =
+    let e = (g.placing.whole v is).0 in
+    let there = (g.placing.whole v is).1 in
+    let same : e.node ≡ v = (g.placing.whole v is).2 in
     let right = g.placing.right e there in
     let is_e : IsTrue (rival e.node) = ap rival same ∙ is in
     let close : IsFalse (is_farther usual_slack p c e.place) =

@@ -1,3 +1,4 @@
 pub mod Windows
 pub mod Cells
 pub mod Lists
+pub mod NearNodes

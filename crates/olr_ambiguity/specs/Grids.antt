@@ -2,16 +2,25 @@
 --     cells_from low most z      the number of cells between two coordinates: 0 if z is below, and at most `most`
 --     cell_of c      the number of a coordinate's cell, row by row
 --     ArePlaced M es      each is a node of the map, with its coordinate and its cell
---     IsPlacing M es      each node of the map, with its coordinate and its cell
---     IsGrid M es      the same, in ascending order of cells
+--     IsPlacing M F es      among them each of the nodes F
+--     IsGridOf M F es, IsGrid M es      the same, in ascending order of cells; of all nodes
+--     HasRivals M s p x es, HasAllRivals M r xs es      a grid with each rival of line x at an LRP that is decoded as p; of
+--         the lines xs at all LRPs of a reference
 --     Starts es first i, Ends es last j      where a range of cells starts and ends
 --     Notes rival es old new      those of these nodes that are rivals were added
 --     IsWindow p c w      each node that isn't farther from p than one at c, by more than the slack, is in these rows and columns
-use Rattle.std.specs.Prelude.{◌≡◌, ℕ, ◌+◌, ◌*◌, ◌/◌, ◌≤◌, min, ℤ, pos, negsuc, ◌-ℤ◌, neg_ℤ, Bool, true, false, nat_lt, nat_le, List, Contains, ◌⊎◌, IsTrue, IsFalse}
+--     is_in w c      a coordinate's cell is in these rows and columns
+--     AreWindows M r xs ws      those of the lines xs at the LRPs of r
+--     AreNodes M ids places      the nodes in their slots, and beside each its coordinate
+use Rattle.std.specs.Prelude.{◌≡◌, ℕ, ◌+◌, ◌*◌, ◌/◌, ◌≤◌, min, ℤ, pos, negsuc, ◌-ℤ◌, neg_ℤ, Bool, true, false, nat_lt, nat_le, ◌&&◌, List, Contains, ◌⊎◌, ◌↔◌, IsTrue, IsFalse}
+use Rattle.std.specs.Prelude.{Option, Some, slice_get}
+use Rattle.std.specs.FinMap.{get}
 use Rattle.std.specs.List.Sorted.{IsNonDecreasingBy, IsPartitionPoint}
 use Rattle.olr_spec.specs.Coordinates.{Coord}
 use Rattle.olr_spec.specs.Map.{Map, has_node, coord_at}
-use Rattle.olr_spec.specs.Ambiguity.{is_farther, usual_slack}
+use Rattle.olr_spec.specs.Reference.{Reference, leg}
+use Rattle.olr_spec.specs.Receiver.{Side, coordinate_on, decoded_coord}
+use Rattle.olr_spec.specs.Ambiguity.{is_farther, is_rival, side_at, usual_slack}
 use Rattle.olr_ambiguity.specs.declared.grid.Placed.{Placed}
 use Rattle.olr_ambiguity.specs.declared.rivals.Window.{Window}
 
@@ -49,13 +58,23 @@ abbrev pub ArePlaced : Map → List Placed → Type 0
 ArePlaced M es = (e : Placed) → Contains es e →
     IsTrue (has_node M e.node) × (e.place ≡ coord_at M e.node) × (e.cell ≡ cell_of e.place)
 
-pub record IsPlacing (M : Map) (es : List Placed) : Type 0 where
+pub record IsPlacing (M : Map) (F : ℕ → Type 0) (es : List Placed) : Type 0 where
   pub right : ArePlaced M es
-  pub whole : (v : ℕ) → IsTrue (has_node M v) → (e : Placed) × Contains es e × (e.node ≡ v)
+  pub whole : (v : ℕ) → F v → (e : Placed) × Contains es e × (e.node ≡ v)
 
-pub record IsGrid (M : Map) (es : List Placed) : Type 0 where
-  pub placing : IsPlacing M es
+pub record IsGridOf (M : Map) (F : ℕ → Type 0) (es : List Placed) : Type 0 where
+  pub placing : IsPlacing M F es
   pub sorted : IsNonDecreasingBy (λ e. e.cell) es
+
+abbrev pub IsGrid : Map → List Placed → Type 0
+IsGrid M es = IsGridOf M (λ v. IsTrue (has_node M v)) es
+
+abbrev pub HasRivals : Map → Side → ℤ × ℤ → ℕ → List Placed → Type 0
+HasRivals M s p x es = IsGridOf M (λ v. IsTrue (is_rival M s p x v)) es
+
+abbrev pub HasAllRivals : Map → Reference → List ℕ → List Placed → Type 0
+HasAllRivals M r xs es =
+    (k x : ℕ) → slice_get xs k ≡ Some x → HasRivals M (side_at r k) (decoded_coord r k) x es
 
 -- the position of the first element in the cell `first` or a later one, and the one after the last in the cell `last` or an
 -- earlier one
@@ -71,6 +90,21 @@ pub record IsWindow (p : ℤ × ℤ) (c : Coord) (w : Window) : Type 0 where
   pub columns : (d : Coord) → IsFalse (is_farther usual_slack p c d) →
       (w.columns.0 ≤ cells_from lowest_lon d.lon) × (cells_from lowest_lon d.lon ≤ w.columns.1)
   pub few : (w.rows.1 ≤ last_cell) × (w.columns.0 ≤ last_cell) × (w.columns.1 ≤ last_cell)
+
+abbrev pub is_in : Window → Coord → Bool
+is_in w c =
+    nat_le w.rows.0 (cells_from lowest_lat c.lat) && nat_le (cells_from lowest_lat c.lat) w.rows.1
+    && nat_le w.columns.0 (cells_from lowest_lon c.lon) && nat_le (cells_from lowest_lon c.lon) w.columns.1
+
+abbrev pub AreWindows : Map → Reference → List ℕ → List Window → Type 0
+AreWindows M r xs ws =
+    (k x : ℕ) → slice_get xs k ≡ Some x →
+    (w : Window) × Contains ws w × IsWindow (decoded_coord r k) (coordinate_on (side_at r k) (leg M x)) w
+
+-- a free slot has no node
+abbrev pub AreNodes : Map → List (Option ℕ) → List Coord → Type 0
+AreNodes M ids places = (v : ℕ) (c : Coord) →
+    (get M.nodes v ≡ Some c) ↔ ((k : ℕ) × (slice_get ids k ≡ Some (Some v)) × (slice_get places k ≡ Some c))
 
 -- those of these nodes that are rivals were added
 pub record Notes (rival : ℕ → Bool) (es : List Placed) (old new : List ℕ) : Type 0 where

@@ -6,15 +6,17 @@ ghost use Rattle.olr_spec.specs.Reference.{Reference};
 ghost use Rattle.olr_spec.specs.Receiver.{last_number};
 ghost use Rattle.olr_spec.specs.Ambiguity.{Other_node, obstacles, obstacles_at, side_at};
 ghost use Rattle.olr_ambiguity.specs.Found.{applies, found_of, named};
-ghost use Rattle.olr_ambiguity.specs.Grids.{IsGrid};
+ghost use Rattle.olr_ambiguity.specs.Grids.{AreNodes, HasAllRivals, HasRivals, IsGrid};
 ghost use Rattle.olr_ambiguity.specs.OwnLines.{IsOwnLine, side_of};
 ghost use Rattle.olr_ambiguity.specs.Places.{place_of};
 
 use crate::decoded::place_at;
 use crate::grid::Grid;
+use crate::near::{nodes_in, windows};
 use crate::own_line::{OwnLine, Side, is_twin_of, is_unclear, lines_on, own_line};
 use crate::rivals::rivals;
 use olr_binary::Reference as PublishedReference;
+use olr_coords::Coord;
 use olr_model::{LineId, MapRead, NodeId};
 use std::alloc::{AllocError, Global};
 
@@ -88,7 +90,7 @@ fn push_nodes(found: &mut Vec<Found>, lrp: usize, nodes: &[NodeId]) -> Result<()
 }
 
 /// Which lines are candidates at LRP k of so many.
-fn side_at(k: usize, count: usize) -> Side
+pub(crate) fn side_at(k: usize, count: usize) -> Side
     requires { k < count }
     ensures { (r : Reference) → count ≡ last_number r + 1 → side_of result ≡ side_at r k }
 {
@@ -109,7 +111,7 @@ fn push_at<M: MapRead>(
     lrp: usize,
 ) -> Result<(), AllocError>
     requires own { IsOwnLine (M.map map.now) own.now }
-    requires grid { IsGrid (M.map map.now) grid.now.nodes.items }
+    requires grid { HasRivals (M.map map.now) (side_of own.now.side) (place_of own.now.place) own.now.id grid.now.nodes.items }
     ensures { OnOk result (list_map found_of found.new.items ≡ list_map found_of found.old.items
         ++ list_map (λ o. (lrp, o)) (obstacles_at (M.map map.now) (side_of own.now.side) (place_of own.now.place) own.now.id)) }
 {
@@ -119,6 +121,29 @@ fn push_at<M: MapRead>(
     let nodes = rivals(alloc, map, grid, own)?;
     push_nodes(found, lrp, nodes.as_slice())?;
     Ok(())
+}
+
+/// What stands in the way of reading a reference in only one way, see `obstacles`. The grid may have rivals alone.
+fn obstacles_by<M: MapRead>(
+    alloc: Global,
+    map: &M,
+    grid: &Grid,
+    reference: &PublishedReference,
+    own: &[LineId],
+) -> Result<Vec<Found>, AllocError>
+    requires grid { HasAllRivals (M.map map.now) reference.now own.now grid.now.nodes.items }
+    requires own { All (λ x. IsTrue (has_line (M.map map.now) x)) own.now }
+    requires count { length own.now ≡ last_number reference.now + 1 }
+    ensures { IfOk result (λ found. list_map found_of found.items ≡ obstacles (M.map map.now) reference.now own.now) }
+{
+    let mut found = Vec::new(alloc);
+    for k in 0..own.len() {
+        let place = place_at(reference, k);
+        let side = side_at(k, own.len());
+        let own = own_line(map, place, side, own[k]);
+        push_at(alloc, &mut found, map, grid, &own, k)?;
+    }
+    Ok(found)
 }
 
 /// What stands in the way of reading a reference in only one way, LRP by LRP: at each first twins, then other lines that
@@ -136,12 +161,27 @@ pub fn obstacles<M: MapRead>(
     requires count { length own.now ≡ last_number reference.now + 1 }
     ensures { IfOk result (λ found. list_map found_of found.items ≡ obstacles (M.map map.now) reference.now own.now) }
 {
-    let mut found = Vec::new(alloc);
-    for k in 0..own.len() {
-        let place = place_at(reference, k);
-        let side = side_at(k, own.len());
-        let own = own_line(map, place, side, own[k]);
-        push_at(alloc, &mut found, map, grid, &own, k)?;
-    }
-    Ok(found)
+    obstacles_by(alloc, map, grid, reference, own)
+}
+
+/// The same without a grid of the map: its nodes are passed over once. `ids` are the nodes in their slots, none in a free
+/// one, and `places` are beside each its coordinate.
+pub fn obstacles_near<M: MapRead>(
+    alloc: Global,
+    map: &M,
+    ids: &[Option<NodeId>],
+    places: &[Coord],
+    reference: &PublishedReference,
+    own: &[LineId],
+) -> Result<Vec<Found>, AllocError>
+    requires beside { length ids.now ≡ length places.now }
+    requires nodes { AreNodes (M.map map.now) ids.now places.now }
+    requires own { All (λ x. IsTrue (has_line (M.map map.now) x)) own.now }
+    requires count { length own.now ≡ last_number reference.now + 1 }
+    ensures { IfOk result (λ found. list_map found_of found.items ≡ obstacles (M.map map.now) reference.now own.now) }
+{
+    let windows = windows(alloc, map, reference, own)?;
+    let nodes = nodes_in(alloc, ids, places, &windows)?;
+    let grid = Grid::of(alloc, map, &nodes)?;
+    obstacles_by(alloc, map, &grid, reference, own)
 }

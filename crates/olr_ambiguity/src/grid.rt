@@ -1,8 +1,9 @@
 //! The nodes of a map by the cell of a grid in which they are.
-ghost use Rattle.std.specs.Prelude.{◌≡◌, ◌≤◌, ◌^◌, nat_abs, length, Contains, IfOk};
+ghost use Rattle.std.specs.Prelude.{◌≡◌, ◌≤◌, ◌^◌, nat_abs, length, All, Contains, IfOk, IsTrue};
 ghost use Rattle.std.specs.List.Sorted.{IsNonDecreasingBy};
 ghost use Rattle.olr_spec.specs.Ambiguity.{all_nodes};
-ghost use Rattle.olr_ambiguity.specs.Grids.{Ends, IsGrid, IsPlacing, Starts, cell_at, cell_of, cells_from, last_cell, lowest_lat, lowest_lon};
+ghost use Rattle.olr_spec.specs.Map.{has_node};
+ghost use Rattle.olr_ambiguity.specs.Grids.{Ends, IsGrid, IsGridOf, IsPlacing, Starts, cell_at, cell_of, cells_from, last_cell, lowest_lat, lowest_lon};
 
 use crate::own_line::coord_of;
 use olr_coords::Coord;
@@ -31,7 +32,7 @@ pub(crate) struct Placed {
     pub place: Coord,
 }
 
-/// The nodes of a map, in ascending order of their cells.
+/// Nodes of a map, in ascending order of their cells.
 #[derive(Drop)]
 pub struct Grid {
     pub(crate) nodes: Vec<Placed>,
@@ -87,10 +88,10 @@ fn cell_of(place: Coord) -> u64
     )
 }
 
-/// The nodes with their cells, in the order of their numbers.
+/// These nodes with their cells, in this order.
 fn with_cells<M: MapRead>(alloc: Global, map: &M, ids: &[NodeId]) -> Result<Vec<Placed>, AllocError>
-    requires { ids.now ≡ all_nodes (M.map map.now) }
-    ensures { IfOk result (λ v. IsPlacing (M.map map.now) v.items) }
+    requires { All (λ v. IsTrue (has_node (M.map map.now) v)) ids.now }
+    ensures { IfOk result (λ v. IsPlacing (M.map map.now) (Contains ids.now) v.items) }
 {
     let mut nodes = Vec::with_capacity(alloc, ids.len())?;
     for id in ids {
@@ -127,6 +128,14 @@ impl Grid {
     pub fn new<M: MapRead>(alloc: Global, map: &M, ids: &[NodeId]) -> Result<Grid, AllocError>
         requires { ids.now ≡ all_nodes (M.map map.now) }
         ensures { IfOk result (λ grid. IsGrid (M.map map.now) grid.nodes.items) }
+    {
+        Grid::of(alloc, map, ids)
+    }
+
+    /// The grid of these nodes of a map.
+    pub(crate) fn of<M: MapRead>(alloc: Global, map: &M, ids: &[NodeId]) -> Result<Grid, AllocError>
+        requires { All (λ v. IsTrue (has_node (M.map map.now) v)) ids.now }
+        ensures { IfOk result (λ grid. IsGridOf (M.map map.now) (Contains ids.now) grid.nodes.items) }
     {
         let mut nodes = with_cells(alloc, map, ids)?;
         nodes.sort_unstable_by_key(|node| node.cell);

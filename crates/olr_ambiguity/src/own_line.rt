@@ -94,7 +94,7 @@ fn node_on<M: MapRead>(map: &M, side: Side, id: LineId) -> NodeId
 }
 
 /// The coordinate of a candidate's node.
-fn coordinate_on<M: MapRead>(map: &M, side: Side, id: LineId) -> Coord
+pub(crate) fn coordinate_on<M: MapRead>(map: &M, side: Side, id: LineId) -> Coord
     requires { IsTrue (has_line (M.map map.now) id) }
     ensures { result ≡ coordinate_on (side_of side) (leg (M.map map.now) id) }
 {

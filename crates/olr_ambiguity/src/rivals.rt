@@ -5,7 +5,7 @@ ghost use Rattle.olr_spec.specs.Map.{coord_at, has_line, has_node};
 ghost use Rattle.olr_spec.specs.Recovery.{lat_apart, lon_apart};
 ghost use Rattle.olr_spec.specs.Reference.{leg};
 ghost use Rattle.olr_spec.specs.Ambiguity.{all_nodes, is_outdone_for_all, is_rival, usual_slack};
-ghost use Rattle.olr_ambiguity.specs.Grids.{ArePlaced, IsGrid, IsWindow, Notes};
+ghost use Rattle.olr_ambiguity.specs.Grids.{ArePlaced, HasRivals, IsWindow, Notes};
 ghost use Rattle.olr_ambiguity.specs.OwnLines.{IsOwnLine, side_of};
 ghost use Rattle.olr_ambiguity.specs.Places.{IsPlaced, place_of};
 
@@ -44,7 +44,7 @@ fn widened(reach: u128, cosine: u128) -> u128
 }
 
 /// The part of the grid in which each node is that isn't farther than the own one by more than the slack.
-fn window_of(place: DecodedPlace, here: Coord) -> Window
+pub(crate) fn window_of(place: DecodedPlace, here: Coord) -> Window
     requires { IsPlaced place }
     ensures { IsWindow (place_of place) here result }
 {
@@ -125,7 +125,7 @@ pub(crate) fn rivals<M: MapRead>(
     own: &OwnLine,
 ) -> Result<Footprint, AllocError>
     requires own { IsOwnLine (M.map map.now) own.now }
-    requires grid { IsGrid (M.map map.now) grid.now.nodes.items }
+    requires grid { HasRivals (M.map map.now) (side_of own.now.side) (place_of own.now.place) own.now.id grid.now.nodes.items }
     ensures { IfOk result (λ found. found ≡ filter (is_rival (M.map map.now) (side_of own.now.side) (place_of own.now.place)
         own.now.id) (all_nodes (M.map map.now))) }
 {

@@ -23,7 +23,11 @@ use Rattle.olr_spec.proofs.OrderLemmas.{exactly_out}
 use Rattle.std.proofs.lemmas.Cmp.{eq_by_cmp_equiv}
 use Rattle.olr_map.proofs.Lookups.{eqb_flip}
 use Rattle.olr_spec.proofs.SameNumbers.{distinct_from_ascending, same_ascending}
-use Rattle.olr_map.proofs.Reading.{slot_of, id_has}
+use Rattle.olr_map.proofs.Reading.{slot_of, id_has, entry_at, node_read}
+use Rattle.olr_map.proofs.ColumnLemmas.{inside, place_at}
+use Rattle.std.specs.List.{slice_get}
+use Rattle.std.proofs.Common.{◌↔◌}
+use Rattle.std.proofs.lemmas.Option.{get_or_from_slice_get, slice_get-get_or}
 
 -- ---- lists of numbers
 
@@ -180,6 +184,38 @@ module _ (t : RoadMap) where
 
   named : (v p : ℕ) → at hs p ≡ Some v → slot_by t.index v ≡ Some p
   named v p h = t.kept.indexed.named v p (sym (same_id p) ∙ h)
+
+  -- the columns have exactly the nodes, with their coordinates
+  pub in_columns : (ids : List (Option ℕ)) (places : List Coord) → ids ≡ hs → places ≡ t.nodes.places.items → (v : ℕ)
+      (c : Coord) → (get (tables_map t).nodes v ≡ Some c)
+      ↔ ((k : ℕ) × (slice_get ids k ≡ Some (Some v)) × (slice_get places k ≡ Some c))
+  in_columns ids places same beside v c = (there, back) where
+    cs : List Coord
+    cs = t.nodes.places.items
+
+    there : get (tables_map t).nodes v ≡ Some c →
+        (k : ℕ) × (slice_get ids k ≡ Some (Some v)) × (slice_get places k ≡ Some c)
+    there is =
+        let s = slot_of t.index (node_slots t.nodes) t.kept.indexed (all_held t.lines) v (ap (λ o. is_some o) is) in
+        let e = entry_at t v s.0 s.1 in
+        let within = inside t.nodes s.0 (ap (λ o. is_some o) e.1) in
+        let place = same_Some _ _ (sym (node_read t v s.0 e.0 s.1 e.1) ∙ is) in (
+          s.0,
+          ap (λ hs. slice_get hs s.0) same ∙ slice_get-get_or hs s.0 None within
+              ∙ ap (λ o. Some o) (same_id s.0 ∙ t.kept.indexed.filled v s.0 s.1),
+          ap (λ cs. slice_get cs s.0) beside
+              ∙ slice_get-get_or cs s.0 c (let long = t.nodes.places_beside in omega arith)
+              ∙ ap (λ d. Some d) (place_at t.nodes s.0 e.0 c e.1 ∙ place),
+        )
+
+    back : ((k : ℕ) × (slice_get ids k ≡ Some (Some v)) × (slice_get places k ≡ Some c)) →
+        get (tables_map t).nodes v ≡ Some c
+    back r =
+        let here = named v r.0 (get_or_from_slice_get hs r.0 (Some v) None (sym (ap (λ hs. slice_get hs r.0) same) ∙ r.1)) in
+        let e = entry_at t v r.0 here in
+        node_read t v r.0 e.0 here e.1
+        ∙ ap (λ d. Some d) (sym (place_at t.nodes r.0 e.0 c e.1)
+        ∙ get_or_from_slice_get cs r.0 c c (sym (ap (λ cs. slice_get cs r.0) beside) ∙ r.2))
 
   nodes_once : IsDistinct ◌==◌ (present hs)
   nodes_once = ids_once hs (λ p q v i j. same_Some p q (sym (named v p i) ∙ named v q j))

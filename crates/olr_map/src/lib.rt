@@ -23,4 +23,5 @@ pub use olr_model::{
     Shape,
 };
 pub use road_map::RoadMap;
+pub use tables::NodePlaces;
 pub use undo::{Undo, UndoLog};

@@ -9,11 +9,21 @@ use olr_coords::Coord;
 use olr_model::{Line, LineEnd, LineId, MapRead, NodeId};
 use std::alloc::{AllocError, Global};
 
+/// The nodes of a map in their slots, in two columns of the same length.
+#[derive(Clone, Copy)]
+pub struct NodePlaces<'a> {
+    /// The number of each node. None in a free slot.
+    pub ids: &'a [Option<NodeId>],
+    /// Beside it the node's coordinate.
+    pub places: &'a [Coord],
+}
+
 impl RoadMap {
     ghost use Rattle.std.specs.Prelude.{◌<◌, ◌≤◌, ℕ, length, OnOk, IsTrue, Some, flat_map, ◌↔◌};
     ghost use Rattle.olr_map.specs.RoadMaps.{map_of, slot_of};
-    ghost use Rattle.std.specs.Prelude.{map as list_map};
-    ghost use Rattle.std.specs.FinMap.{entries};
+    ghost use Rattle.std.specs.Prelude.{map as list_map, slice_get};
+    ghost use Rattle.std.specs.FinMap.{entries, get};
+    ghost use Rattle.olr_spec.specs.Coordinates.{Coord as Place};
     ghost use Rattle.olr_spec.specs.Map.{has_node, has_line, start, end, lines_out};
     ghost use Rattle.olr_map.specs.SlotIndexes.{slot_by, spare_of};
     ghost use Rattle.olr_map.specs.LineTables.{spare_numbers};
@@ -30,6 +40,17 @@ impl RoadMap {
         let mut ids = self.nodes.ids(alloc)?;
         ids.sort_unstable();
         Ok(ids)
+    }
+
+    /// The nodes in their slots, with their coordinates.
+    pub fn node_places(&self) -> NodePlaces<'_>
+        ensures beside { length result.ids.now ≡ length result.places.now }
+        ensures nodes { (v : ℕ) (c : Place) → (get (map_of self.now).nodes v ≡ Some c)
+            ↔ ((k : ℕ) × (slice_get result.ids.now k ≡ Some (Some v)) × (slice_get result.places.now k ≡ Some c)) }
+    {
+        let ids = self.nodes.ids.entries.as_slice();
+        let places = self.nodes.places.as_slice();
+        NodePlaces { ids, places }
     }
 
     /// The numbers of the lines, in ascending order. An error means that an allocation failed.

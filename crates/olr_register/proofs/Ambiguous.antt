@@ -9,36 +9,42 @@ use Rattle.olr_commands.specs.State.{Ambiguous}
 use Rattle.olr_commands.specs.Ambiguities.{NamedObstacle, named, obstacles_of, Ambiguity, Ambiguities}
 use Rattle.olr_answers.specs.Answers.{answer_of}
 use Rattle.olr_answers.specs.declared.answer.Answer.{Answer}
-use Rattle.olr_answers.specs.declared.answer.Answer.TheVariants.{Points, Refused}
-use Rattle.olr_answers.specs.declared.answer.Refusal.{Refusal}
+use Rattle.olr_answers.specs.declared.answer.Answer.TheVariants.{Points}
+use Rattle.olr_refs.specs.declared.encoding.Encoding.{Encoding}
+use Rattle.olr_refs.specs.Referring.{IsEncoding}
+use Rattle.olr_refs.proofs.OwnLines.{own_known, own_many}
+use Rattle.olr_spec.specs.Map.{has_line}
 use Rattle.olr_spec.specs.Reference.{Reference}
+use Rattle.olr_spec.specs.Receiver.{last_number}
 use Rattle.olr_spec.specs.Encoding.{EncodesWith}
 use Rattle.olr_spec.specs.Recovery.{OwnLinesOfWith}
-use Rattle.olr_spec.specs.Ambiguity.{Obstacle, obstacles}
+use Rattle.olr_spec.specs.Ambiguity.{Obstacle}
 use Rattle.olr_register.proofs.States.{state}
-use Rattle.olr_register.proofs.Common.{Option}
+use Rattle.olr_register.proofs.Common.{Option, IsMap, is_path, length}
 use Rattle.olr_paths.specs.Items.{known_in}
 use Rattle.std.proofs.lemmas.Option.{slice_get-map}
-use Rattle.std.proofs.Common.{zero}
+use Rattle.std.proofs.Common.{All, IsTrue, zero}
 
 -- ---- of one path
 
-module _ (g : Margin) (M : Map) (p : Named) (a : Answer) (xs : List ℕ) (e : EncodesWith g M p.path (answer_of a))
-    (o : OwnLinesOfWith g M p.path (answer_of a) xs) (old : List NamedObstacle) where
-  abbrev pub Adds : List NamedObstacle → Type 0
-  Adds new = (own : List NamedObstacle) × Ambiguity g M p own × (new ≡ old ++ own)
+module _ (g : Margin) (M : Map) (P : Path) (e : Encoding) (h : IsEncoding g M P e) where
+  -- what was found, with the path's name
+  pub is_ambiguity : (name : List ℕ) (os : List (ℕ × Obstacle)) → os ≡ obstacles_of M (answer_of e.answer) e.own.items →
+      Ambiguity g M (record { name = name; path = P }) (map (named name) os)
+  is_ambiguity name os is = (answer_of e.answer, e.own.items, h.answer, h.own, ap (map (named name)) is)
 
-  adds : (os : List (ℕ × Obstacle)) (new : List NamedObstacle) → obstacles_of M (answer_of a) xs ≡ os →
-      new ≡ old ++ map (named p.name) os → Adds new
-  adds os new f g = (map (named p.name) os, (answer_of a, xs, e, o, ap (map (named p.name)) (sym f)), g)
+  module _ (m : IsMap M) (is : IsTrue (is_path P.lines)) (r : Reference) (points : e.answer ≡ Points r) where
+    answer : EncodesWith g M P (answer_of (Points r))
+    answer = subst (λ (a : Answer). EncodesWith g M P (answer_of a)) points h.answer
 
-  pub adds_nothing : (f : Refusal) → a ≡ Refused f → Adds old
-  adds_nothing f is =
-      adds [] old (ap (λ (b : Answer). obstacles_of M (answer_of b) xs) is) (sym (append-nil old))
+    own : OwnLinesOfWith g M P (answer_of (Points r)) e.own.items
+    own = subst (λ (a : Answer). OwnLinesOfWith g M P (answer_of a) e.own.items) points h.own
 
-  pub adds_found : (r : Reference) (os : List (ℕ × Obstacle)) (new : List NamedObstacle) → a ≡ Points r →
-      os ≡ obstacles M r xs → new ≡ old ++ map (named p.name) os → Adds new
-  adds_found r os new is f g = adds os new (ap (λ (b : Answer). obstacles_of M (answer_of b) xs) is ∙ sym f) g
+    pub own_lines_known : All (λ x. IsTrue (has_line M x)) e.own.items
+    own_lines_known = own_known g M m P is r answer e.own.items own
+
+    pub own_lines_many : length e.own.items ≡ last_number r + 1
+    own_lines_many = own_many g M m P is r answer e.own.items own
 
 -- ---- path by path
 

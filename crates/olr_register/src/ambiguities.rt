@@ -1,21 +1,27 @@
 //! What stands in the way of reading strings in only one way.
-ghost use Rattle.std.specs.Prelude.{◌≡◌, ◌++◌, List, map as list_map, option_map, IfOk, OnOk};
-ghost use Rattle.olr_spec.specs.Queries.{AreKnownWith};
+ghost use Rattle.std.specs.Prelude.{◌≡◌, ◌++◌, ◌+◌, map as list_map, option_map, length, All, IfOk, IfSome, IsTrue, OnOk};
+ghost use Rattle.olr_spec.specs.Map.{has_line};
+ghost use Rattle.olr_spec.specs.Margins.{Margin};
+ghost use Rattle.olr_spec.specs.Extension.{Path, is_path};
+ghost use Rattle.olr_spec.specs.Receiver.{last_number};
+ghost use Rattle.olr_spec.specs.Ambiguity.{obstacles};
 ghost use Rattle.olr_ambiguity.specs.Found.{found_of};
 ghost use Rattle.olr_ambiguity.specs.Grids.{IsGrid};
 ghost use Rattle.olr_map.specs.RoadMaps.{map_of};
-ghost use Rattle.olr_commands.specs.Ambiguities as spec;
-ghost use Rattle.olr_commands.specs.Ambiguities.{Ambiguities, Ambiguity, named};
+ghost use Rattle.olr_answers.specs.Answers.{answer_of};
+ghost use Rattle.olr_refs.specs.Referring.{IsEncoding};
+ghost use Rattle.olr_commands.specs.Ambiguities.{Ambiguities, Ambiguity, named, obstacles_of};
 ghost use Rattle.olr_commands.specs.Words.{named_obstacle_of};
 ghost use Rattle.olr_paths.specs.Items.{AreEncodings, all_named, items, known_in, made_of};
 
 use crate::register::Register;
-use olr_ambiguity::{Found, Grid, obstacles};
+use olr_ambiguity::{Found, Grid, obstacles, obstacles_near};
 use olr_answers::{Answer, KnownQuery, Path};
+use olr_binary::Reference;
 use olr_commands::{CommandFault, NamedObstacle, Reply};
-use olr_map::{MapRead, RoadMap};
+use olr_map::{LineId, RoadMap};
 use olr_paths::{PathList, Published};
-use olr_refs::{Margin, encode_again};
+use olr_refs::{Encoding, Margin, encode_again};
 use olr_route::Dijkstra;
 use std::alloc::{AllocError, Global};
 
@@ -38,32 +44,43 @@ fn push_found(
     Ok(())
 }
 
-/// Appends what stands in the way of the string of a path of this name. It is encoded again, without searches for its
-/// coverage queries that are known.
-fn push_ambiguity<M: MapRead>(
+/// What stands in the way of a reference, by the grid of the map, or if there is none by one pass over its nodes.
+fn found_by(
     alloc: Global,
-    map: &M,
-    grid: &Grid,
-    name: &str,
-    path: &Path,
-    margin: Margin,
-    known: &[KnownQuery],
-    search: &mut Dijkstra,
-    all: &mut Vec<NamedObstacle>,
-) -> Result<(), AllocError>
-    requires grid { IsGrid (M.map map.now) grid.now.nodes.items }
-    requires known { AreKnownWith margin (M.map map.now) path.now.lines known.now }
-    ensures { OnOk result ((own : List spec.NamedObstacle)
-        × Ambiguity margin (M.map map.now) (record { name = name.now; path = path.now }) own
-        × (list_map named_obstacle_of all.new.items ≡ list_map named_obstacle_of all.old.items ++ own)) }
+    roads: &RoadMap,
+    grid: Option<&Grid>,
+    reference: &Reference,
+    own: &[LineId],
+) -> Result<Vec<Found>, AllocError>
+    requires grid { IfSome grid (λ g. IsGrid (map_of roads.now) g.now.nodes.items) }
+    requires own { All (λ x. IsTrue (has_line (map_of roads.now) x)) own.now }
+    requires count { length own.now ≡ last_number reference.now + 1 }
+    ensures { IfOk result (λ found. list_map found_of found.items ≡ obstacles (map_of roads.now) reference.now own.now) }
 {
-    let encoding = encode_again(alloc, map, path, margin, known, search)?;
-    match &encoding.answer {
-        Answer::Refused(_) => Ok(()),
-        Answer::Points(reference) => {
-            let found = obstacles(alloc, map, grid, reference, &encoding.own)?;
-            push_found(alloc, all, name, &found)
+    match grid {
+        Some(grid) => obstacles(alloc, roads, grid, reference, own),
+        None => {
+            let nodes = roads.node_places();
+            obstacles_near(alloc, roads, nodes.ids, nodes.places, reference, own)
         }
+    }
+}
+
+/// What stands in the way of the string of an encoded path: nothing if it has none.
+fn found_in(
+    alloc: Global,
+    roads: &RoadMap,
+    grid: Option<&Grid>,
+    encoding: &Encoding,
+) -> Result<Vec<Found>, AllocError>
+    requires grid { IfSome grid (λ g. IsGrid (map_of roads.now) g.now.nodes.items) }
+    requires encoding { (g : Margin) × (P : Path) × IsTrue (is_path P.lines) × IsEncoding g (map_of roads.now) P encoding.now }
+    ensures { IfOk result (λ found. list_map found_of found.items
+        ≡ obstacles_of (map_of roads.now) (answer_of encoding.now.answer) encoding.now.own.items) }
+{
+    match &encoding.answer {
+        Answer::Refused(_) => Ok(Vec::new(alloc)),
+        Answer::Points(reference) => found_by(alloc, roads, grid, reference, &encoding.own),
     }
 }
 
@@ -77,18 +94,19 @@ fn known_of(published: Option<&Published>) -> &[KnownQuery]
     }
 }
 
-/// What stands in the way of the strings of all paths of a list, in order.
-fn all_ambiguities<M: MapRead>(
+/// What stands in the way of the strings of all paths of a list, in order. They are encoded again, without searches for
+/// the coverage queries that are known.
+fn all_ambiguities(
     alloc: Global,
-    map: &M,
+    roads: &RoadMap,
     grid: &Grid,
     paths: &PathList,
     margin: Margin,
     search: &mut Dijkstra,
 ) -> Result<Vec<NamedObstacle>, AllocError>
-    requires grid { IsGrid (M.map map.now) grid.now.nodes.items }
-    requires made { AreEncodings margin (M.map map.now) (items paths.now) }
-    ensures { IfOk result (λ all. Ambiguities margin (M.map map.now) (all_named (items paths.now))
+    requires grid { IsGrid (map_of roads.now) grid.now.nodes.items }
+    requires made { AreEncodings margin (map_of roads.now) (items paths.now) }
+    ensures { IfOk result (λ all. Ambiguities margin (map_of roads.now) (all_named (items paths.now))
         (list_map named_obstacle_of all.items)) }
 {
     let mut all = Vec::new(alloc);
@@ -97,11 +115,30 @@ fn all_ambiguities<M: MapRead>(
             unreachable!()
         };
         let known = known_of(published);
-        push_ambiguity(
-            alloc, map, grid, name, path, margin, known, search, &mut all,
-        )?;
+        let encoding = encode_again(alloc, roads, path, margin, known, search)?;
+        let found = found_in(alloc, roads, Some(grid), &encoding)?;
+        push_found(alloc, &mut all, name, &found)?;
     }
     Ok(all)
+}
+
+/// What stands in the way of the string of a path of this name.
+fn own_ambiguity(
+    alloc: Global,
+    roads: &RoadMap,
+    name: &str,
+    path: &Path,
+    margin: Margin,
+    search: &mut Dijkstra,
+) -> Result<Vec<NamedObstacle>, AllocError>
+    ensures { IfOk result (λ own. Ambiguity margin (map_of roads.now) (record { name = name.now; path = path.now })
+        (list_map named_obstacle_of own.items)) }
+{
+    let encoding = encode_again(alloc, roads, path, margin, &[], search)?;
+    let found = found_in(alloc, roads, None, &encoding)?;
+    let mut own = Vec::new(alloc);
+    push_found(alloc, &mut own, name, &found)?;
+    Ok(own)
 }
 
 /// The nodes of the map by cells.
@@ -156,20 +193,8 @@ impl Register {
         let Some(path) = self.paths.path(name) else {
             return Err(CommandFault::NoPath);
         };
-        let grid = grid_of(self.alloc, &self.roads)?;
         let search = &mut self.searches.query;
-        let mut own = Vec::new(self.alloc);
-        push_ambiguity(
-            self.alloc,
-            &self.roads,
-            &grid,
-            name,
-            path,
-            self.margin,
-            &[],
-            search,
-            &mut own,
-        )?;
+        let own = own_ambiguity(self.alloc, &self.roads, name, path, self.margin, search)?;
         Ok(Reply::Obstacles(own))
     }
 }

@@ -1,21 +1,12 @@
-use Rattle.olr_spec.proofs.Common.{◌≡◌, ◌∙◌, ◌++◌, sym, ap, get_or, get_or_default}
 use Rattle.olr_spec.specs.Receiver.{decoded_coord}
-use Rattle.olr_spec.specs.Ambiguity.{obstacles_at, side_at}
-use Rattle.olr_ambiguity.specs.OwnLines.{side_of}
-use Rattle.olr_ambiguity.specs.Places.{place_of}
-use Rattle.olr_ambiguity.proofs.Lists.{one_more, numbered}
+use Rattle.olr_spec.specs.Ambiguity.{side_at}
+use Rattle.olr_ambiguity.proofs.Cells.{grid_more}
+use Rattle.olr_ambiguity.proofs.Lists.{rival_known}
 use Rattle.olr_ambiguity.proofs.finding.obstacles.Goals as goal
 
-pub loop-k-preserved : goal.loop-k-preserved
-loop-k-preserved g c =
+pub obstacles_by-requires-clause-grid : goal.obstacles_by-requires-clause-grid
+obstacles_by-requires-clause-grid g c = λ k x at.
     let M = g.M.MapRead.map c.args.map.now in
     let r = c.args.reference.now in
-    let k = c.loop-k.k in
-    let own = c.own_line-own.result in
-    let same = c.own_line-own.ensures.same in
-    let side : side_of own.side ≡ side_at r k = ap side_of same.1 ∙ c.side_at-side.ensures r c.requires.count in
-    let place : place_of own.place ≡ decoded_coord r k = ap place_of same.2 ∙ c.place_at-place.ensures.value in
-    let here : own.id ≡ get_or c.args.own.now k own.id =
-    same.0 ∙ c.index-own-k.is ∙ get_or_default c.args.own.now k c.index-own-k.result own.id c.loop-k-test.true in
-    let step = one_more M r c.args.own.now k own.id c.loop-k-test.true (sym here) in
-    c.in_ok-push_at.ensures ∙ (λ i. c.loop-k.invariant i ++ numbered k (obstacles_at M (side i) (place i) own.id)) ∙ sym step
+    grid_more M _ _ c.args.grid.now.nodes.items c.requires.grid
+    (λ v is. rival_known M (side_at r k) (decoded_coord r k) x v (g.met.M.MapRead.sound c.args.map.now) is)

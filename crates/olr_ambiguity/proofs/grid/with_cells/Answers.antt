@@ -1,22 +1,13 @@
-use Rattle.olr_spec.proofs.Common.{◌≡◌, ◌∙◌, ◌++◌, ◌∷◌, [], ◌<◌, ℕ, List, length, Contains, IsTrue, inl, inr, has, has_node, coord_at, ap, sym, subst, arith, cases_lt, get_or, get_or_default, Map}
-use Rattle.olr_spec.specs.Ambiguity.{all_nodes}
+use Rattle.olr_spec.proofs.Common.{◌≡◌, ◌∙◌, ◌++◌, ◌∷◌, [], ℕ, List, Contains, IsTrue, inl, inr, has_node, coord_at, ap, sym, subst, arith, cases_lt, get_or, get_or_default}
 use Rattle.std.proofs.lemmas.List.Elements.{Contains-push, Contains-push_cases, Contains-append_left}
-use Rattle.olr_spec.proofs.ListLemmas.{at_index}
-use Rattle.olr_spec.proofs.OrderLemmas.{has-all_nodes}
-use Rattle.olr_spec.proofs.SameNumbers.{has_from}
 use Rattle.olr_ambiguity.specs.declared.grid.Placed.{Placed}
 use Rattle.olr_ambiguity.specs.Grids.{cell_of}
 use Rattle.olr_ambiguity.proofs.grid.with_cells.Goals as goal
 
--- each of these numbers is that of a node
-known : (M : Map) (ids : List ℕ) (i v : ℕ) → ids ≡ all_nodes M → i < length ids → v ≡ get_or ids i v → IsTrue (has_node M v)
-known M ids i v all within is =
-    sym (has-all_nodes M v) ∙ ap (λ (xs : List ℕ). has xs v) (sym all) ∙ has_from ids v (i, within, sym is)
-
 pub coord_of-place-requires : goal.coord_of-place-requires
 coord_of-place-requires g c =
-    known (g.M.MapRead.map c.args.map.now) c.args.ids.now c.loop-id.id-index c.id-item.result c.requires c.loop-id-test.true
-    c.id-item.is
+    let M = g.M.MapRead.map c.args.map.now in
+    subst (λ (v : ℕ). IsTrue (has_node M v)) (sym c.id-item.is) (c.requires c.loop-id.id-index c.id-item.result c.loop-id-test.true)
 
 pub loop-id-preserved : goal.loop-id-preserved
 loop-id-preserved g c =
@@ -26,7 +17,7 @@ loop-id-preserved g c =
     let new = c.push.new.self.items in
     let e : Placed = record { cell = c.cell_of.result; node = v; place = c.coord_of-place.result } in
     let pushed : new ≡ old ++ e ∷ [] = c.in_ok-push.ensures.items in
-    let is_node = known M c.args.ids.now c.loop-id.id-index v c.requires c.loop-id-test.true c.id-item.is in
+    let is_node = subst (λ (n : ℕ). IsTrue (has_node M n)) (sym c.id-item.is) (c.requires c.loop-id.id-index v c.loop-id-test.true) in
     let inv = c.loop-id.invariant in
     let right_e : IsTrue (has_node M e.node) × (e.place ≡ coord_at M e.node) × (e.cell ≡ cell_of e.place) =
     (is_node, c.coord_of-place.ensures, c.cell_of.ensures) in
@@ -52,12 +43,10 @@ loop-id-preserved g c =
 
 pub returns : goal.returns
 returns g c =
-    let M = g.M.MapRead.map c.args.map.now in
     let inv = c.loop-id.invariant in
     record {
       right = inv.right;
-      whole = λ v known.
-          let at = at_index c.args.ids.now v (ap (λ (xs : List ℕ). has xs v) c.requires ∙ has-all_nodes M v ∙ known) in
+      whole = λ v at.
           let w = inv.whole at.0 (let lt = at.1 in omega arith) in
-          (w.0, w.1, w.2 ∙ at.2);
+          (w.0, w.1, w.2 ∙ get_or_default c.args.ids.now at.0 0 v at.1 ∙ at.2);
     }

@@ -29,4 +29,4 @@ returns g c =
     (λ v known is. whole_window M (is_rival M s p o.id) c.args.grid.now.nodes.items c.window_of-window.result p o.here c.loop-row.row
     c.loop-row.found c.requires.grid c.window_of-window.ensures rows (omega arith)
     (λ u rival. subst (λ (q : Coord). is_farther usual_slack p q (coord_at M u) ≡ false) (sym own.here_is) (close M s p o.id u rival))
-    v known is)
+    v is)

@@ -1,9 +1,9 @@
-use Rattle.olr_register.proofs.Common.{map, take, items, all_named}
+use Rattle.olr_register.proofs.Common.{map, map_of, take, items, all_named}
 use Rattle.olr_commands.specs.Ambiguities.{Ambiguities}
 use Rattle.olr_commands.specs.Words.{named_obstacle_of}
 use Rattle.olr_register.proofs.ambiguities.all_ambiguities.Given as goal
 
 -- of the paths so far
 abbrev pub invariant-loop-k : goal.invariant-loop-k
-invariant-loop-k g l =
-    Ambiguities l.margin (g.M.MapRead.map l.map) (take l.k (all_named (items l.paths))) (map named_obstacle_of l.all.items)
+invariant-loop-k l =
+    Ambiguities l.margin (map_of l.roads) (take l.k (all_named (items l.paths))) (map named_obstacle_of l.all.items)

@@ -1,16 +1,20 @@
-use Rattle.std.proofs.Common.{rules}
-use Rattle.std.proofs.lemmas.List.Sorted.{IsNonDecreasingBy-from_sort_by_key, Contains-permutation, IsPermutation-sym}
-use Rattle.olr_ambiguity.specs.declared.grid.Placed.{Placed}
+use Rattle.olr_spec.proofs.Common.{◌∙◌, List, ℕ, ap, sym, get_or, has}
+use Rattle.olr_spec.proofs.OrderLemmas.{has-all_nodes}
+use Rattle.olr_spec.proofs.SameNumbers.{has_from, in_from}
+use Rattle.std.proofs.lemmas.List.Elements.{Contains-get_or}
+use Rattle.std.proofs.lemmas.Result.{IfOk-weaker}
+use Rattle.olr_ambiguity.proofs.Cells.{grid_more}
 use Rattle.olr_ambiguity.proofs.grid.Grid.new.Goals as goal
+
+pub of-requires : goal.of-requires
+of-requires g c = λ k d lt.
+    sym (has-all_nodes (g.M.MapRead.map c.args.map.now) (get_or c.args.ids.now k d))
+    ∙ ap (λ (xs : List ℕ). has xs (get_or c.args.ids.now k d)) (sym c.requires)
+    ∙ has_from c.args.ids.now _ (Contains-get_or c.args.ids.now k d lt)
 
 pub returns : goal.returns
 returns g c =
-    let p = c.in_ok-nodes.ensures in
-    let moved = c.sort_unstable_by_key.ensures.permutation in
-    record {
-      placing = record {
-        right = λ e h. p.right e (Contains-permutation _ _ e (IsPermutation-sym _ _ moved) h);
-        whole = λ v known. let w = p.whole v known in (w.0, Contains-permutation _ _ w.0 moved w.1, w.2);
-      };
-      sorted = IsNonDecreasingBy-from_sort_by_key (λ (e : Placed). e.cell) _ c.sort_unstable_by_key.ensures.sorted (λ a r q k. search rules);
-    }
+    let M = g.M.MapRead.map c.args.map.now in
+    IfOk-weaker c.of.result _ _ (λ grid h. grid_more M _ _ grid.nodes.items h (λ v known.
+    in_from c.args.ids.now v (ap (λ (xs : List ℕ). has xs v) c.requires ∙ has-all_nodes M v ∙ known)))
+    c.of.ensures

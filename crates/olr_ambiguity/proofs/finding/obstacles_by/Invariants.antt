@@ -1,7 +1,7 @@
 use Rattle.olr_spec.proofs.Common.{◌≡◌, map, take}
 use Rattle.olr_spec.specs.Ambiguity.{obstacles_from}
 use Rattle.olr_ambiguity.specs.Found.{found_of}
-use Rattle.olr_ambiguity.proofs.finding.obstacles.Given as goal
+use Rattle.olr_ambiguity.proofs.finding.obstacles_by.Given as goal
 
 -- what stands in the way at the LRPs so far
 abbrev pub invariant-loop-k : goal.invariant-loop-k

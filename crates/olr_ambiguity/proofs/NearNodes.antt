@@ -1,0 +1,56 @@
+-- The nodes in the windows of a reference's LRPs.
+use Rattle.olr_spec.proofs.Common.{◌≡◌, ◌∙◌, ◌+◌, ◌⊎◌, inl, inr, or_cases, take, ◌&&◌, ◌<◌, subst, ℕ, ℤ, List, Option, Some, sym, ap, slice_get, length, unwrap_or, Contains, IsTrue, IsFalse}
+use Rattle.olr_spec.proofs.Common.{le-leb, get_or, list_any_at, is_some, Coord, Map, IsMap, Reference, coord_at, has_node, leg, coordinate_on, no_coord}
+use Rattle.std.proofs.lemmas.Option.{slice_get-get_or, slice_get_within}
+use Rattle.std.proofs.lemmas.List.Folds.{list_any_more}
+use Rattle.std.specs.FinMap.{get}
+use Rattle.std.specs.List.{list_any}
+use Rattle.olr_spec.proofs.OptionLemmas.{some_of}
+use Rattle.olr_spec.specs.Receiver.{decoded_coord}
+use Rattle.olr_spec.specs.Ambiguity.{is_farther, is_rival, side_at, usual_slack}
+use Rattle.olr_ambiguity.specs.declared.rivals.Window.{Window}
+use Rattle.olr_ambiguity.specs.Grids.{AreNodes, AreWindows, IsWindow, is_in, cells_from, lowest_lat, lowest_lon}
+use Rattle.olr_ambiguity.proofs.Lists.{close, rival_known}
+
+in_window : (p : ℤ × ℤ) (c d : Coord) (w : Window) → IsWindow p c w → IsFalse (is_farther usual_slack p c d) → IsTrue (is_in w d)
+in_window p c d w h near =
+    let rows = h.rows d near in
+    let columns = h.columns d near in
+    let row = cells_from lowest_lat d.lat in
+    let column = cells_from lowest_lon d.lon in
+    λ i. le-leb w.rows.0 row rows.0 i && le-leb row w.rows.1 rows.1 i && le-leb w.columns.0 column columns.0 i
+    && le-leb column w.columns.1 columns.1 i
+
+-- a coordinate in one of the windows so far, which are in the hull, or in the next one
+pub in_next : (ws : List Window) (k : ℕ) (w hull : Window) (d : Coord) → k < length ws → w ≡ get_or ws k w →
+    (IsTrue (list_any (λ u. is_in u d) (take k ws)) → IsTrue (is_in hull d)) →
+    IsTrue (list_any (λ u. is_in u d) (take (k + 1) ws)) → IsTrue (is_in hull d) ⊎ IsTrue (is_in w d)
+in_next ws k w hull d lt at inside h = elim (or_cases _ _ (sym (list_any_more (λ (u : Window). is_in u d) ws k w lt) ∙ h)) [
+  | inl before ↦ inl (inside before)
+  | inr last ↦ inr (ap (λ (u : Window). is_in u d) at ∙ last)
+]
+
+module _ (M : Map) (ids : List (Option ℕ)) (places : List Coord) (beside : length ids ≡ length places) (nodes : AreNodes M ids places) where
+  pub in_slot : (k v : ℕ) → slice_get ids k ≡ Some (Some v) → IsTrue (has_node M v)
+  in_slot k v at =
+      let inside = slice_get_within ids k (Some v) at in
+      let place = slice_get-get_or places k no_coord (subst (λ n. k < n) beside inside) in
+      ap (λ o. is_some o) ((nodes v (get_or places k no_coord)).1 (k, at, place))
+
+  -- each rival is in one of the windows
+  pub rival_near : IsMap M → (r : Reference) (xs : List ℕ) (ws : List Window) (found : List ℕ) → AreWindows M r xs ws →
+      ((k v : ℕ) (c : Coord) → slice_get ids k ≡ Some (Some v) → slice_get places k ≡ Some c →
+      IsTrue (list_any (λ w. is_in w c) ws) → Contains found v) →
+      (k x v : ℕ) → slice_get xs k ≡ Some x → IsTrue (is_rival M (side_at r k) (decoded_coord r k) x v) → Contains found v
+  rival_near m r xs ws found windows whole k x v at is =
+      let s = side_at r k in
+      let p = decoded_coord r k in
+      let c = coord_at M v in
+      let w = windows k x at in
+      let inside : IsTrue (is_in w.0 c) = in_window p (coordinate_on s (leg M x)) c w.0 w.2 (close M s p x v is) in
+      let some : IsTrue (list_any (λ u. is_in u c) ws) =
+      list_any_at (λ (u : Window). is_in u c) ws w.1.0 w.0 w.1.1 (ap (λ (u : Window). is_in u c) w.1.2 ∙ inside) in
+      let node = some_of (get M.nodes v) (rival_known M s p x v m is) in
+      let place : node.0 ≡ c = sym (ap (λ o. unwrap_or o no_coord) node.1) in
+      let slot = (nodes v c).0 (node.1 ∙ ap (λ d. Some d) place) in
+      whole slot.0 v c slot.1 slot.2 some

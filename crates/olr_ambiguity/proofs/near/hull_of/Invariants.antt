@@ -1,0 +1,8 @@
+use Rattle.olr_spec.proofs.Common.{IsTrue, take, Coord}
+use Rattle.std.specs.List.{list_any}
+use Rattle.olr_ambiguity.specs.Grids.{is_in}
+use Rattle.olr_ambiguity.proofs.near.hull_of.Given as goal
+
+-- of the windows so far
+abbrev pub invariant-loop-window : goal.invariant-loop-window
+invariant-loop-window l = (c : Coord) → IsTrue (list_any (λ w. is_in w c) (take l.window-index l.windows)) → IsTrue (is_in l.hull c)

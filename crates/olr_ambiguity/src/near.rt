@@ -1,0 +1,123 @@
+//! The nodes near the LRPs of one reference.
+ghost use Rattle.std.specs.Prelude.{◌≡◌, ◌+◌, ◌⊎◌, ◌↔◌, ℕ, length, slice_get, All, Contains, IfOk, IsTrue, OnOk, Some};
+ghost use Rattle.std.specs.List.{list_any};
+ghost use Rattle.olr_spec.specs.Coordinates.{Coord as Place};
+ghost use Rattle.olr_spec.specs.Map.{has_line};
+ghost use Rattle.olr_spec.specs.Receiver.{last_number};
+ghost use Rattle.olr_ambiguity.specs.Grids.{AreWindows, is_in};
+
+use crate::decoded::place_at;
+use crate::finding::side_at;
+use crate::grid::{LAST_CELL, column_of, row_of};
+use crate::own_line::coordinate_on;
+use crate::rivals::{Window, window_of};
+use olr_binary::Reference;
+use olr_coords::Coord;
+use olr_model::{LineId, MapRead, NodeId};
+use std::alloc::{AllocError, Global};
+
+/// The windows of the path's own lines at the LRPs.
+pub(crate) fn windows<M: MapRead>(
+    alloc: Global,
+    map: &M,
+    reference: &Reference,
+    own: &[LineId],
+) -> Result<Vec<Window>, AllocError>
+    requires own { All (λ x. IsTrue (has_line (M.map map.now) x)) own.now }
+    requires count { length own.now ≡ last_number reference.now + 1 }
+    ensures { IfOk result (λ windows. AreWindows (M.map map.now) reference.now own.now windows.items) }
+{
+    let mut windows = Vec::with_capacity(alloc, own.len())?;
+    for k in 0..own.len() {
+        let place = place_at(reference, k);
+        let here = coordinate_on(map, side_at(k, own.len()), own[k]);
+        windows.push(window_of(place, here))?;
+    }
+    Ok(windows)
+}
+
+/// Whether a coordinate's cell is in a window.
+fn is_in(window: Window, place: Coord) -> bool
+    ensures { result ≡ is_in window place }
+{
+    let row = row_of(i128::from(place.lat()));
+    if row < window.rows.0 || window.rows.1 < row {
+        return false;
+    }
+    let column = column_of(i128::from(place.lon()));
+    window.columns.0 <= column && column <= window.columns.1
+}
+
+/// Whether it is in one of these windows.
+fn is_in_any(windows: &[Window], place: Coord) -> bool
+    ensures { result ≡ list_any (λ w. is_in w place) windows.now }
+{
+    windows.iter().any(|window| is_in(*window, place))
+}
+
+/// A window with all cells of two windows.
+fn joined(one: Window, other: Window) -> Window
+    ensures { (c : Place) → IsTrue (is_in one c) ⊎ IsTrue (is_in other c) → IsTrue (is_in result c) }
+{
+    Window {
+        rows: (one.rows.0.min(other.rows.0), one.rows.1.max(other.rows.1)),
+        columns: (
+            one.columns.0.min(other.columns.0),
+            one.columns.1.max(other.columns.1),
+        ),
+    }
+}
+
+/// A window with all cells of these windows.
+fn hull_of(windows: &[Window]) -> Window
+    ensures { (c : Place) → IsTrue (list_any (λ w. is_in w c) windows.now) → IsTrue (is_in result c) }
+{
+    let mut hull = Window {
+        rows: (LAST_CELL, 0),
+        columns: (LAST_CELL, 0),
+    };
+    for window in windows {
+        hull = joined(hull, *window);
+    }
+    hull
+}
+
+/// Appends the node in a slot, if there is one and its coordinate is in one of these windows.
+fn push_near(
+    found: &mut Vec<NodeId>,
+    id: Option<NodeId>,
+    place: Coord,
+    hull: Window,
+    windows: &[Window],
+) -> Result<(), AllocError>
+    requires { IsTrue (list_any (λ w. is_in w place) windows.now) → IsTrue (is_in hull place) }
+    ensures { OnOk result ((v : ℕ) → Contains found.new.items v
+        ↔ (Contains found.old.items v ⊎ ((id ≡ Some v) × IsTrue (list_any (λ w. is_in w place) windows.now)))) }
+{
+    if is_in(hull, place) && is_in_any(windows, place) {
+        if let Some(id) = id {
+            found.push(id)?;
+        }
+    }
+    Ok(())
+}
+
+/// The nodes whose coordinates are in one of these windows.
+pub(crate) fn nodes_in(
+    alloc: Global,
+    ids: &[Option<NodeId>],
+    places: &[Coord],
+    windows: &[Window],
+) -> Result<Vec<NodeId>, AllocError>
+    requires { length ids.now ≡ length places.now }
+    ensures right { IfOk result (λ found. (v : ℕ) → Contains found.items v → (k : ℕ) × (slice_get ids.now k ≡ Some (Some v))) }
+    ensures whole { IfOk result (λ found. (k v : ℕ) (c : Place) → slice_get ids.now k ≡ Some (Some v) →
+        slice_get places.now k ≡ Some c → IsTrue (list_any (λ w. is_in w c) windows.now) → Contains found.items v) }
+{
+    let hull = hull_of(windows);
+    let mut found = Vec::new(alloc);
+    for k in 0..ids.len() {
+        push_near(&mut found, ids[k], places[k], hull, windows)?;
+    }
+    Ok(found)
+}
