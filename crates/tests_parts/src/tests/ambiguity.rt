@@ -1,7 +1,7 @@
 //! The worked path, which is distinct, and the same map with a second line beside its first one.
 
 use made_maps::{FIRST, WORKED, line, make, map_of, new_line};
-use olr_ambiguity::{Found, Grid, Obstacle, obstacles};
+use olr_ambiguity::{Found, Grid, Obstacle, obstacles, obstacles_near};
 use olr_binary::from_text;
 use olr_map::{MapRead, RoadMap};
 use std::alloc::{AllocError, Global};
@@ -11,8 +11,9 @@ use std::test::Fail;
 /// The string of the worked path.
 const TEXT: &[u8] = b"CwRbWyNG9RpsCQCb/jsbtAT/6/+jK1lE";
 
-/// What stands in the way of the worked path's string on a map. None if the map lacks a line of the path.
-fn found_on(alloc: Global, map: &RoadMap) -> Result<Option<Vec<Found>>, AllocError> {
+/// What stands in the way of the worked path's string on a map, by a grid, and without one. None if the map lacks a line of
+/// the path.
+fn found_on(alloc: Global, map: &RoadMap) -> Result<Option<[Vec<Found>; 2]>, AllocError> {
     let Ok(reference) = from_text(alloc, TEXT) else {
         return Ok(None);
     };
@@ -25,7 +26,11 @@ fn found_on(alloc: Global, map: &RoadMap) -> Result<Option<Vec<Found>>, AllocErr
     if !has_all || reference.middle.len() != 1 {
         return Ok(None);
     }
-    Ok(Some(obstacles(alloc, map, &grid, &reference, &own)?))
+    let nodes = map.node_places();
+    Ok(Some([
+        obstacles(alloc, map, &grid, &reference, &own)?,
+        obstacles_near(alloc, map, nodes.ids, nodes.places, &reference, &own)?,
+    ]))
 }
 
 /// Asserts what stands in the way of the worked path's string on a map.
@@ -36,7 +41,11 @@ fn expect_found(
     wanted: &[Found],
 ) -> Result<(), AllocError> {
     let found = found_on(alloc, map)?;
-    assert_eq!(rt; found.as_ref().map(|found| found.as_slice()), Some(wanted));
+    assert!(rt; found.is_some());
+    if let Some([by_grid, near]) = &found {
+        assert_eq!(rt; by_grid.as_slice(), wanted);
+        assert_eq!(rt; near.as_slice(), wanted);
+    }
     Ok(())
 }
 
