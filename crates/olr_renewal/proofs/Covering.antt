@@ -5,9 +5,9 @@ use Rattle.olr_renewal.proofs.Common.{subst, append_assoc, arith, min, cases_Boo
 use Rattle.olr_renewal.proofs.Common.{slice_get_within, Map, IsMap, has, holds, Index, Item}
 use Rattle.olr_renewal.proofs.Common.{Includes, Finds, Covers}
 use Rattle.olr_renewal.proofs.Common.{FindsChanged}
-use Rattle.olr_renewal.proofs.Common.{option_map, Rc, has_node, dm_of, CoverageQuery, GREATEST_LIMIT, AreLengths}
+use Rattle.olr_renewal.proofs.Common.{option_map, Rc, has_node, CoverageQuery, GREATEST_LIMIT, AreLengths}
 use Rattle.olr_renewal.proofs.Common.{label_at, Against, made_of, items, QueryTouched}
-use Rattle.olr_renewal.proofs.Common.{nodes_of, lines_of, sources}
+use Rattle.olr_renewal.proofs.Common.{nodes_of, lines_of}
 use Rattle.olr_renewal.proofs.Common.{IsSearchedFor, ChangeSet}
 use Rattle.olr_renewal.proofs.Common.{AreFar, LackQueries, BeginsIn, Begins, Finder, Published}
 use Rattle.olr_renewal.proofs.Common.{NamedPath, PathList, Path, Changes, RemovesNone, change_at, under_change}

@@ -6,7 +6,7 @@ use Rattle.olr_renewal.proofs.Common.{List, Made, Map, Margin, Option, Path, Som
 use Rattle.olr_renewal.proofs.Common.{has, inl, inr}
 use Rattle.olr_renewal.proofs.Common.{refl, None, is_margin, is_path, min, slice_get, subst, ℕ, All, ◌≡◌, ◌≤◌}
 use Rattle.olr_paths.proofs.Alls.{at_position}
-use Rattle.olr_paths.proofs.Common.{AllByRecursion, Contains, IfSome, KnownQuery, LineTouched, Near, QueryTouched}
+use Rattle.olr_paths.proofs.Common.{AllByRecursion, Contains, IfSome, LineTouched, Near, QueryTouched}
 use Rattle.olr_paths.proofs.Common.{BeginsIn, GREATEST_LIMIT, TraversedTouched, true, ◌∷◌, []}
 use Rattle.olr_paths.specs.Origins.{farthest, AreShort}
 use Rattle.olr_renewal.specs.Actions.{ToName, Retains, IsActionFor}
@@ -14,7 +14,7 @@ use Rattle.olr_renewal.specs.declared.actions.Action.{Action}
 use Rattle.olr_renewal.specs.declared.actions.Action.TheVariants.{Skip, Retain, Encode}
 use Rattle.olr_renewal.specs.Reencoded.{IsGiven}
 use Rattle.olr_paths.specs.Items.{known_in}
-use Rattle.olr_paths.specs.Changes.{StayKnown, Touches}
+use Rattle.olr_paths.specs.Changes.{Touches}
 use Rattle.olr_renewal.proofs.LongestQueries.{within_farthest, farthest_most}
 use Rattle.olr_spec.proofs.KnownLemmas.{known_kept}
 use Rattle.olr_spec.proofs.StayLemmas.{untouched_retained_with}

@@ -1,8 +1,6 @@
-use Rattle.olr_renewal.proofs.Common.{inl, inr, sym, ◌∙◌, ap, arith, option_map, made_of, true≢false, nodes_of, lines_of, changed_of}
-use Rattle.olr_renewal.proofs.Common.{subst, Option, Made, BeginsIn, IsSearchedFor, KnownQuery, List}
+use Rattle.olr_renewal.proofs.Common.{inl, inr, sym, ◌∙◌, ap, option_map, made_of, true≢false, nodes_of, lines_of}
+use Rattle.olr_renewal.proofs.Common.{subst, Option, Made, BeginsIn, IsSearchedFor}
 use Rattle.olr_renewal.proofs.Touching.{untouched, touched_itself}
-use Rattle.olr_paths.specs.Changes.{StayKnown}
-use Rattle.olr_paths.specs.Items.{known_in}
 use Rattle.olr_renewal.proofs.actions.decide.Goals as goal
 
 pub is_query_touched-requires : goal.is_query_touched-requires

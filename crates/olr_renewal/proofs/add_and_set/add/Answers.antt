@@ -1,4 +1,4 @@
-use Rattle.olr_renewal.proofs.Common.{arith, made_of}
+use Rattle.olr_renewal.proofs.Common.{made_of}
 use Rattle.olr_paths.proofs.OriginLemmas.{begins_add}
 use Rattle.olr_renewal.proofs.add_and_set.add.Goals as goal
 

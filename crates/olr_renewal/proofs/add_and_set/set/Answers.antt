@@ -1,5 +1,5 @@
 use Rattle.olr_renewal.proofs.Common.{◌≡◌, inl, inr, List, [], ◌∷◌, ◌++◌, ap, ◌∙◌, Entry, entry, entry_of, Made}
-use Rattle.olr_renewal.proofs.Common.{made_of, map, arith}
+use Rattle.olr_renewal.proofs.Common.{made_of, map}
 use Rattle.olr_paths.proofs.OriginLemmas.{begins_set}
 use Rattle.olr_renewal.proofs.add_and_set.set.Goals as goal
 
