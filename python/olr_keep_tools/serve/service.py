@@ -49,7 +49,7 @@ class Settings:
     changes_socket: socket.socket
 
     def name(self) -> str:
-        """What others are told who want the table."""
+        """This service, as it is named to others that want the table."""
         return f"{os.path.realpath(self.log)} on {socket.gethostname()}"
 
     def seconds_for_reply(self) -> float:

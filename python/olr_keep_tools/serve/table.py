@@ -211,7 +211,7 @@ class Table:
 
     def __init__(self, name: str, channel: str = "", retained: int = 0, owner: str = "") -> None:
         """Opens the table, and makes it if it is missing. With a `channel` PostgreSQL notifies it of each position; the
-        newest `retained` changes stay in the history, all if it is 0. Others are told that `owner` has it."""
+        newest `retained` changes stay in the history, all if it is 0. `owner` is named to others that want it."""
         self.channel, self.retained = channel, retained
         self.failures: Tuple[Type[BaseException], ...] = (sqlite3.Error, OSError)
         try:
