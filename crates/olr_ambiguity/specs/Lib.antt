@@ -1,4 +1,4 @@
 pub mod Places
 pub mod OwnLines
 pub mod Grids
-pub mod Found
+pub mod Causes

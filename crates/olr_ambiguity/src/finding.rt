@@ -1,11 +1,12 @@
-//! What stands in the way of a string's being read in only one way.
+//! The ambiguities of a string.
 ghost use Rattle.std.specs.Prelude.{◌≡◌, ◌<◌, ◌++◌, ◌+◌, map as list_map, filter, length, IfOk, OnOk, IsTrue};
 ghost use Rattle.std.specs.List.{All};
 ghost use Rattle.olr_spec.specs.Map.{has_line};
 ghost use Rattle.olr_spec.specs.Reference.{Reference};
 ghost use Rattle.olr_spec.specs.Receiver.{last_number};
 ghost use Rattle.olr_spec.specs.Ambiguity.{Other_node, obstacles, obstacles_at, side_at};
-ghost use Rattle.olr_ambiguity.specs.Found.{applies, found_of, named};
+ghost use Rattle.olr_answers.specs.Ambiguities.{found_of};
+ghost use Rattle.olr_ambiguity.specs.Causes.{applies, named};
 ghost use Rattle.olr_ambiguity.specs.Grids.{AreNodes, HasAllRivals, HasRivals, IsGrid};
 ghost use Rattle.olr_ambiguity.specs.OwnLines.{IsOwnLine, side_of};
 ghost use Rattle.olr_ambiguity.specs.Places.{place_of};
@@ -15,30 +16,11 @@ use crate::grid::Grid;
 use crate::near::{nodes_in, windows};
 use crate::own_line::{OwnLine, Side, is_twin_of, is_unclear, lines_on, own_line};
 use crate::rivals::rivals;
+use olr_answers::{Found, Obstacle};
 use olr_binary::Reference as PublishedReference;
 use olr_coords::Coord;
 use olr_model::{LineId, MapRead, NodeId};
 use std::alloc::{AllocError, Global};
-
-/// What stands in the way at an LRP.
-#[derive(Clone, Copy, Debug, PartialEq, Eq)]
-pub enum Obstacle {
-    /// Another line at its node with the same class, form and sector.
-    SameSector(LineId),
-    /// Another line at its node with a direction in the sector or its margin; or the path's own line, without one.
-    OtherBearing(LineId),
-    /// Another node with a candidate that a receiver may take.
-    OtherNode(NodeId),
-}
-
-/// What stands in the way, and at which LRP, counted from 0.
-#[derive(Clone, Copy, Debug, PartialEq, Eq)]
-pub struct Found {
-    /// The number of the LRP.
-    pub lrp: usize,
-    /// What stands in the way there.
-    pub obstacle: Obstacle,
-}
 
 /// Why a candidate at the node of the path's own line stands in the way.
 #[derive(Clone, Copy)]

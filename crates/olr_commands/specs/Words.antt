@@ -12,7 +12,7 @@ use Rattle.olr_binary.specs.declared.faults.V3Fault.TheVariants as bytes
 use Rattle.olr_binary.specs.declared.faults.TextFault.{TextFault}
 use Rattle.olr_binary.specs.declared.faults.TextFault.TheVariants as text
 use Rattle.olr_answers.specs.Answers.{refusal_of}
-use Rattle.olr_ambiguity.specs.Found.{found_of}
+use Rattle.olr_answers.specs.Ambiguities.{found_of}
 use Rattle.olr_commands.specs.Ambiguities as ambiguities
 use Rattle.olr_commands.specs.State as state
 use Rattle.olr_commands.specs.Reply as reply

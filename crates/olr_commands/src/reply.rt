@@ -1,7 +1,6 @@
 //! Replies to accepted commands.
 
-use olr_ambiguity::Found;
-use olr_answers::Refusal;
+use olr_answers::{Found, Refusal};
 use olr_binary::Reference;
 
 /// A path's string, or the reason why it has none.

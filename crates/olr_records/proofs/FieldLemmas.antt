@@ -1,8 +1,6 @@
 -- Fields: the bytes of a field by its position, and as text.
-use Rattle.olr_records.proofs.Common.{list_all, and_parts, nat_tests, is_name}
-use Rattle.olr_records.proofs.Common.{is_name_byte, Field}
-use Rattle.std.proofs.Common.{◌≡◌, ℕ, zero, suc, ◌<◌, Bool, true, List, [], ◌∷◌, unwrap_or}
-use Rattle.std.proofs.Common.{nat_le, refl, arith, rules}
+use Rattle.olr_records.proofs.Common.{list_all, and_parts, nat_tests, is_name, is_name_byte, Field}
+use Rattle.std.proofs.Common.{◌≡◌, ℕ, zero, suc, ◌<◌, Bool, true, List, [], ◌∷◌, unwrap_or, nat_le, refl, arith, rules}
 use Rattle.std.specs.Prelude.{slice_index_or, IsAscii, IsUtf8}
 use Rattle.std.proofs.lemmas.Str.{IsUtf8-from_ascii}
 use Rattle.csv.specs.Records.{field_at}

@@ -3,16 +3,14 @@ use Rattle.olr_records.proofs.Common.{IfOk, ⊤, AllByRecursion, Change, On_map,
 use Rattle.olr_records.proofs.Common.{Add_line, Set_line, Drop_line, Add_path, Set_path, Drop_path, Make, Field, Read}
 use Rattle.olr_records.proofs.Common.{number, amount, name, numbers, node_fields, edit, node_record, attributes}
 use Rattle.olr_records.proofs.Common.{whole_line, line_record, set_line_record, path_fields, read, if◌then◌else◌, Path}
-use Rattle.olr_records.proofs.Common.{Coord}
+use Rattle.olr_records.proofs.Common.{Coord, Set_margin, Show_margin, class}
 use Rattle.std.proofs.Common.{◌≡◌, ℕ, Bool, true, false, List, [], ◌∷◌, Some, Ok, Err, refl, subst, sym, length}
 use Rattle.std.specs.Prelude.{codes, slice_index_or}
 use Rattle.olr_commands.specs.State.{Command, Show, Show_node, Show_line, Depends, Report, Dump, Compact, Explain}
 use Rattle.olr_commands.specs.State.{Begin, Preview, Commit, Abort, Ambiguous, same_name}
 use Rattle.olr_records.specs.Records.{ReadFault, Bad_form, one, none, path_record, forms, read_by, depends_record}
-use Rattle.olr_records.specs.Records.{few_nodes, ambiguous_record}
+use Rattle.olr_records.specs.Records.{few_nodes, ambiguous_record, digits, margin_record}
 use Rattle.olr_commands.proofs.NameLemmas.{same_is}
-use Rattle.olr_records.proofs.Common.{Set_margin, Show_margin, class}
-use Rattle.olr_records.specs.Records.{digits, margin_record}
 use Rattle.olr_records.proofs.TestLemmas.{◌also◌}
 use Rattle.olr_records.proofs.ReadLemmas.{given, two, any_passes, one_passes}
 

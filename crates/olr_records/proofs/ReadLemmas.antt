@@ -7,7 +7,8 @@ use Rattle.olr_records.proofs.Common.{max32, number, amount, coordinate, place, 
 use Rattle.olr_records.proofs.Common.{node_fields, edit, node_record, line_between, attributes, whole_line, line_record}
 use Rattle.olr_records.proofs.Common.{set_line_record, path_fields, read, is_number, is_amount, is_place, is_point}
 use Rattle.olr_records.proofs.Common.{are_attributes, is_named_path, has_record, Recorded, nat_abs, is_longitude}
-use Rattle.olr_records.proofs.Common.{is_latitude, unit7, are_coords, HasCoord, degrees-whole}
+use Rattle.olr_records.proofs.Common.{is_latitude, unit7, are_coords, HasCoord, degrees-whole, Set_margin, Show_margin}
+use Rattle.olr_records.proofs.Common.{class}
 use Rattle.std.proofs.Common.{◌≡◌, ℕ, ℤ, Bool, true, false, List, [], ◌∷◌, Option, Some, None, Ok, Err, IsTrue, refl}
 use Rattle.std.proofs.Common.{subst, length, nat_le, ◌&&◌, pos, negsuc, arith, ◌%◌}
 use Rattle.std.specs.Prelude.{codes, slice_index_or}
@@ -15,9 +16,7 @@ use Rattle.olr_commands.specs.State.{Command, Show, Show_node, Show_line, Depend
 use Rattle.olr_commands.specs.State.{Begin, Preview, Commit, Abort, Ambiguous, HasCoords}
 use Rattle.olr_coords.specs.Bounds.{is_degrees}
 use Rattle.olr_records.specs.Records.{digits, longitude, latitude, one, none, path_record, forms, read_by}
-use Rattle.olr_records.specs.Records.{depends_record, few_nodes, ambiguous_record}
-use Rattle.olr_records.proofs.Common.{Set_margin, Show_margin, class}
-use Rattle.olr_records.specs.Records.{margin_record}
+use Rattle.olr_records.specs.Records.{depends_record, few_nodes, ambiguous_record, margin_record}
 use Rattle.olr_records.proofs.TestLemmas.{all_weaker, ◌also◌}
 
 -- a record of the word explain and one field

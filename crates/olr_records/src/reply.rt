@@ -2,7 +2,7 @@
 ghost use Rattle.std.specs.Prelude.{◌≡◌, ◌≤◌, ◌++◌, ◌∷◌, [], ℕ, List, decimal, drop, length, map, string_bytes, IfOk, OnOk};
 ghost use Rattle.std.specs.List.{concat};
 ghost use Rattle.std.specs.Result.{result_map_both};
-ghost use Rattle.olr_ambiguity.specs.Found.{obstacle_of};
+ghost use Rattle.olr_answers.specs.Ambiguities.{obstacle_of};
 ghost use Rattle.olr_answers.specs.Answers.{refusal_of};
 ghost use Rattle.olr_commands.specs.RecordText.{after_commas};
 ghost use Rattle.olr_commands.specs.Reply.{Dumped};
@@ -10,8 +10,7 @@ ghost use Rattle.olr_commands.specs.Words.{reply_of, entry_of, named_obstacle_of
 ghost use Rattle.olr_records.specs.ReplyText as texts;
 
 use crate::texts::{push_byte_line, push_point};
-use olr_ambiguity::Obstacle;
-use olr_answers::Refusal;
+use olr_answers::{Obstacle, Refusal};
 use olr_binary::{Attrs, First, Last, Middle, Reference};
 use olr_commands::{Dump, Entry, NamedObstacle, Reply, push_field, push_number};
 use std::alloc::{AllocError, Global};

@@ -1,6 +1,6 @@
 use Rattle.olr_spec.proofs.Common.{◌≡◌, map, take}
 use Rattle.olr_spec.specs.Ambiguity.{obstacles_from}
-use Rattle.olr_ambiguity.specs.Found.{found_of}
+use Rattle.olr_answers.specs.Ambiguities.{found_of}
 use Rattle.olr_ambiguity.proofs.finding.obstacles_by.Given as goal
 
 -- what stands in the way at the LRPs so far

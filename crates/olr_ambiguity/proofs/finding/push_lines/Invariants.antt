@@ -1,5 +1,6 @@
 use Rattle.olr_spec.proofs.Common.{◌≡◌, ◌++◌, map, filter, take}
-use Rattle.olr_ambiguity.specs.Found.{applies, found_of, named}
+use Rattle.olr_answers.specs.Ambiguities.{found_of}
+use Rattle.olr_ambiguity.specs.Causes.{applies, named}
 use Rattle.olr_ambiguity.specs.OwnLines.{side_of}
 use Rattle.olr_ambiguity.proofs.finding.push_lines.Given as goal
 

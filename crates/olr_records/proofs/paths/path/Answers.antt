@@ -1,4 +1,4 @@
-use Rattle.olr_records.proofs.Common.{⊤, fields_of, Path, Field, ◌⊛◌, amount, name, numbers, Reads, Gathers, common_steps}
+use Rattle.olr_records.proofs.Common.{⊤, fields_of, Path, Field, ◌⊛◌, amount, name, numbers, Reads, Gathers}
 use Rattle.std.proofs.Common.{rules, arith, ℕ, List, drop, Ok, subst}
 use Rattle.std.specs.Prelude.{string_bytes}
 use Rattle.olr_records.proofs.LoopLemmas.{at}
@@ -30,6 +30,3 @@ returns-in_err-name c =
     (both-parts (λ _. ⊤) (λ _. ⊤) (λ _. ⊤) _ (λ v. v.items) (front ⊛ amount (at fs 2) ⊛ amount (at fs 3))
     (numbers (drop 4 fs)) c.both-offset.result c.line_ids.result c.both.result c.both.ensures
     (λ g b h. tt) (λ a b h. tt) offset c.line_ids.ensures))
-
-pub returns : goal.returns
-returns c = grind (arith, common_steps)
