@@ -1,13 +1,12 @@
 -- A list under changes that remove no path: position by position, and with new results stored.
 --     changed_by cs i      one path under the changes.
 --     Lies us vs      vs is us, with some paths replaced by paths that are not encoded yet
-use Rattle.olr_paths.proofs.Common.{All, All-head, All-tail, inl, inr, ◌≡◌, ◌⊎◌, ℕ, zero, suc, ◌+◌, true, false}
-use Rattle.olr_paths.proofs.Common.{cond, List, [], ◌∷◌, ◌++◌, map, length, slice_get, Option, Some, None}
-use Rattle.olr_paths.proofs.Common.{is_some, refl, sym, ap, ◌∙◌, subst, arith, Path, same_name, path_named}
-use Rattle.olr_paths.proofs.Common.{NamesDiffer, Entry, Made, Item, all_named, Reported, Changes, RemovesNone}
-use Rattle.olr_paths.proofs.Common.{change_at}
-use Rattle.olr_paths.proofs.Common.{drops, under_change, under_changes, Put, put, all_put}
-use Rattle.olr_paths.proofs.Common.{string_bytes, Rc, same_is, changes_in, path_in, String, Global, without_answer, length-map}
+use Rattle.olr_paths.proofs.Common.{All, All-head, All-tail, inl, inr, ◌≡◌, ◌⊎◌, ℕ, zero, suc, ◌+◌, true, false, cond}
+use Rattle.olr_paths.proofs.Common.{List, [], ◌∷◌, ◌++◌, map, length, slice_get, Option, Some, None, is_some, refl, sym}
+use Rattle.olr_paths.proofs.Common.{ap, ◌∙◌, subst, arith, Path, same_name, path_named, NamesDiffer, Entry, Made, Item}
+use Rattle.olr_paths.proofs.Common.{all_named, Reported, Changes, RemovesNone, change_at, drops, under_change}
+use Rattle.olr_paths.proofs.Common.{under_changes, Put, put, all_put, string_bytes, Rc, same_is, changes_in, path_in}
+use Rattle.olr_paths.proofs.Common.{String, Global, without_answer, length-map}
 use Rattle.std.proofs.Common.{length-append}
 use Rattle.olr_paths.proofs.NamedEntries.{Entries, First, item_of, items_of, same_flip}
 use Rattle.olr_paths.proofs.Overlaying.{Entered, has_name}

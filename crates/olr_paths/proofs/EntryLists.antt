@@ -35,14 +35,6 @@ decided q r (Some s) (Some t) soundq soundr textq textr b e =
     subst (λ (c : Bool). (IsTrue c → spec.Points q ≡ spec.Points r) × (spec.Points q ≡ spec.Points r → IsTrue c))
     (sym e) both
 
--- with no earlier list, all are reported: one more entry, if the rest follows
-pub reported_more : (is left : List Item) (i : Item) (m : Made) (es : List Entry) → i.made ≡ Some m
-    → ((fs : List Entry) → Reported [] (i ∷ left) fs → Reported [] is (es ++ fs))
-    → (fs : List Entry) → Reported [] left fs → Reported [] is ((es ++ entry i.name m.answer ∷ []) ++ fs)
-reported_more is left i m es made so_far fs rest =
-    rw append_assoc (so_far (entry i.name m.answer ∷ fs)
-    (m.answer, fs, ap (option_map (λ (n : Made). n.answer)) made, rest, inr ((λ h. cc), refl)))
-
 -- ---- what was encoded
 
 -- a name with a stored result has an answer

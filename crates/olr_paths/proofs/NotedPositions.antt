@@ -1,15 +1,12 @@
 -- Index entries that are added and removed one by one, and results to be stored at positions.
 use Rattle.olr_paths.proofs.Common.{option_to_list, CoverageQuery, All-contains, ArePublished, set_value_at}
-use Rattle.olr_paths.proofs.Common.{LackQueries}
-use Rattle.olr_paths.proofs.Common.{path_ids_of, option_map, NamedNoted, IsNoted, keys_by, named_keys, AreNotedAt}
-use Rattle.olr_paths.proofs.Common.{map-append, AreEncoded, nat_tests}
-use Rattle.olr_paths.proofs.Common.{slice_get, Published, NamedPath, values_of, Contains, AddsOnly, ChangesOnly}
-use Rattle.olr_paths.proofs.Common.{BeginsIn}
-use Rattle.olr_paths.proofs.Common.{PathList, made_of, all_put, puts_of, length, get_or, IsTrue, Option, Begins, Finder}
-use Rattle.olr_paths.proofs.Common.{String, Global, subst, arith, holds, Index, Grows, items, ◌==◌, List, ◌||◌, ◌&&◌}
-use Rattle.olr_paths.proofs.Common.{[]}
-use Rattle.olr_paths.proofs.Common.{take, zero, Some, None, refl, Item, ◌++◌, Path, Made, ◌≡◌, ◌≢◌, ◌+◌, ◌<◌, not, All}
-use Rattle.olr_paths.proofs.Common.{inl, inr, suc, ◌∷◌, sym, ◌∙◌, has, ◌≤◌, Put, put, ap, Rc, ℕ}
+use Rattle.olr_paths.proofs.Common.{LackQueries, path_ids_of, option_map, NamedNoted, IsNoted, keys_by, named_keys}
+use Rattle.olr_paths.proofs.Common.{AreNotedAt, map-append, AreEncoded, nat_tests, slice_get, Published, NamedPath}
+use Rattle.olr_paths.proofs.Common.{values_of, Contains, AddsOnly, ChangesOnly, BeginsIn, PathList, made_of, all_put}
+use Rattle.olr_paths.proofs.Common.{puts_of, length, get_or, IsTrue, Option, Begins, Finder, String, Global, subst}
+use Rattle.olr_paths.proofs.Common.{arith, holds, Index, Grows, items, ◌==◌, List, ◌||◌, ◌&&◌, [], take, zero, Some}
+use Rattle.olr_paths.proofs.Common.{None, refl, Item, ◌++◌, Path, Made, ◌≡◌, ◌≢◌, ◌+◌, ◌<◌, not, All, inl, inr, suc}
+use Rattle.olr_paths.proofs.Common.{◌∷◌, sym, ◌∙◌, has, ◌≤◌, Put, put, ap, Rc, ℕ}
 use Rattle.olr_paths.proofs.Alls.{all_more, at_position}
 use Rattle.olr_paths.proofs.NamedEntries.{Entries, item_of, items_of, item_at, made_of_named}
 use Rattle.olr_paths.proofs.PathIdLemmas.{noted_grown}
@@ -33,21 +30,6 @@ module _ {A : Type 0} (number : A → ℕ) (path_id : ℕ) (old : Index) where
             (grind (arith, nat_tests, added v path_id));
         grows = λ n m t. grown n m (h.grows n m t);
         spares = λ n m ne. grind (arith, nat_tests, added n m, h.spares n m ne);
-      }
-
-  -- a number that has it already
-  pub noted_same : (now : Index) (xs ys : List A) (k : ℕ) (d : A) (v : ℕ) → k < length xs →
-      v ≡ number (get_or xs k d) → (x : A) × Contains ys x × (number x ≡ v) →
-      All (λ x. IsTrue (holds old (number x) path_id)) ys → Noted number path_id old now (take k xs) →
-      Noted number path_id old now (take (k + 1) xs)
-  noted_same now xs ys k d v lt is there all h =
-      let P : A → Type 0 = λ x. IsTrue (holds now (number x) path_id) in
-      let had = All-contains (λ x. IsTrue (holds old (number x) path_id)) ys there.0 all there.1 in
-      record {
-        noted = all_more P xs k d lt h.noted
-            (subst (λ (n : ℕ). IsTrue (holds now n path_id)) (there.2 ∙ is) (h.grows (number there.0) path_id had));
-        grows = h.grows;
-        spares = h.spares;
       }
 
 -- after some of them were removed; the numbers of the path now still have the path id

@@ -1,8 +1,7 @@
 -- The coverage queries of a list in which an item was replaced, or a path was added, set or dropped.
-use Rattle.olr_paths.proofs.Common.{inl, inr, ◌≡◌, ℕ, zero, suc, ◌⊎◌, Bool, List, [], ◌∷◌, ◌++◌, map}
-use Rattle.olr_paths.proofs.Common.{slice_get, Option, Some, arith, filter, option_map, Path, CoverageQuery}
-use Rattle.olr_paths.proofs.Common.{Made, Item, made_of, set_item, BeginsIn, Begins, BeginsPut, Put, put, all_put}
-use Rattle.olr_paths.proofs.Common.{puts_of, NamedPath}
+use Rattle.olr_paths.proofs.Common.{inl, inr, ◌≡◌, ℕ, zero, suc, ◌⊎◌, Bool, List, [], ◌∷◌, ◌++◌, map, slice_get, Option}
+use Rattle.olr_paths.proofs.Common.{Some, arith, filter, option_map, Path, CoverageQuery, Made, Item, made_of, set_item}
+use Rattle.olr_paths.proofs.Common.{BeginsIn, Begins, BeginsPut, Put, put, all_put, puts_of, NamedPath}
 
 -- of one of the list's items
 pub begins_there : (is : List Item) (k : ℕ) (i : Item) (v : CoverageQuery) → slice_get is k ≡ Some i →

@@ -164,13 +164,6 @@ pub record Copied (cs : Changes) (left is to now : List Item) : Type 0 where
   pub rest : done ++ under_changes cs left ≡ under_changes cs is
 
 module _ (cs : Changes) (left is to now : List Item) (i : Item) (h : Copied cs (i ∷ left) is to now) where
-  pub copied_more : (new : List Item) → new ≡ now ++ under_change (change_at cs i.name) i → Copied cs left is to new
-  copied_more new e = record {
-    done = h.done ++ under_change (change_at cs i.name) i;
-    put = rw (e, h.put, append_assoc to h.done (under_change (change_at cs i.name) i)) refl;
-    rest = append_assoc h.done (under_change (change_at cs i.name) i) (under_changes cs left) ∙ h.rest;
-  }
-
   -- one more is added if none has its name
   pub put_free : (n : NamedPath) (j : Item) → under_change (change_at cs i.name) (item_of i.name n) ≡ j ∷ [] →
       item_of i.name n ≡ i → NamesDiffer (all_named (to ++ under_changes cs is)) → absent now i.name

@@ -1,6 +1,5 @@
 //! A list of named paths, in order.
-ghost use Rattle.std.specs.Prelude.{◌≡◌, IfOk, option_map};
-ghost use Rattle.std.specs.Prelude.{◌≢◌, ◌<◌, ℕ, None, length, get_or, IsFalse};
+ghost use Rattle.std.specs.Prelude.{◌≡◌, IfOk, option_map, ◌≢◌, ◌<◌, ℕ, None, length, get_or, IsFalse};
 ghost use Rattle.std.specs.List.Sorted.{IsStrictlyIncreasing};
 ghost use Rattle.olr_paths.specs.Finders.{AreNoted, AreNoted-prop, ArePublished, ArePublished-prop};
 

@@ -1,8 +1,8 @@
 -- What stands in the way of the strings of a register's paths, path by path; and the steps of the question.
-use Rattle.olr_register.proofs.Common.{◌≡◌, ℕ, suc, List, [], ◌∷◌, ◌++◌, map, Some, None, Ok, Err, refl, sym}
-use Rattle.olr_register.proofs.Common.{ap, ◌∙◌, subst, append_assoc, append-nil, slice_get, take, ◌+◌}
-use Rattle.olr_register.proofs.Common.{Map, Margin, Path, Named, Content, step, Item, Made, AreEncodings, IsEncodingOf}
-use Rattle.olr_register.proofs.Common.{all_named, named_of, path_named, No_path, option_map}
+use Rattle.olr_register.proofs.Common.{◌≡◌, ℕ, suc, List, [], ◌∷◌, ◌++◌, map, Some, None, Ok, Err, refl, sym, ap, ◌∙◌}
+use Rattle.olr_register.proofs.Common.{subst, append_assoc, append-nil, slice_get, take, ◌+◌, Map, Margin, Path, Named}
+use Rattle.olr_register.proofs.Common.{Content, step, Item, Made, AreEncodings, IsEncodingOf, all_named, named_of}
+use Rattle.olr_register.proofs.Common.{path_named, No_path, option_map, Option, IsMap, is_path, length}
 use Rattle.olr_spec.proofs.ListLemmas.{take_more_at}
 use Rattle.olr_spec.specs.Queries.{AreKnownWith}
 use Rattle.olr_commands.specs.State.{Ambiguous}
@@ -20,7 +20,6 @@ use Rattle.olr_spec.specs.Encoding.{EncodesWith}
 use Rattle.olr_spec.specs.Recovery.{OwnLinesOfWith}
 use Rattle.olr_spec.specs.Ambiguity.{Obstacle}
 use Rattle.olr_register.proofs.States.{state}
-use Rattle.olr_register.proofs.Common.{Option, IsMap, is_path, length}
 use Rattle.olr_paths.specs.Items.{known_in}
 use Rattle.std.proofs.lemmas.Option.{slice_get-map}
 use Rattle.std.proofs.Common.{All, IsTrue, zero}

@@ -62,7 +62,7 @@ all_encoded g M (i ∷ is) made = (
   all_encoded g M is made.1,
 )
 
-pub kept_encoded : (r : Inside) → IsKeptRight r.margin r.roads (items r.paths) r.batch r.bounds → AreEncoded (items r.paths)
+pub kept_encoded : (r : Inside) → IsKeptRight r.margin r.roads (items r.paths) r.batch r.searches.bounds → AreEncoded (items r.paths)
 kept_encoded r right = all_encoded r.margin (map_kept r.roads r.batch) (items r.paths) right.register.made
 
 pub all_published : (g : Margin) (M : Map) (is : List Item) → AreEncodings g M is →

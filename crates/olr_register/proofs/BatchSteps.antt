@@ -1,15 +1,14 @@
 -- Opening a batch, and one more change in an open batch, in terms of the definitions of commands.
 use Rattle.olr_register.proofs.Common.{◌≡◌, ℕ, suc, arith, Bool, true, false, not, List, [], ◌∷◌, ◌++◌, length, map}
 use Rattle.olr_register.proofs.Common.{Some, Result, Ok, Err, refl, sym, ap, ◌∙◌, subst, append_assoc, ◌==◌, ◌&&◌, ◌||◌}
-use Rattle.olr_register.proofs.Common.{nat_le, append-nil, list_any-append, flat_map-append, has, map_of}
-use Rattle.olr_register.proofs.Common.{map_before, RoadMap, Work, Named, Content, Fault, full, when, Change, On_map}
-use Rattle.olr_register.proofs.Common.{Add_path, Set_path, Drop_path, with_change, after, Make, step, IsRefusal}
-use Rattle.olr_register.proofs.Common.{takes_memory, may_want, is_reported_first, nodes_of_change, lines_of_change}
-use Rattle.olr_register.proofs.Common.{all_nodes, all_lines, Margin}
-use Rattle.olr_register.proofs.Common.{command_fault_of, reply_of, Reply, CommandFault, Item, under_batch}
-use Rattle.olr_register.proofs.Common.{RegisterState, IsBatchOf, content_on, content_under, batch_of, held_of, Answered}
-use Rattle.olr_register.proofs.Common.{AreGiven, MayReport, ByContent, Lacks, HoldsChange, Batch, None}
-use Rattle.olr_register.proofs.Common.{Begin, IsContent, ByState, DistanceBounds, AreEncodingsIfAny, Begins}
+use Rattle.olr_register.proofs.Common.{nat_le, append-nil, list_any-append, flat_map-append, has, map_of, map_before}
+use Rattle.olr_register.proofs.Common.{RoadMap, Work, Named, Content, Fault, full, when, Change, On_map, Add_path}
+use Rattle.olr_register.proofs.Common.{Set_path, Drop_path, with_change, after, Make, step, IsRefusal, takes_memory}
+use Rattle.olr_register.proofs.Common.{may_want, is_reported_first, nodes_of_change, lines_of_change, all_nodes}
+use Rattle.olr_register.proofs.Common.{all_lines, Margin, command_fault_of, reply_of, Reply, CommandFault, Item}
+use Rattle.olr_register.proofs.Common.{under_batch, RegisterState, IsBatchOf, content_on, content_under, batch_of}
+use Rattle.olr_register.proofs.Common.{held_of, Answered, AreGiven, MayReport, ByContent, Lacks, HoldsChange, Batch}
+use Rattle.olr_register.proofs.Common.{None, Begin, IsContent, ByState, DistanceBounds, AreEncodingsIfAny, Begins}
 use Rattle.olr_register.proofs.Common.{Follows, nodes_of, lines_of, changed_of, follows_self, named_held, AreEditsNoted}
 use Rattle.olr_register.proofs.Common.{IsKeptRight, IsHeld, HasBounds, all_named, flat_map}
 use Rattle.std.proofs.lemmas.Bool.{eq-eqb}
@@ -26,6 +25,11 @@ use Rattle.olr_map.specs.Undos.{CanMakeAll, made_all, log_changes}
 use Rattle.olr_register.proofs.Noted.{noted_none}
 use Rattle.olr_register.proofs.Renewed.{made_if_any}
 use Rattle.olr_commands.specs.Reply as replies
+use Rattle.olr_register.proofs.Common.{Differences, IsRegister, IsRenewal}
+use Rattle.olr_renewal.specs.Reencoded.{entries_of}
+use Rattle.olr_renewal.specs.declared.renewal.Renewed.{Renewed}
+use Rattle.olr_register.proofs.Renewed.{remade_made}
+use Rattle.olr_register.proofs.Replies.{planned_changes}
 
 -- ---- the held changes, with one more
 
@@ -53,6 +57,21 @@ held_content c roads is b xs i =
 pub right_count : (c : Content) (b : Outcome) (xs : List Change) {n : ℕ} → IsBatchOf c b xs → b.count ≡ n →
     step (state c (Some xs)) (Commit n) ≡ Ok (state (after c xs) None)
 right_count c b xs {n} i right = rw (eq-eqb (length xs) n (sym i.count ∙ right))
+
+-- a renewal of the list under the changes
+module _ (roads : RoadMap) (is : List Item) (b : Batch) (js : List Item) (n : Renewed)
+    (e : IsRenewal b.margin (map_of roads) b.touched is (under_batch is b) js n) where
+  pub renewed_content : (c : Content) (xs : List Change) → IsBatchOf c (batch_of roads is b) xs →
+      after c xs ≡ content_on b.margin (map_of roads) js
+  renewed_content c xs i =
+      held_content c roads is b xs i
+      ∙ ap (λ (ps : List Named). record { map = map_of roads; paths = ps; margin = b.margin }) (sym e.named)
+
+  pub renewed_reply : (g : Margin) → IsRegister g roads is (Some b) →
+      Differences (content_on g (map_before roads b.log) is) (content_on b.margin (map_of roads) js) (entries_of n)
+  renewed_reply g h =
+      planned_changes g b.margin (map_before roads b.log) (map_of roads) is js (entries_of n) h.content h.made
+      (remade_made b.margin (map_of roads) (under_batch is b) js e.remade) e.reported
 
 held_when : (c : Content) (ys : List Change) (b : Bool) (f : Fault) (r : Result Content Fault) →
     when b f (into_batch c ys r) ≡ into_batch c ys (when b f r)
@@ -167,7 +186,6 @@ module _ (g : Margin) (roads : RoadMap) (is : List Item) (b : Batch) (bounds : D
           record { nodes = omega arith; lines = omega arith },
     );
     sound = coe 0 1 (i. IsContent (content_on (sym e.margin i) (map_of roads) (sym (e.paths is) i))) h.register.content;
-    few = let none_yet = e.count in omega arith;
     noted =
         coe 0 1 (i. AreEditsNoted (sym same_before i) (map_of roads) (sym e.nodes i) (sym e.lines i)
         (sym e.changed i)) (noted_none (map_of roads));

@@ -1,7 +1,7 @@
 -- The distance bounds that a register stores: with a source where each coverage query of its list begins, and right on its
 -- map once they are settled, if the nodes that edits touched are reopened before.
-use Rattle.olr_register.proofs.Common.{◌≡◌, ℕ, subst, List, [], Ok, inl, Map, Edit, edited, start, map_of}
-use Rattle.olr_register.proofs.Common.{RoadMap, DistanceBounds, Item, HasBounds, IsFalse}
+use Rattle.olr_register.proofs.Common.{◌≡◌, ℕ, subst, List, [], Ok, inl, Map, Edit, edited, start, map_of, RoadMap}
+use Rattle.olr_register.proofs.Common.{DistanceBounds, Item, HasBounds, IsFalse, nodes_of}
 use Rattle.std.proofs.Common.{IsTrue}
 use Rattle.olr_spec.specs.Map.{has_node, end}
 use Rattle.olr_spec.proofs.AgreeLemmas.{turned_round}
@@ -11,6 +11,13 @@ use Rattle.olr_map.specs.Changes.{KeepsSlots, AddsNoNode}
 use Rattle.olr_renewal.specs.Bounds.{IsEdit, IsUnderWay, SameBut}
 use Rattle.olr_renewal.proofs.BoundLemmas.{edit_under_way}
 use Rattle.olr_renewal.specs.AffectedSearches.{AreBoundsOf}
+use Rattle.olr_renewal.specs.Reencoded.{CanRenewUnder}
+use Rattle.olr_renewal.specs.declared.update.MapUpdate.{MapUpdate}
+use Rattle.olr_paths.specs.Overlaid.{under_overlay}
+use Rattle.olr_paths.specs.declared.overlay.Overlay.{Overlay}
+use Rattle.olr_commands.specs.State.{NamesDiffer}
+use Rattle.olr_register.specs.Contents.{CanUpdate}
+use Rattle.olr_register.proofs.Listed.{named_to_renew}
 use Rattle.olr_register.proofs.EditedMaps.{starts_there, ends_there}
 
 -- unknown bounds say nothing
@@ -34,6 +41,19 @@ settled_bounds h =
             sources = λ v d at there. inl (right.sources v d at there);
           };
       sources = h.sources;
+    }
+
+-- ---- to renew a list
+
+pub can_renew : (u : MapUpdate RoadMap) (f g : DistanceBounds) (is : List Item) (o : Overlay) →
+    CanUpdate u f is (under_overlay is o) →
+    ((ks : List Item) → HasBounds u.map.now (nodes_of u.touched.now) ks f → AreBoundsOf (map_of u.map.now) (slot_of u.map.now) g ks) →
+    CanRenewUnder map_of slot_of u g is o
+can_renew u f g is o can settled =
+    let h = can.renewable.1 in
+    record {
+      names = subst NamesDiffer (named_to_renew u.sets_margin (under_overlay is o)) h.names;
+      renewable = record { follows = h.follows; bounds = settled _ can.bounded; before = (can.renewable.0, h.before) };
     }
 
 -- ---- after an edit

@@ -1,9 +1,8 @@
 -- How many paths the changes affect, counted by the stored results; none if there are no changes.
-use Rattle.olr_register.proofs.Common.{inl, inr, ◌≡◌, ℕ, true, List, [], ◌∷◌, map, Option, arith}
-use Rattle.olr_register.proofs.Common.{Some, None, refl, sym, ap, ◌∙◌, subst, is_none, list_any}
-use Rattle.olr_register.proofs.Common.{has, Named, Content, Change}
-use Rattle.olr_register.proofs.Common.{Affects, By_name, By_node, By_line, all_nodes, all_lines, gives}
-use Rattle.olr_register.proofs.Common.{Made, Item, Map, Margin, named_of, all_named, held_of, AreGiven, Work, without_answer}
+use Rattle.olr_register.proofs.Common.{inl, inr, ◌≡◌, ℕ, true, List, [], ◌∷◌, map, Option, arith, Some, None, refl, sym}
+use Rattle.olr_register.proofs.Common.{ap, ◌∙◌, subst, is_none, list_any, has, Named, Content, Change, Affects, By_name}
+use Rattle.olr_register.proofs.Common.{By_node, By_line, all_nodes, all_lines, gives, Made, Item, Map, Margin, named_of}
+use Rattle.olr_register.proofs.Common.{all_named, held_of, AreGiven, Work, without_answer}
 use Rattle.olr_route.specs.Counts.{raised_count, raised_work}
 use Rattle.olr_commands.specs.Counts.{CountIs}
 use Rattle.olr_renewal.specs.Changes.{IsAffected}

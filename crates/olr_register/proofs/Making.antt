@@ -5,11 +5,10 @@ use Rattle.olr_register.proofs.Common.{CoverageQuery, map_of, map_before, RoadMa
 use Rattle.olr_register.proofs.Common.{HasCoords, with_map, with_change, nodes_of_change, lines_of_change}
 use Rattle.olr_register.proofs.Common.{command_fault_of, CommandFault, changes_keep, Item, AreEncodingsIfAny, Follows}
 use Rattle.olr_register.proofs.Common.{Begins, under_overlay, nodes_of, lines_of, changed_of, ChangeSet, Bool, Margin}
-use Rattle.olr_register.proofs.Common.{to_renew, content_on, content_under, under_batch, AreEditsNoted}
+use Rattle.olr_register.proofs.Common.{to_renew, content_on, content_under, under_batch, AreEditsNoted, all_named, ◌∷◌}
+use Rattle.olr_register.proofs.Common.{Set_margin, follows_without, is_margin, true, Named, held_of, IsHeld, AreGiven}
+use Rattle.olr_register.proofs.Common.{MayReport, Batch, Result, IsErrAnd, or_right, slot_of, KeepsSlots, IsUnderWay}
 use Rattle.std.proofs.Common.{IsTrue}
-use Rattle.olr_register.proofs.Common.{all_named, ◌∷◌, Set_margin, follows_without, is_margin, true, Named, held_of}
-use Rattle.olr_register.proofs.Common.{IsHeld, AreGiven, MayReport, Batch, Result, IsErrAnd, or_right, slot_of}
-use Rattle.olr_register.proofs.Common.{KeepsSlots, IsUnderWay}
 use Rattle.olr_map.specs.RoadMaps.{CanUndoAll}
 use Rattle.olr_map.specs.declared.undo.UndoLog.{UndoLog}
 use Rattle.olr_paths.specs.declared.overlay.Overlay.{Overlay}
@@ -47,7 +46,6 @@ without_answer old new is b log l t x (Err g) f failed undo before same list nod
   held = λ h. record {
     undo = undo h;
     sound = coe 0 1 (i. IsContent (content_on b.margin (sym same i) (sym list i))) h.sound;
-    few = h.few;
     noted = coe 0 1 (i. AreEditsNoted (sym before i) (sym same i) (sym nodes i) (sym lines i) (sym changed i)) h.noted;
     made = coe 0 1 (i. AreEncodingsIfAny b.margin (sym before i) (sym list i)) h.made;
     follows = subst (Follows is) (sym list) h.follows;
@@ -88,10 +86,9 @@ module _ (roads : RoadMap) (is : List Item) (b : Batch) (l : Overlay) (x : Chang
         });
     refused = tt;
     unchanged = tt;
-    held = λ h. subst (λ (js : List Item). IsHeldAs b.margin roads is js b.log b.count b.touched) (sym same) (record {
+    held = λ h. subst (λ (js : List Item). IsHeldAs b.margin roads is js b.log b.touched) (sym same) (record {
       undo = h.undo;
       sound = changes_keep (content_under roads is b) (content_on b.margin (map_of roads) ls) x h.sound placed ok;
-      few = h.few;
       noted = h.noted;
       made = made (map_before roads b.log) h.made;
       follows = follows h.follows;
@@ -131,7 +128,6 @@ module _ (old new : RoadMap) (is : List Item) (b : Batch) (log : UndoLog) (t : C
           undo = undo;
           sound = changes_keep (content_under old is b) (content_on b.margin (map_of new) (under_batch is b))
               (On_map e) h.sound placed content;
-          few = h.few;
           noted =
               subst (λ (M : Map). AreEditsNoted M (map_of new) (nodes_of t) (lines_of t) (changed_of t))
               (sym same_before) (noted_more (map_before old b.log) (map_of old) (map_of new) e (nodes_of b.touched)
@@ -177,7 +173,6 @@ margin_made g most roads is b =
         undo = h.undo;
         sound = changes_keep (content_under roads is b) (content_on g (map_of roads) (to_renew true us)) (Set_margin g) h.sound
             most content;
-        few = h.few;
         noted = h.noted;
         made = without_if_any g (map_before roads b.log) us;
         follows = follows_without is us;

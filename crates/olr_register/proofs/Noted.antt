@@ -7,6 +7,8 @@ use Rattle.olr_register.proofs.Common.{ChangeSet, IsNotedOf, AreEditsNoted, Some
 use Rattle.olr_register.proofs.Common.{under_batch, IsRegister, CanRenew, Batch, ◌==◌, Contains, Margin, IsContent}
 use Rattle.olr_register.proofs.Common.{to_renew, content_on, follows_without, is_margin, map, without_answer, Begins, CoverageQuery}
 use Rattle.std.proofs.Common.{IsTrue, Bool, cond}
+use Rattle.olr_register.proofs.Common.{DistanceBounds, IsKeptRight}
+use Rattle.olr_register.specs.Contents.{CanRenewTo}
 use Rattle.olr_register.proofs.Listed.{named_to_renew}
 use Rattle.std.specs.Option.{option_to_list}
 use Rattle.std.proofs.lemmas.Bool.{or_left, cases_Bool}
@@ -138,6 +140,16 @@ can_commit g roads is b h =
           is_before b.margin held.sound.margin (map_before roads b.log) (map_of roads) (nodes_of b.touched)
           (lines_of b.touched) (changed_of b.touched) (under_batch is b) held.noted h.content.map held.sound.paths held.made;
     }
+
+pub can_renew_batch : {g : Margin} {roads : RoadMap} {is : List Item} {b : Batch} {f : DistanceBounds} →
+    IsKeptRight g roads is (Some b) f → CanRenewTo b.margin roads b.touched f is (under_batch is b)
+can_renew_batch {g} {roads} {is} {b} h = record {
+  renewable = (map_before roads b.log, can_commit g roads is b h.register);
+  bounded = record {
+    under_way = h.bounded.under_way;
+    sources = λ l on. h.bounded.sources l (h.register.held.begins l on);
+  };
+}
 
 -- ---- where the margin is set
 

@@ -11,9 +11,9 @@ use Rattle.olr_register.proofs.Common.{arith, set_item, IsRenewal, nodes_of, lin
 use Rattle.olr_register.proofs.Common.{follows_self, has_name, Registered, content_on, items, kept_of, HasBounds}
 use Rattle.olr_register.proofs.Common.{IsKeptRight, CanRenewAfter, MayReport, ByContent, Lacks, Answered, IsNotedOf}
 use Rattle.olr_register.proofs.Common.{encodes, begins_drop, append-nil, Option, Margin, Set_margin, to_renew, is_margin}
-use Rattle.olr_register.proofs.Common.{CanRenew, Memory}
+use Rattle.olr_register.proofs.Common.{Memory}
 use Rattle.std.proofs.Common.{IsTrue}
-use Rattle.olr_register.specs.Contents.{option_batch}
+use Rattle.olr_register.specs.Contents.{option_batch, CanRenewTo}
 use Rattle.olr_route.specs.Counts.{raised_work}
 use Rattle.olr_renewal.specs.Reencoded.{entries_of}
 use Rattle.olr_renewal.specs.declared.renewal.Renewed.{Renewed}
@@ -50,12 +50,6 @@ drop_affects : (c : Content) (name : List ℕ) (p : Named) → ¬ Affects c (Dro
 drop_affects c name p (By_name h) = absurd cc
 drop_affects c name p (By_node v h f) = absurd cc
 drop_affects c name p (By_line x h f) = absurd cc
-
--- what is required of a renewal with another margin
-pub record MarginRequires (later_g : Margin) (roads : RoadMap) (is : List Item) (t : ChangeSet) (f : DistanceBounds) : Type 0
-  where
-    pub renewable : (M : Map) × CanRenew later_g M (map_of roads) is (to_renew true is) t
-    pub bounded : HasBounds roads (nodes_of t) (to_renew true is) f
 
 -- a margin that is not set, since memory lacks
 pub margin_lacks : (c : Content) (later_g : Margin) → IsRefusal (state c None) (Make (Set_margin later_g)) Memory
@@ -102,11 +96,11 @@ module _ (r : Inside) {x : Registered} (view : of_parts r.margin r.roads (items 
       ((state (content_on k (map_of later) js) None, (refl, tt), (ap at_once is_made, reply)), raised))
       rise same)
 
-  module _ (h : IsKeptRight g r.roads is r.batch r.bounds) where
-    right : IsKeptRight g r.roads is None r.bounds
+  module _ (h : IsKeptRight g r.roads is r.batch r.searches.bounds) where
+    right : IsKeptRight g r.roads is None r.searches.bounds
     right = right_as r shut h
 
-    pub kept_bounds : HasBounds r.roads [] is r.bounds
+    pub kept_bounds : HasBounds r.roads [] is r.searches.bounds
     kept_bounds = right.bounded
 
     -- where nothing changes but the bounds
@@ -187,7 +181,7 @@ module _ (r : Inside) {x : Registered} (view : of_parts r.margin r.roads (items 
     -- ---- the margin
 
     pub margin_requires : (later_g : Margin) → IsTrue (is_margin later_g) → (t : ChangeSet) → nodes_of t ≡ [] →
-        changed_of t ≡ [] → MarginRequires later_g r.roads is t r.bounds
+        changed_of t ≡ [] → CanRenewTo later_g r.roads t r.searches.bounds is (to_renew true is)
     margin_requires later_g most t nodes idle = record {
       renewable = (M, can_set g later_g most M is t idle right.register.content);
       bounded = record {
@@ -232,9 +226,9 @@ module _ (r : Inside) {x : Registered} (view : of_parts r.margin r.roads (items 
       abbrev left : List Item
       left = filter (λ i. not (same_name i.name name)) is
 
-      pub drop_right : has_name is name ≡ true → js ≡ left → IsKeptRight g r.roads js r.batch r.bounds
+      pub drop_right : has_name is name ≡ true → js ≡ left → IsKeptRight g r.roads js r.batch r.searches.bounds
       drop_right there list =
-          rw list (still_right (Drop_path name) r.roads left r.bounds tt (drop_ok g M is name there)
+          rw list (still_right (Drop_path name) r.roads left r.searches.bounds tt (drop_ok g M is name there)
           (each_left (each_encoded g M) (λ i. not (same_name i.name name)) is right.register.made) (record {
             under_way = right.bounded.under_way;
             sources = λ v on. right.bounded.sources v (begins_drop (λ i. not (same_name i.name name)) is v on);

@@ -31,8 +31,8 @@ register_moved g old new is o p same held margin h = record {
 
 -- what is true of a register, in terms of what its batch is
 pub right_as : (r : Inside) {o : Option Open} → r.batch ≡ o →
-    IsKeptRight r.margin r.roads (items r.paths) r.batch r.bounds → IsKeptRight r.margin r.roads (items r.paths) o r.bounds
-right_as r is = subst (λ (o : Option Open). IsKeptRight r.margin r.roads (items r.paths) o r.bounds) is
+    IsKeptRight r.margin r.roads (items r.paths) r.batch r.searches.bounds → IsKeptRight r.margin r.roads (items r.paths) o r.searches.bounds
+right_as r is = subst (λ (o : Option Open). IsKeptRight r.margin r.roads (items r.paths) o r.searches.bounds) is
 
 -- P holds of each state that they represent
 abbrev pub InStates : Content → Option Batch → (State → Type 0) → Type 0

@@ -10,8 +10,9 @@
 --     IsKeptRight      what is true of the whole
 --     CanRenew g M N is ls t      the list ls, which the changes of a batch made of the list is, can be renewed after
 --         edits t that led from M to N
---     CanUpdate u bounds is ls      the same after the update u, where the bounds are still those before it
-use Rattle.std.specs.Prelude.{◌≡◌, ℕ, ◌≤◌, List, [], map, Contains, Option, Some, None, is_none, IfSome, IsTrue, IsFalse}
+--     CanRenewTo g roads t bounds is ls      the same, where the bounds are still those before the edits
+--     CanUpdate u bounds is ls      the same after the update u
+use Rattle.std.specs.Prelude.{◌≡◌, ℕ, List, [], map, Contains, Option, Some, None, is_none, IfSome, IsTrue, IsFalse}
 use Rattle.olr_spec.specs.Map.{Map, has}
 use Rattle.olr_spec.specs.Margins.{Margin}
 use Rattle.olr_spec.specs.Detours.{ChangedLine, Difference}
@@ -21,7 +22,7 @@ use Rattle.olr_map.specs.declared.road_map.RoadMap.{RoadMap}
 use Rattle.olr_map.specs.declared.undo.UndoLog.{UndoLog}
 use Rattle.olr_renewal.specs.Bounds.{IsSource, IsUnderWay}
 use Rattle.olr_renewal.specs.declared.distance_bounds.DistanceBounds.{DistanceBounds}
-use Rattle.olr_commands.specs.State.{Content, IsContent, NamesDiffer, full}
+use Rattle.olr_commands.specs.State.{Content, IsContent, NamesDiffer}
 use Rattle.olr_paths.specs.Items.{Item, AreEncodings, AreEncodingsIfAny, all_named}
 use Rattle.olr_renewal.specs.Changes.{Follows, IsBefore}
 use Rattle.olr_renewal.specs.Reencoded.{to_renew_by}
@@ -89,12 +90,10 @@ pub record AreEditsNoted (M N : Map) (T X : List ℕ) (C : List ChangedLine) : T
   pub starts : (c : ChangedLine) → Contains C c → IsTrue (has T c.from)
 
 -- with the list ls under its changes
-pub record IsHeldAs (g : Margin) (roads : RoadMap) (before ls : List Item) (log : UndoLog) (count : ℕ)
-    (touched : ChangeSet) : Type 0
+pub record IsHeldAs (g : Margin) (roads : RoadMap) (before ls : List Item) (log : UndoLog) (touched : ChangeSet) : Type 0
   where
     pub undo : CanUndoAll roads log
     pub sound : IsContent (content_on g (map_of roads) ls)
-    pub few : count ≤ full
     pub noted : AreEditsNoted (map_before roads log) (map_of roads) (nodes_of touched) (lines_of touched)
         (changed_of touched)
     pub made : AreEncodingsIfAny g (map_before roads log) ls
@@ -102,7 +101,7 @@ pub record IsHeldAs (g : Margin) (roads : RoadMap) (before ls : List Item) (log 
     pub begins : (l : CoverageQuery) → Begins ls l → Begins before l
 
 abbrev pub IsHeld : RoadMap → List Item → Batch → Type 0
-IsHeld roads before b = IsHeldAs b.margin roads before (under_batch before b) b.log b.count b.touched
+IsHeld roads before b = IsHeldAs b.margin roads before (under_batch before b) b.log b.touched
 
 abbrev pub KeepsMargin : Margin → Batch → Type 0
 KeepsMargin g b = IsFalse b.all → b.margin ≡ g
@@ -131,6 +130,10 @@ pub record CanRenew (g : Margin) (M N : Map) (is ls : List Item) (t : ChangeSet)
   pub follows : Follows is ls
   pub before : IsBefore g M N (nodes_of t) (lines_of t) (changed_of t) ls
 
-pub record CanUpdate (u : MapUpdate RoadMap) (bounds : DistanceBounds) (is ls : List Item) : Type 0 where
-  pub renewable : (M : Map) × CanRenew u.margin M (map_of u.map.now) is (to_renew_by u ls) u.touched.now
-  pub bounded : HasBounds u.map.now (nodes_of u.touched.now) (to_renew_by u ls) bounds
+pub record CanRenewTo (g : Margin) (roads : RoadMap) (t : ChangeSet) (bounds : DistanceBounds) (is ls : List Item) : Type 0
+  where
+    pub renewable : (M : Map) × CanRenew g M (map_of roads) is ls t
+    pub bounded : HasBounds roads (nodes_of t) ls bounds
+
+abbrev pub CanUpdate : MapUpdate RoadMap → DistanceBounds → List Item → List Item → Type 0
+CanUpdate u bounds is ls = CanRenewTo u.margin u.map.now u.touched.now bounds is (to_renew_by u ls)

@@ -1,22 +1,22 @@
-//! What stands in the way of reading strings in only one way.
-ghost use Rattle.std.specs.Prelude.{◌≡◌, ◌++◌, ◌+◌, map as list_map, option_map, length, All, IfOk, IfSome, IsTrue, OnOk};
-ghost use Rattle.olr_spec.specs.Map.{has_line};
-ghost use Rattle.olr_spec.specs.Margins.{Margin};
-ghost use Rattle.olr_spec.specs.Extension.{Path, is_path};
-ghost use Rattle.olr_spec.specs.Receiver.{last_number};
-ghost use Rattle.olr_spec.specs.Ambiguity.{obstacles};
-ghost use Rattle.olr_ambiguity.specs.Found.{found_of};
+//! The ambiguities of strings.
+ghost use Rattle.std.specs.Prelude.{◌≡◌, ◌++◌, ◌+◌, option_map, length, All, IfOk, IfSome, IsTrue, OnOk, map as list_map};
 ghost use Rattle.olr_ambiguity.specs.Grids.{IsGrid};
-ghost use Rattle.olr_map.specs.RoadMaps.{map_of};
+ghost use Rattle.olr_answers.specs.Ambiguities.{found_of};
 ghost use Rattle.olr_answers.specs.Answers.{answer_of};
-ghost use Rattle.olr_refs.specs.Referring.{IsEncoding};
 ghost use Rattle.olr_commands.specs.Ambiguities.{Ambiguities, Ambiguity, named, obstacles_of};
 ghost use Rattle.olr_commands.specs.Words.{named_obstacle_of};
+ghost use Rattle.olr_map.specs.RoadMaps.{map_of};
 ghost use Rattle.olr_paths.specs.Items.{AreEncodings, all_named, items, known_in, made_of};
+ghost use Rattle.olr_refs.specs.Referring.{IsEncoding};
+ghost use Rattle.olr_spec.specs.Ambiguity.{obstacles};
+ghost use Rattle.olr_spec.specs.Extension.{Path, is_path};
+ghost use Rattle.olr_spec.specs.Map.{has_line};
+ghost use Rattle.olr_spec.specs.Margins.{Margin};
+ghost use Rattle.olr_spec.specs.Receiver.{last_number};
 
 use crate::register::Register;
-use olr_ambiguity::{Found, Grid, obstacles, obstacles_near};
-use olr_answers::{Answer, KnownQuery, Path};
+use olr_ambiguity::{Grid, obstacles, obstacles_near};
+use olr_answers::{Answer, Found, KnownQuery, Path};
 use olr_binary::Reference;
 use olr_commands::{CommandFault, NamedObstacle, Reply};
 use olr_map::{LineId, RoadMap};

@@ -31,11 +31,11 @@ pub struct Batch {
 
 impl Batch {
     ghost use Rattle.std.specs.Prelude.{◌≡◌, List, nat_le, string_bytes, Ok};
-    ghost use Rattle.olr_model.specs.Edits.{edit_of};
-    ghost use Rattle.olr_map.specs.RoadMaps.{CanUndoAll};
-    ghost use Rattle.olr_map.specs.declared.road_map.RoadMap.{RoadMap as Roads};
     ghost use Rattle.olr_commands.specs.State.{On_map, Add_path, Set_path, Drop_path, Set_margin, full, NamesDiffer};
+    ghost use Rattle.olr_map.specs.RoadMaps.{CanUndoAll};
+    ghost use Rattle.olr_model.specs.Edits.{edit_of};
     ghost use Rattle.olr_paths.specs.Items.{Item, items, all_named};
+    ghost use Rattle.olr_map.specs.declared.road_map.RoadMap.{RoadMap as Roads};
     ghost use Rattle.olr_register.specs.Contents.{IsHeld, under_batch};
     ghost use Rattle.olr_register.specs.BatchChanges.{Makes, HoldsChange, path_by, change_of};
 

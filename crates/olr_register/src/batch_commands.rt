@@ -43,19 +43,13 @@ impl Register {
             return Err(CommandFault::NoBatch);
         };
         let update = MapUpdate {
+            alloc: self.alloc,
             map: &self.roads,
             margin: batch.margin,
             sets_margin: batch.all,
             touched: &batch.touched,
         };
-        let previewed = preview(
-            self.alloc,
-            &update,
-            &self.paths,
-            &batch.overlay,
-            &mut self.bounds,
-            &mut self.searches,
-        )?;
+        let previewed = preview(&update, &self.paths, &batch.overlay, &mut self.searches)?;
         Ok(Reply::Paths(previewed.entries))
     }
 
@@ -73,19 +67,14 @@ impl Register {
         }
         let margin = batch.margin;
         let update = MapUpdate {
+            alloc: self.alloc,
             map: &self.roads,
             margin,
             sets_margin: batch.all,
             touched: &batch.touched,
         };
-        let renewed = renew(
-            self.alloc,
-            &update,
-            &mut self.paths,
-            &batch.overlay,
-            &mut self.bounds,
-            &mut self.searches,
-        )?;
+        let paths = &mut self.paths;
+        let renewed = renew(&update, paths, &batch.overlay, &mut self.searches)?;
         // The log is dropped with the batch: its edits are permanent.
         drop(self.batch.take());
         self.margin = margin;
@@ -108,7 +97,8 @@ impl Register {
                     ..
                 },
             ) => {
-                undo_edits(&mut self.roads, &mut self.bounds, log, &touched);
+                let bounds = &mut self.searches.bounds;
+                undo_edits(&mut self.roads, bounds, log, &touched);
                 drop(overlay);
                 drop(touched);
                 Ok(Reply::Paths(Vec::new(self.alloc)))

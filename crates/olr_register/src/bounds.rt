@@ -1,23 +1,23 @@
 //! Distance bounds, which cut the search from an edit, and the renewal of a list with them.
 ghost use Rattle.std.specs.Prelude.{◌≡◌, ℕ, List, [], Contains, IfOk, OnOk, OnErr, IsFalse};
-ghost use Rattle.olr_spec.specs.Map.{Map};
-ghost use Rattle.olr_spec.specs.Queries.{CoverageQuery as QueryRecord};
 ghost use Rattle.olr_map.specs.RoadMaps.{map_of, slot_of, CanUndoAll, map_before};
-ghost use Rattle.olr_map.specs.declared.road_map.RoadMap.{RoadMap as Roads};
-ghost use Rattle.olr_renewal.specs.Bounds.{IsUnderWay, IsSource};
 ghost use Rattle.olr_paths.specs.Items.{Item, items};
-ghost use Rattle.olr_renewal.specs.AffectedSearches.{AreBoundsOf};
 ghost use Rattle.olr_paths.specs.Origins.{AreNewQueries};
 ghost use Rattle.olr_paths.specs.Overlaid.{under_overlay};
-ghost use Rattle.olr_renewal.specs.Reencoded.{AreRenewed};
+ghost use Rattle.olr_renewal.specs.AffectedSearches.{AreBoundsOf};
+ghost use Rattle.olr_renewal.specs.Bounds.{IsUnderWay, IsSource};
 ghost use Rattle.olr_renewal.specs.ChangeSets.{nodes_of, lines_of, changed_of};
+ghost use Rattle.olr_renewal.specs.Reencoded.{AreRenewed};
+ghost use Rattle.olr_spec.specs.Map.{Map};
+ghost use Rattle.olr_spec.specs.Queries.{CoverageQuery as QueryRecord};
+ghost use Rattle.olr_map.specs.declared.road_map.RoadMap.{RoadMap as Roads};
 ghost use Rattle.olr_register.specs.Contents.{AreEditsNoted, HasBounds, CanUpdate};
 
 use olr_map::{RoadMap, UndoLog};
 use olr_paths::{Overlay, PathList};
 use olr_refs::CoverageQuery;
 use olr_renewal::{
-    ChangeSet, DistanceBounds, MapUpdate, Renewed, Searches, preview_over, renew_over,
+    ChangeSet, DistanceBounds, MapUpdate, Renewed, Searches, renew_over, renewal_over,
 };
 use std::alloc::{AllocError, Global};
 
@@ -94,20 +94,19 @@ pub(crate) fn renew_bounds(
 
 /// Adds sources to the bounds where new coverage queries of the list begin; if the margin was set, from scratch.
 fn bounds_after(
-    alloc: Global,
+    update: &MapUpdate<'_, RoadMap>,
     bounds: &mut DistanceBounds,
     paths: &PathList,
-    all: bool,
     renewed: &Renewed,
 )
     ensures { (roads : Roads) (T : List ℕ) (is : List Item) → HasBounds roads T is bounds.old
         → AreNewQueries renewed.now.queries.items is (items paths.now) → HasBounds roads T (items paths.now) bounds.new }
 {
-    if all {
-        bounds_from_scratch(alloc, bounds, paths);
+    if update.sets_margin {
+        bounds_from_scratch(update.alloc, bounds, paths);
         return;
     }
-    renew_bounds(alloc, bounds, paths, renewed);
+    renew_bounds(update.alloc, bounds, paths, renewed);
 }
 
 /// Encodes the affected paths again after edits that led to the map, with the changes of an overlay, and adds their new
@@ -115,28 +114,26 @@ fn bounds_after(
 /// fails, the list is unchanged, and the bounds are unknown.
 #[inline(never)]
 pub(crate) fn renew(
-    alloc: Global,
     update: &MapUpdate<'_, RoadMap>,
     paths: &mut PathList,
     overlay: &Overlay,
-    bounds: &mut DistanceBounds,
     searches: &mut Searches,
 ) -> Result<Renewed, AllocError>
-    requires { CanUpdate update.now bounds.old (items paths.old) (under_overlay (items paths.old) overlay.now) }
+    requires { CanUpdate update.now searches.old.bounds (items paths.old) (under_overlay (items paths.old) overlay.now) }
     ensures renewed { IfOk result (AreRenewed map_of update.now (items paths.old)
         (under_overlay (items paths.old) overlay.now) (items paths.new)) }
-    ensures bounded { OnOk result (HasBounds update.now.map.now [] (items paths.new) bounds.new) }
+    ensures bounded { OnOk result (HasBounds update.now.map.now [] (items paths.new) searches.new.bounds) }
     ensures err { OnErr result (items paths.new ≡ items paths.old) }
-    ensures unknown { OnErr result (IsFalse bounds.new.known) }
+    ensures unknown { OnErr result (IsFalse searches.new.bounds.known) }
 {
-    settle_bounds(bounds, update.map, update.touched);
-    match renew_over(paths, alloc, update, overlay, bounds, searches) {
+    settle_bounds(&mut searches.bounds, update.map, update.touched);
+    match renew_over(paths, update, overlay, searches) {
         Ok(renewed) => {
-            bounds_after(alloc, bounds, paths, update.sets_margin, &renewed);
+            bounds_after(update, &mut searches.bounds, paths, &renewed);
             Ok(renewed)
         }
         Err(error) => {
-            bounds.forget();
+            searches.bounds.forget();
             Err(error)
         }
     }
@@ -144,22 +141,21 @@ pub(crate) fn renew(
 
 /// What `renew` would return; the list stays as it is.
 pub(crate) fn preview(
-    alloc: Global,
     update: &MapUpdate<'_, RoadMap>,
     paths: &PathList,
     overlay: &Overlay,
-    bounds: &mut DistanceBounds,
     searches: &mut Searches,
 ) -> Result<Renewed, AllocError>
-    requires { CanUpdate update.now bounds.old (items paths.now) (under_overlay (items paths.now) overlay.now) }
+    requires { CanUpdate update.now searches.old.bounds (items paths.now) (under_overlay (items paths.now) overlay.now) }
     ensures renewed { IfOk result (λ r. (js : List Item) × AreRenewed map_of update.now (items paths.now)
         (under_overlay (items paths.now) overlay.now) js r) }
     ensures bounded { (T : List ℕ) (is : List Item)
-        → HasBounds update.now.map.now (nodes_of update.now.touched.now) is bounds.old
-        → HasBounds update.now.map.now T is bounds.new }
+        → HasBounds update.now.map.now (nodes_of update.now.touched.now) is searches.old.bounds
+        → HasBounds update.now.map.now T is searches.new.bounds }
 {
-    settle_bounds(bounds, update.map, update.touched);
-    preview_over(paths, alloc, update, overlay, bounds, searches)
+    settle_bounds(&mut searches.bounds, update.map, update.touched);
+    let unstored = renewal_over(paths, update, overlay, searches)?;
+    Ok(unstored.into_renewed())
 }
 
 /// Undoes the edits of a log, which touched these nodes and lines, and reopens the nodes. The bounds are unknown after that

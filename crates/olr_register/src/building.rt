@@ -7,7 +7,7 @@ use olr_commands::{Command, CommandFault};
 use olr_map::{Edit, RoadMap, judge};
 use olr_paths::{Overlay, PathList};
 use olr_refs::Margin;
-use olr_renewal::{ChangeSet, DistanceBounds, MapUpdate, Renewed, Searches};
+use olr_renewal::{ChangeSet, MapUpdate, Renewed, Searches};
 use std::alloc::{AllocError, Global};
 use std::marker::Model;
 
@@ -159,9 +159,9 @@ impl Building {
         } = self;
         let none = Overlay::new(alloc);
         let touched = ChangeSet::new(alloc);
-        let mut bounds = DistanceBounds::new(alloc);
         let mut searches = Searches::new(alloc);
         let update = MapUpdate {
+            alloc,
             map: &roads,
             margin,
             sets_margin: true,
@@ -172,14 +172,7 @@ impl Building {
             work,
             queries,
             wasted_labels: _,
-        } = renew(
-            alloc,
-            &update,
-            &mut paths,
-            &none,
-            &mut bounds,
-            &mut searches,
-        )?;
+        } = renew(&update, &mut paths, &none, &mut searches)?;
         drop(entries);
         drop(queries);
         drop(none);
@@ -192,7 +185,6 @@ impl Building {
             touched,
             work,
             batch: None,
-            bounds,
         })
     }
 }

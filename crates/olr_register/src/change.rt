@@ -1,9 +1,9 @@
 //! Changes of the map, of the paths and of the margin, as commands give them.
 ghost use Rattle.std.specs.Prelude.{◌≡◌, IsTrue, IsFalse, OnOk, not, Ok};
-ghost use Rattle.std.specs.Result.{IfOk, IfErr};
-ghost use Rattle.olr_spec.specs.Extension.{is_path};
+ghost use Rattle.std.specs.Result.{IfErr, IfOk};
 ghost use Rattle.olr_commands.specs.State.{Content, Bad_path, Memory, when};
 ghost use Rattle.olr_commands.specs.Words.{command_fault_of};
+ghost use Rattle.olr_spec.specs.Extension.{is_path};
 ghost use Rattle.olr_register.specs.BatchChanges.{path_by, MayReport};
 
 use olr_commands::CommandFault;

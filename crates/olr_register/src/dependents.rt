@@ -1,13 +1,13 @@
 //! Which paths depend on nodes.
-ghost use Rattle.std.specs.Prelude.{◌≡◌};
 ghost use Rattle.std.specs.List.{list_all};
-ghost use Rattle.olr_spec.specs.Map.{has_node};
+ghost use Rattle.std.specs.Prelude.{◌≡◌};
 ghost use Rattle.olr_map.specs.RoadMaps.{map_of};
+ghost use Rattle.olr_spec.specs.Map.{has_node};
 
 use crate::register::Register;
 use olr_commands::{CommandFault, Reply};
 use olr_map::{EditFault, MapRead, NodeId, RoadMap};
-use olr_renewal::{ChangeSet, affected_names};
+use olr_renewal::{ChangeSet, MapUpdate, affected_names};
 
 /// Whether each of these nodes is on the map.
 fn are_nodes(roads: &RoadMap, nodes: &[NodeId]) -> bool
@@ -36,16 +36,15 @@ impl Register {
         }
         let around = ChangeSet::around(self.alloc, &self.roads, nodes)?;
         // If an allocation fails, the bounds are unknown, and the search goes as far as it may.
-        let _ = self.bounds.settle(&self.roads);
-        let names = affected_names(
-            self.alloc,
-            &self.roads,
-            self.margin,
-            &self.paths,
-            &around,
-            &self.bounds,
-            &mut self.searches.near,
-        )?;
+        let _ = self.searches.bounds.settle(&self.roads);
+        let update = MapUpdate {
+            alloc: self.alloc,
+            map: &self.roads,
+            margin: self.margin,
+            sets_margin: false,
+            touched: &around,
+        };
+        let names = affected_names(&update, &self.paths, &mut self.searches)?;
         Ok(Reply::Names(names))
     }
 }

@@ -1,17 +1,16 @@
 //! Dumps: the records that build the register from an empty one.
-ghost use Rattle.std.specs.Prelude.{◌≡◌, ◌++◌, ℕ, map, flat_map, length, true, false, IsTrue, IsFalse, IfOk, OnOk};
-ghost use Rattle.std.specs.List.{list_all, concat};
 ghost use Rattle.std.specs.FinMap.{entries};
-ghost use Rattle.std.specs.Prelude.{slice_get, Some};
-ghost use Rattle.olr_spec.specs.Map.{has_node, coord_at};
-ghost use Rattle.olr_map.specs.RoadMaps.{map_of, slot_of};
-ghost use Rattle.olr_commands.specs.State.{Named, is_recordable};
-ghost use Rattle.olr_commands.specs.Recordable as recordable;
-ghost use Rattle.olr_commands.specs.RecordText.{record_line};
-ghost use Rattle.olr_commands.specs.Dump as spec;
+ghost use Rattle.std.specs.List.{list_all, concat};
+ghost use Rattle.std.specs.Prelude.{◌≡◌, ◌++◌, ℕ, map, flat_map, length, true, false, IsTrue, IsFalse, IfOk, OnOk, slice_get, Some};
 ghost use Rattle.olr_commands.specs.Dump.{node_change, line_change, path_change, margin_changes, dump_lines};
+ghost use Rattle.olr_commands.specs.RecordText.{record_line};
+ghost use Rattle.olr_commands.specs.State.{Named, is_recordable};
+ghost use Rattle.olr_map.specs.RoadMaps.{map_of, slot_of};
 ghost use Rattle.olr_paths.specs.Items.{items, all_named};
+ghost use Rattle.olr_spec.specs.Map.{has_node, coord_at};
 ghost use Rattle.olr_spec.specs.Margins.{no_margin};
+ghost use Rattle.olr_commands.specs.Recordable as recordable;
+ghost use Rattle.olr_commands.specs.Dump as spec;
 ghost use Rattle.olr_register.specs.Contents.{content_on};
 ghost use Rattle.olr_register.specs.Recordables as numbered;
 

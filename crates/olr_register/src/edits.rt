@@ -1,11 +1,11 @@
 //! Edits of the map that are made at once, outside a batch.
-ghost use Rattle.std.specs.Prelude.{◌≡◌, ◌≢◌, ℕ, length, map as list_map, None, OnOk};
 ghost use Rattle.std.specs.Option.{option_to_list};
-ghost use Rattle.olr_spec.specs.Map.{Map, Edit as EditRecord};
-ghost use Rattle.olr_model.specs.Edits.{edit_of};
+ghost use Rattle.std.specs.Prelude.{◌≡◌, ◌≢◌, ℕ, length, None, OnOk, map as list_map};
 ghost use Rattle.olr_map.specs.EditPlans.{IsEditPlan, planned_changes};
-ghost use Rattle.olr_renewal.specs.ChangeSets.{change_of};
+ghost use Rattle.olr_model.specs.Edits.{edit_of};
 ghost use Rattle.olr_paths.specs.Items.{items};
+ghost use Rattle.olr_renewal.specs.ChangeSets.{change_of};
+ghost use Rattle.olr_spec.specs.Map.{Map, Edit as EditRecord};
 ghost use Rattle.olr_register.specs.EditNotes.{IsNotedOf, CanMakeEdit, IsEditMade};
 
 use crate::bounds::renew;
@@ -14,14 +14,12 @@ use olr_commands::{CommandFault, Reply};
 use olr_map::{Edit, EditPlan, RoadMap, judge};
 use olr_paths::{Overlay, PathList};
 use olr_refs::Margin;
-use olr_renewal::{
-    ChangeSet, ChangedLine, DistanceBounds, MapUpdate, Renewed, Searches, renew_unaffected,
-};
+use olr_renewal::{ChangeSet, ChangedLine, MapUpdate, Renewed, Searches, renew_unaffected};
 use std::alloc::{AllocError, Global};
 
 /// The line that a judged edit changes: its ends, and the lesser of its lengths before and after. None if the edit is
 /// of a node, or leaves the line as long as it was.
-pub(crate) fn line_changed(plan: &EditPlan) -> Option<ChangedLine>
+pub fn line_changed(plan: &EditPlan) -> Option<ChangedLine>
     ensures { list_map change_of (option_to_list result) ≡ planned_changes plan.now }
 {
     if !plan.changes_routes {
@@ -53,36 +51,40 @@ struct NotedEdit<'a> {
     touched: &'a ChangeSet,
 }
 
-/// `make_and_renew`, where it is not known without a search that the edit affects no path.
-#[inline(never)]
-fn make_and_search(
+/// Makes a judged edit, and encodes the affected paths again. If it is known without a search that there are none, little
+/// more is done than to make the edit. If an allocation fails, map and list are unchanged.
+fn make_and_renew(
     alloc: Global,
     roads: &mut RoadMap,
     margin: Margin,
     paths: &mut PathList,
     noted: NotedEdit<'_>,
-    bounds: &mut DistanceBounds,
     searches: &mut Searches,
 ) -> Result<Renewed, AllocError>
     requires { CanMakeEdit margin roads.old (edit_of noted.edit) noted.plan noted.touched.now (items paths.old)
-        bounds.old }
+        searches.old.bounds }
     ensures { IsEditMade margin roads.old roads.new (edit_of noted.entry.edit) noted.entry.touched.now (items paths.old)
-        (items paths.new) bounds.new result }
+        (items paths.new) searches.new.bounds result }
 {
     let NotedEdit {
         edit,
         plan,
         touched,
     } = noted;
+    if let Some(renewed) = renew_unaffected(paths, alloc, roads, touched, &searches.bounds) {
+        roads.make_kept(edit, &plan)?;
+        return Ok(renewed);
+    }
     let undo = roads.make(edit, &plan)?;
     let none = Overlay::new(alloc);
     let update = MapUpdate {
+        alloc,
         map: &*roads,
         margin,
         sets_margin: false,
         touched,
     };
-    let renewed = renew(alloc, &update, paths, &none, bounds, searches);
+    let renewed = renew(&update, paths, &none, searches);
     drop(none);
     match renewed {
         Ok(renewed) => {
@@ -94,30 +96,6 @@ fn make_and_search(
             Err(error)
         }
     }
-}
-
-/// Makes a judged edit, and encodes the affected paths again. If it is known without a search that there are none, little
-/// more is done than to make the edit. If an allocation fails, map and list are unchanged.
-fn make_and_renew(
-    alloc: Global,
-    roads: &mut RoadMap,
-    margin: Margin,
-    paths: &mut PathList,
-    noted: NotedEdit<'_>,
-    bounds: &mut DistanceBounds,
-    searches: &mut Searches,
-) -> Result<Renewed, AllocError>
-    requires { CanMakeEdit margin roads.old (edit_of noted.edit) noted.plan noted.touched.now (items paths.old)
-        bounds.old }
-    ensures { IsEditMade margin roads.old roads.new (edit_of noted.entry.edit) noted.entry.touched.now (items paths.old)
-        (items paths.new) bounds.new result }
-{
-    let Some(renewed) = renew_unaffected(paths, alloc, roads, noted.touched, bounds) else {
-        return make_and_search(alloc, roads, margin, paths, noted, bounds, searches);
-    };
-    let NotedEdit { edit, plan, .. } = noted;
-    roads.make_kept(edit, &plan)?;
-    Ok(renewed)
 }
 
 impl Register {
@@ -139,7 +117,7 @@ impl Register {
             Err(fault) => return Err(CommandFault::Map(fault)),
         };
         self.roads.make_kept(edit, &plan)?;
-        self.bounds.clear();
+        self.searches.bounds.clear();
         Ok(Reply::Paths(Vec::new(self.alloc)))
     }
 
@@ -166,7 +144,6 @@ impl Register {
             self.margin,
             &mut self.paths,
             noted,
-            &mut self.bounds,
             &mut self.searches,
         )?;
         self.work = self.work.plus(renewed.work);

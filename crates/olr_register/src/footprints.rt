@@ -1,6 +1,5 @@
 //! What a path's answer depends on: its traversed nodes, its coverage queries and its footprint.
-ghost use Rattle.std.specs.Prelude.{◌≡◌, ◌↔◌, ℕ, Contains, is_some, IsTrue, IsFalse, MatchOption, IsSomeAnd, Err, None};
-ghost use Rattle.std.specs.Prelude.{option_map};
+ghost use Rattle.std.specs.Prelude.{◌≡◌, ◌↔◌, ℕ, Contains, is_some, IsTrue, IsFalse, MatchOption, IsSomeAnd, Err, None, option_map};
 ghost use Rattle.std.specs.Result.{IfOk, IfErr};
 ghost use Rattle.olr_spec.specs.Footprint.{FootWith};
 ghost use Rattle.olr_commands.specs.State.{path_named};

@@ -24,19 +24,13 @@ impl Register {
         self.touched.clear();
         let none = Overlay::new(self.alloc);
         let update = MapUpdate {
+            alloc: self.alloc,
             map: &self.roads,
             margin,
             sets_margin: true,
             touched: &self.touched,
         };
-        let renewed = renew(
-            self.alloc,
-            &update,
-            &mut self.paths,
-            &none,
-            &mut self.bounds,
-            &mut self.searches,
-        )?;
+        let renewed = renew(&update, &mut self.paths, &none, &mut self.searches)?;
         self.margin = margin;
         self.work = self.work.plus(renewed.work);
         Ok(Reply::Paths(renewed.entries))

@@ -5,7 +5,7 @@ use crate::bounds::renew_bounds;
 use crate::change::{PathParts, path_unless};
 use crate::register::Register;
 use olr_commands::{CommandFault, Reply};
-use olr_renewal::{add, set};
+use olr_renewal::{add, encode, set};
 
 impl Register {
     ghost use Rattle.std.specs.Prelude.{◌≡◌, None, string_bytes};
@@ -22,10 +22,10 @@ impl Register {
     {
         let taken = self.paths.has(&name);
         let path = path_unless(self.alloc, taken, CommandFault::PathExists, parts)?;
-        let (heap, roads, margin) = (self.alloc, &self.roads, self.margin);
         let query = &mut self.searches.query;
-        let renewed = add(&mut self.paths, heap, roads, name, path, margin, query)?;
-        renew_bounds(heap, &mut self.bounds, &self.paths, &renewed);
+        let encoded = encode(self.alloc, &self.roads, path, self.margin, query)?;
+        let renewed = add(&mut self.paths, self.alloc, name, encoded)?;
+        renew_bounds(self.alloc, &mut self.searches.bounds, &self.paths, &renewed);
         self.work = self.work.plus(renewed.work);
         Ok(Reply::Paths(renewed.entries))
     }
@@ -38,10 +38,10 @@ impl Register {
     {
         let missing = !self.paths.has(name);
         let path = path_unless(self.alloc, missing, CommandFault::NoPath, parts)?;
-        let (heap, roads, margin) = (self.alloc, &self.roads, self.margin);
         let query = &mut self.searches.query;
-        let renewed = set(&mut self.paths, heap, roads, name, path, margin, query)?;
-        renew_bounds(heap, &mut self.bounds, &self.paths, &renewed);
+        let encoded = encode(self.alloc, &self.roads, path, self.margin, query)?;
+        let renewed = set(&mut self.paths, self.alloc, name, encoded)?;
+        renew_bounds(self.alloc, &mut self.searches.bounds, &self.paths, &renewed);
         self.work = self.work.plus(renewed.work);
         Ok(Reply::Paths(renewed.entries))
     }

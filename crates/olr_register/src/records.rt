@@ -1,12 +1,12 @@
 //! The record of a node, and those of a line and its ends.
-ghost use Rattle.std.specs.Prelude.{◌≡◌, ◌++◌, map, length, Some, IsTrue, IfOk, OnOk};
-ghost use Rattle.std.specs.List.{concat};
 ghost use Rattle.std.specs.FinMap.{get};
-ghost use Rattle.olr_spec.specs.Map.{has_node, coord_at};
-ghost use Rattle.olr_map.specs.RoadMaps.{map_of};
-ghost use Rattle.olr_commands.specs.Recordable as recordable;
-ghost use Rattle.olr_commands.specs.RecordText.{record_line};
+ghost use Rattle.std.specs.List.{concat};
+ghost use Rattle.std.specs.Prelude.{◌≡◌, ◌++◌, map, length, Some, IsTrue, IfOk, OnOk};
 ghost use Rattle.olr_commands.specs.Dump.{node_change, node_changes, end_changes, line_changes};
+ghost use Rattle.olr_commands.specs.RecordText.{record_line};
+ghost use Rattle.olr_map.specs.RoadMaps.{map_of};
+ghost use Rattle.olr_spec.specs.Map.{has_node, coord_at};
+ghost use Rattle.olr_commands.specs.Recordable as recordable;
 
 use crate::dumps::is_recordable_place;
 use crate::register::Register;

@@ -4,7 +4,7 @@ use crate::batch::Batch;
 use olr_map::RoadMap;
 use olr_paths::{Iter, PathList};
 use olr_refs::{Answer, Margin};
-use olr_renewal::{ChangeSet, DistanceBounds, Searches};
+use olr_renewal::{ChangeSet, Searches};
 use olr_route::Work;
 use std::alloc::Global;
 use std::marker::Model;
@@ -17,15 +17,13 @@ pub struct Register {
     pub(crate) paths: PathList,
     /// The margin with which the paths are encoded.
     pub(crate) margin: Margin,
-    /// The searches of renewals, which keep their buffers.
+    /// The distance bounds, which show that no coverage query begins near an edit, and the searches of renewals. The bounds
+    /// are settled when an edit or a commit needs them; what the edits of an open batch touched is reopened then.
     pub(crate) searches: Searches,
     /// What an edit touches, in a buffer that is reused.
     pub(crate) touched: ChangeSet,
     pub(crate) work: Work,
     pub(crate) batch: Option<Batch>,
-    /// Distance bounds, which show that no coverage query begins near an edit. They are settled when an edit or a commit
-    /// needs them; what the edits of an open batch touched is reopened then.
-    pub(crate) bounds: DistanceBounds,
 }
 
 impl Model for Register {
@@ -39,7 +37,7 @@ impl Model for Register {
 
     ghost view = { λ r. record { kept = kept_of r.margin r.roads (items r.paths) r.batch; work = r.work } };
 
-    ghost invariant = { λ r. IsKeptRight r.margin r.roads (items r.paths) r.batch r.bounds };
+    ghost invariant = { λ r. IsKeptRight r.margin r.roads (items r.paths) r.batch r.searches.bounds };
 }
 
 // Written out: a derived drop is proved again in each crate that ends a register.
@@ -54,14 +52,12 @@ impl Drop for Register {
             touched,
             work: _,
             batch,
-            bounds,
         } = self;
         drop(roads);
         drop(paths);
         drop(searches);
         drop(touched);
         drop(batch);
-        drop(bounds);
     }
 }
 
@@ -85,7 +81,6 @@ impl Register {
             touched: ChangeSet::new(alloc),
             work: Work::none(),
             batch: None,
-            bounds: DistanceBounds::new(alloc),
         }
     }
 

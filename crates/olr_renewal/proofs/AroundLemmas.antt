@@ -1,7 +1,6 @@
 -- The lines around nodes, and lists that are sorted without duplicates.
 use Rattle.olr_renewal.proofs.Common.{inl, inr, ◌≡◌, ℕ, ◌+◌, ◌<◌, true, List, ◌++◌, length, take, get_or, eqb, IsTrue}
-use Rattle.olr_renewal.proofs.Common.{◌||◌}
-use Rattle.olr_renewal.proofs.Common.{◌==◌, ◌↔◌, sym, ap, ◌∙◌, eq-eqb, eqb-true, or_left, Map, end, has}
+use Rattle.olr_renewal.proofs.Common.{◌||◌, ◌==◌, ◌↔◌, sym, ap, ◌∙◌, eq-eqb, eqb-true, or_left, Map, end, has}
 use Rattle.olr_renewal.proofs.Common.{IsPermutation, IsStrictlyIncreasing, Option, is_some, ◌⊎◌}
 use Rattle.std.specs.Option.{unwrap_or}
 use Rattle.std.specs.List.{dedup}

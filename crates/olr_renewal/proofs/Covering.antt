@@ -2,21 +2,14 @@
 use Rattle.olr_renewal.proofs.Common.{All, inl, inr, ◌≡◌, ◌≢◌, ℕ, ◌+◌, ◌<◌, ◌≤◌, ◌==◌, ◌||◌, ◌⊎◌, false, List, [], ◌∷◌}
 use Rattle.olr_renewal.proofs.Common.{◌++◌, length, get_or, slice_get, Option, Some, None, IsTrue, refl, sym, ap, ◌∙◌}
 use Rattle.olr_renewal.proofs.Common.{subst, append_assoc, arith, min, cases_Bool, nat_tests, All-contains}
-use Rattle.olr_renewal.proofs.Common.{slice_get_within, Map, IsMap, has, holds, Index, Item}
-use Rattle.olr_renewal.proofs.Common.{Includes, Finds, Covers}
-use Rattle.olr_renewal.proofs.Common.{FindsChanged}
-use Rattle.olr_renewal.proofs.Common.{option_map, Rc, has_node, CoverageQuery, GREATEST_LIMIT, AreLengths}
-use Rattle.olr_renewal.proofs.Common.{label_at, Against, made_of, items, QueryTouched}
-use Rattle.olr_renewal.proofs.Common.{nodes_of, lines_of}
-use Rattle.olr_renewal.proofs.Common.{IsSearchedFor, ChangeSet}
-use Rattle.olr_renewal.proofs.Common.{AreFar, LackQueries, BeginsIn, Begins, Finder, Published}
-use Rattle.olr_renewal.proofs.Common.{NamedPath, PathList, Path, Changes, RemovesNone, change_at, under_change}
-use Rattle.olr_renewal.proofs.Common.{under_changes, NamesDiffer, same_name, all_named, or_left}
-use Rattle.olr_renewal.proofs.Common.{ToSkip, CoversSearched}
-use Rattle.olr_renewal.proofs.Common.{AreFound}
-use Rattle.olr_renewal.proofs.Common.{String, Global, Made, take}
+use Rattle.olr_renewal.proofs.Common.{slice_get_within, Map, IsMap, has, holds, Index, Item, Includes, Finds, Covers}
+use Rattle.olr_renewal.proofs.Common.{FindsChanged, option_map, Rc, has_node, CoverageQuery, GREATEST_LIMIT, AreLengths}
+use Rattle.olr_renewal.proofs.Common.{label_at, Against, made_of, items, QueryTouched, nodes_of, lines_of}
+use Rattle.olr_renewal.proofs.Common.{IsSearchedFor, ChangeSet, AreFar, LackQueries, BeginsIn, Begins, Finder}
+use Rattle.olr_renewal.proofs.Common.{Published, NamedPath, PathList, Path, Changes, RemovesNone, change_at}
+use Rattle.olr_renewal.proofs.Common.{under_change, under_changes, NamesDiffer, same_name, all_named, or_left, ToSkip}
+use Rattle.olr_renewal.proofs.Common.{CoversSearched, AreFound, String, Global, Made, take, path_ids_of}
 use Rattle.olr_route.specs.declared.distances.Dijkstra.{Dijkstra}
-use Rattle.olr_renewal.proofs.Common.{path_ids_of}
 use Rattle.std.proofs.Math.Bool.{or-false}
 use Rattle.olr_paths.proofs.NamedEntries.{Entries, First, item_of, items_of, same_flip}
 use Rattle.olr_paths.proofs.Alls.{all_more, in_from}

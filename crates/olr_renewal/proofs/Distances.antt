@@ -1,9 +1,7 @@
 -- What distances say about touched nodes that are near, and about detours.
-use Rattle.olr_renewal.proofs.Common.{◌≡◌, ℕ, ◌+◌, ◌<◌, ◌≤◌, true, List, [], ◌∷◌, map, IsTrue, ◌↔◌}
-use Rattle.olr_renewal.proofs.Common.{refl, sym, ap, subst, arith, Map, IsMap}
-use Rattle.olr_renewal.proofs.Common.{has_node, end, has, IsRoute, dm_of, ChangedLine, Near, Leads, Along, Against}
-use Rattle.olr_renewal.proofs.Common.{sources_in}
-use Rattle.olr_renewal.proofs.Common.{Detour, route_start}
+use Rattle.olr_renewal.proofs.Common.{◌≡◌, ℕ, ◌+◌, ◌<◌, ◌≤◌, true, List, [], ◌∷◌, map, IsTrue, ◌↔◌, refl, sym, ap}
+use Rattle.olr_renewal.proofs.Common.{subst, arith, Map, IsMap, has_node, end, has, IsRoute, dm_of, ChangedLine, Near}
+use Rattle.olr_renewal.proofs.Common.{Leads, Along, Against, sources_in, Detour, route_start}
 use Rattle.olr_paths.proofs.Alls.{has_from, in_from, Contains-map, Contains-unmap}
 
 -- ---- near nodes

@@ -1,8 +1,7 @@
 -- A list follows itself, since no name occurs twice.
 use Rattle.olr_renewal.proofs.Common.{if◌then◌else◌, option_map, answer_in, not_named, all_named, named_of, is_some}
-use Rattle.olr_renewal.proofs.Common.{refl}
-use Rattle.olr_renewal.proofs.Common.{map, without_answer}
-use Rattle.olr_renewal.proofs.Common.{Follows, Option, Answer, false, List, Made, Item, ◌∷◌, inr, ◌≡◌, ◌∙◌, inl, ap, []}
+use Rattle.olr_renewal.proofs.Common.{refl, map, without_answer, Follows, Option, Answer, false, List, Made, Item, ◌∷◌}
+use Rattle.olr_renewal.proofs.Common.{inr, ◌≡◌, ◌∙◌, inl, ap, []}
 use Rattle.olr_paths.proofs.Common.{bytes_decides, NamesDiffer, path_named, flipped, made_in, Bool}
 
 abbrev pub answer_made : Option Made → Option Answer

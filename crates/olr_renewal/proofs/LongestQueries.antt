@@ -1,7 +1,6 @@
 -- With a margin a coverage query is at most as long as the farthest one may be.
-use Rattle.olr_renewal.proofs.Common.{CoverageQuery, IsTrue, List, Map, MatchOption, None, Option, Path}
-use Rattle.olr_renewal.proofs.Common.{QueriesOfWith, Some, [], ap, arith, cases_Bool, extended_path, false, inl, inr}
-use Rattle.olr_renewal.proofs.Common.{length}
+use Rattle.olr_renewal.proofs.Common.{CoverageQuery, IsTrue, List, Map, MatchOption, None, Option, Path, QueriesOfWith}
+use Rattle.olr_renewal.proofs.Common.{Some, [], ap, arith, cases_Bool, extended_path, false, inl, inr, length}
 use Rattle.olr_renewal.proofs.Common.{query_from_with, refl, sym, ℕ, ◌+◌, ◌∷◌, ◌<◌, ◌≡◌, ◌≤◌, ◌⊎◌, subst, has, Margin}
 use Rattle.olr_renewal.proofs.Common.{is_margin, and_parts}
 use Rattle.std.proofs.Common.{◌*◌, ◌==◌, Bool, mul-le-mul_left}

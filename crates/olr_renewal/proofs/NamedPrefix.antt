@@ -1,7 +1,6 @@
 -- The names of the affected paths, as far as a list was passed.
 use Rattle.olr_renewal.proofs.Common.{inl, inr, ◌≡◌, ℕ, ◌+◌, List, [], ◌∷◌, ◌++◌, take, slice_get, Some, refl, sym, ap}
-use Rattle.olr_renewal.proofs.Common.{◌∙◌}
-use Rattle.olr_renewal.proofs.Common.{map-append, Map, Margin, IsMap, ChangedLine, Item, IsAffected, IsBefore}
+use Rattle.olr_renewal.proofs.Common.{◌∙◌, map-append, Map, Margin, IsMap, ChangedLine, Item, IsAffected, IsBefore}
 use Rattle.olr_commands.specs.Counts.{Picks}
 use Rattle.olr_paths.proofs.Common.{take_more_at}
 use Rattle.olr_renewal.specs.Actions.{ToSkip, ToName}

@@ -1,22 +1,20 @@
 -- A list, as far as it was renewed: SoFar says it of the first paths, with the count of encodings.
-use Rattle.olr_renewal.proofs.Common.{Answer, ChangedLine, Entry, Follows, IsAffected, IsBefore, IsEncodingOf}
-use Rattle.olr_renewal.proofs.Common.{IsMap, Item, List, Made, Map, Margin, Named, NamedPath, None, Option, Renewal}
-use Rattle.olr_renewal.proofs.Common.{Reported}
-use Rattle.olr_renewal.proofs.Common.{Some, [], after_renewal, all_named, all_put, answer_in, ap, arith}
-use Rattle.olr_renewal.proofs.Common.{changed_of, entry, entry_of, get_or, inl, inr, length, lines_of, map, map-append}
-use Rattle.olr_renewal.proofs.Common.{named_of, nodes_of, option_map, puts_of, refl, slice_get, slice_get_within, sym}
-use Rattle.olr_renewal.proofs.Common.{take, ℕ, ◌++◌, ◌+◌, ◌<◌, ◌∙◌, ◌∷◌, ◌≡◌, ◌≤◌, ◌⊎◌}
+use Rattle.olr_renewal.proofs.Common.{Answer, ChangedLine, Entry, Follows, IsAffected, IsBefore, IsEncodingOf, IsMap}
+use Rattle.olr_renewal.proofs.Common.{Item, List, Made, Map, Margin, Named, NamedPath, None, Option, Renewal, Reported}
+use Rattle.olr_renewal.proofs.Common.{Some, [], after_renewal, all_named, all_put, answer_in, ap, arith, changed_of}
+use Rattle.olr_renewal.proofs.Common.{entry, entry_of, inl, inr, length, lines_of, map, map-append, named_of}
+use Rattle.olr_renewal.proofs.Common.{nodes_of, option_map, puts_of, refl, slice_get, slice_get_within, sym, false, has}
+use Rattle.olr_renewal.proofs.Common.{take_all, take, ℕ, ◌++◌, ◌+◌, ◌∙◌, ◌∷◌, ◌≡◌, ◌≤◌, ◌⊎◌, Covers}
 use Rattle.olr_commands.specs.Counts.{CountIs}
 use Rattle.olr_paths.proofs.Alls.{at_position}
 use Rattle.olr_paths.proofs.Common.{append_assoc, take_more_at, append-nil}
-use Rattle.olr_renewal.proofs.Common.{Covers}
 use Rattle.olr_paths.proofs.NotedPositions.{all_put-push, put_behind}
 use Rattle.olr_renewal.specs.Actions.{IsActionFor, ToSkip}
 use Rattle.olr_renewal.specs.declared.actions.Action.{Action}
 use Rattle.olr_renewal.specs.declared.actions.Action.TheVariants.{Skip, Retain, Encode}
 use Rattle.olr_renewal.specs.declared.change_set.ChangeSet.{ChangeSet}
 use Rattle.olr_renewal.proofs.RetainedLemmas.{stays_retained, named_affected, stays_unless, touched_by, affected_by}
-use Rattle.olr_renewal.proofs.Passing.{Passed, by_steps}
+use Rattle.olr_renewal.proofs.Passing.{Walked, walked_all}
 use Rattle.olr_renewal.specs.Changes.{with_made, AreRemade, IsRemade}
 use Rattle.olr_renewal.specs.Reencoded.{ReportsIfOther, encodings_of, entries_of, IsRenewal, IsStep, WasBefore, made_at}
 use Rattle.olr_route.specs.Counts.{no_work, raised_count}
@@ -153,12 +151,21 @@ module _ {g : Margin} {N : Map} (n : IsMap N) {T X : List ℕ} {C : List Changed
 
 -- ---- from one candidate to the next
 
-module _ {g : Margin} {N : Map} (n : IsMap N) {T X : List ℕ} {C : List ChangedLine} {before is : List Item} (found : List ℕ)
-    (follows : Follows before is) (covers : Covers N T X is found) {r : Renewal} where
+-- as far as the first k candidates have to do with it
+abbrev pub Renewing : Margin → Map → ChangeSet → List Item → List Item → List ℕ → Renewal → ℕ → Type 0
+Renewing g N t before is found r k =
+    Walked is found (λ p. SoFar g N (nodes_of t) (lines_of t) (changed_of t) before is (take p is) r) k
+
+module _ {g : Margin} {N : Map} (n : IsMap N) (t : ChangeSet) {before is : List Item} (found : List ℕ)
+    (follows : Follows before is) (covers : Covers N (nodes_of t) (lines_of t) is found) (r : Renewal) where
   -- paths that are no candidates are unchanged
-  pub to_position : (k next q : ℕ) → ((m : ℕ) → k ≤ m → m < length found → q ≤ get_or found m 0) →
-      Passed found (length is) k next → next ≤ q → q ≤ length is →
-      SoFar g N T X C before is (take next is) r → SoFar g N T X C before is (take q is) r
-  to_position =
-      by_steps is found (λ p. SoFar g N T X C before is (take p is) r)
-      (λ p i at free h. so_far_left n follows p i at h (covers p i at free))
+  pub unaffected : (p : ℕ) (i : Item) → slice_get is p ≡ Some i → has found p ≡ false →
+      SoFar g N (nodes_of t) (lines_of t) (changed_of t) before is (take p is) r →
+      SoFar g N (nodes_of t) (lines_of t) (changed_of t) before is (take (p + 1) is) r
+  unaffected p i at free h = so_far_left n follows p i at h (covers p i at free)
+
+  -- past the last candidate
+  pub all_renewed : ((L : Map) × WasBefore g L N t is) → (k : ℕ) → length found ≤ k → Renewing g N t before is found r k →
+      IsRenewal g N t before is (after_renewal r is) r.renewed
+  all_renewed was k end h =
+      whole {t = t} r was (rw (take_all (length is) is (omega arith)) at (walked_all h unaffected end))

@@ -1,13 +1,12 @@
 -- Results that are right on a map are right on the next one, if no change can affect them.
 use Rattle.olr_renewal.proofs.Common.{AreEncodingsIfAny, AreKnownWith, By_line, By_name, By_node, ChangedLine}
 use Rattle.olr_renewal.proofs.Common.{Contains-get_or, CoverageQuery, IsAffected, IsBefore, IsEncodingOf, IsMap, IsTrue}
-use Rattle.olr_renewal.proofs.Common.{Item}
-use Rattle.olr_renewal.proofs.Common.{List, Made, Map, Margin, Option, Path, Some, arith, cases_Bool, false, get_or}
-use Rattle.olr_renewal.proofs.Common.{has, inl, inr}
-use Rattle.olr_renewal.proofs.Common.{refl, None, is_margin, is_path, min, slice_get, subst, ℕ, All, ◌≡◌, ◌≤◌}
+use Rattle.olr_renewal.proofs.Common.{Item, List, Made, Map, Margin, Option, Path, Some, arith, cases_Bool, false}
+use Rattle.olr_renewal.proofs.Common.{get_or, has, inl, inr, refl, None, is_margin, is_path, min, slice_get, subst, ℕ}
+use Rattle.olr_renewal.proofs.Common.{All, ◌≡◌, ◌≤◌}
 use Rattle.olr_paths.proofs.Alls.{at_position}
-use Rattle.olr_paths.proofs.Common.{AllByRecursion, Contains, IfSome, LineTouched, Near, QueryTouched}
-use Rattle.olr_paths.proofs.Common.{BeginsIn, GREATEST_LIMIT, TraversedTouched, true, ◌∷◌, []}
+use Rattle.olr_paths.proofs.Common.{AllByRecursion, Contains, IfSome, LineTouched, Near, QueryTouched, BeginsIn}
+use Rattle.olr_paths.proofs.Common.{GREATEST_LIMIT, TraversedTouched, true, ◌∷◌, []}
 use Rattle.olr_paths.specs.Origins.{farthest, AreShort}
 use Rattle.olr_renewal.specs.Actions.{ToName, Retains, IsActionFor}
 use Rattle.olr_renewal.specs.declared.actions.Action.{Action}

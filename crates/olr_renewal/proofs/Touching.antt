@@ -1,7 +1,6 @@
 -- Whether edits affect a path, by two tests: of its nodes and lines, and of its coverage queries.
 use Rattle.olr_renewal.proofs.Common.{◌≡◌, ◌⊎◌, ◌↔◌, ℕ, Bool, List, IsTrue, false, true≢false, inl, inr, sym, ◌∙◌, Map}
-use Rattle.olr_renewal.proofs.Common.{Path}
-use Rattle.olr_renewal.proofs.Common.{Made, TraversedTouched, LineTouched, QueryTouched}
+use Rattle.olr_renewal.proofs.Common.{Path, Made, TraversedTouched, LineTouched, QueryTouched}
 use Rattle.olr_paths.specs.Changes.{Touches}
 
 module _ (N : Map) (T X : List ℕ) (m : Made) (P : Path) where

@@ -3,5 +3,7 @@ pub mod ChangeSets
 pub mod AffectedSearches
 pub mod Actions
 pub mod Candidates
+pub mod Updates
 pub mod Changes
 pub mod Reencoded
+pub mod Encoded

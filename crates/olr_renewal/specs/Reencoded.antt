@@ -1,6 +1,5 @@
 -- Which results of a list of named paths were made again, and what is reported and counted.
 --     made_at r      the results that were made.
---     items_before o l      the earlier list if there is one, otherwise l
 --     encodings_of r      how many encodings are counted
 --     IsStep      the effect of the action for a path
 --     IsGiven N g ls action      the coverage queries that are not searched again are right on the map
@@ -10,11 +9,16 @@
 --     to_renew_by u is      the list or, if the margin was set, the list of which no path is encoded yet
 --     CanRenewOver map slot u bounds before is      the list is, which changes made of the list before, can be renewed after the
 --         map update u: map and slot are those of its map
+--     CanRenewUnder map slot u f is o      the list is can be renewed under the changes of an overlay, and no name occurs twice
 --     AreRenewed map u before is js r      the list js is the list is, renewed after the update
+--     IsRenewed map u before is r      the list is with the results of r is renewed, and r reports and counts it
+--     IsStored u is r js s      these results are stored in the list js;  s reports and counts as r does, and has the coverage
+--         queries that are new
+--     IsUnchanged map u is, AreAffectedNames map u is names      the results of the list are right on the map of the update;
+--         the names of the paths that its edits would affect
 --     ReportsIfOther before name A es fs      an entry is appended if the answer is not the earlier one of the
 --         name
-use Rattle.std.specs.Prelude.{◌≡◌, ◌≢◌, ℕ, List, [], ◌∷◌, ◌++◌, map, Option, Some, option_map, unwrap_or, ◌⊎◌, ⊤}
-use Rattle.std.specs.Borrow.{Bor}
+use Rattle.std.specs.Prelude.{◌≡◌, ◌≢◌, ℕ, List, [], ◌∷◌, ◌++◌, map, Some, ◌⊎◌, ⊤}
 use Rattle.olr_spec.specs.Map.{Map}
 use Rattle.olr_spec.specs.Margins.{Margin}
 use Rattle.olr_spec.specs.Queries.{AreKnownWith}
@@ -23,17 +27,20 @@ use Rattle.olr_commands.specs.Counts.{CountIs}
 use Rattle.olr_commands.specs.Words.{entry_of}
 use Rattle.olr_spec.specs.Encoding.{Answer}
 use Rattle.olr_commands.specs.Reply.{Entry, entry}
-use Rattle.olr_paths.specs.Items.{Made, Item, IsEncodingOf, items, answer_in, all_named}
+use Rattle.olr_commands.specs.State.{NamesDiffer}
+use Rattle.olr_paths.specs.Items.{Made, Item, IsEncodingOf, answer_in, all_named}
+use Rattle.olr_paths.specs.Origins.{AreNewQueries}
 use Rattle.olr_paths.specs.Changes.{Reported, to_renew}
 use Rattle.olr_renewal.specs.AffectedSearches.{AreBoundsOf}
 use Rattle.olr_renewal.specs.declared.distance_bounds.DistanceBounds.{DistanceBounds}
+use Rattle.olr_paths.specs.Overlaid.{under_overlay}
 use Rattle.olr_paths.specs.Stored.{Put, all_put, puts_of}
+use Rattle.olr_paths.specs.declared.overlay.Overlay.{Overlay}
 use Rattle.olr_renewal.specs.ChangeSets.{nodes_of, lines_of, changed_of}
 use Rattle.olr_renewal.specs.declared.actions.Action.{Action}
 use Rattle.olr_renewal.specs.declared.actions.Action.TheVariants.{Skip, Retain, Encode}
 use Rattle.olr_renewal.specs.declared.change_set.ChangeSet.{ChangeSet}
-use Rattle.olr_paths.specs.declared.path_list.PathList.{PathList}
-use Rattle.olr_renewal.specs.Changes.{Follows, IsBefore, IsAffected, AreRemade}
+use Rattle.olr_renewal.specs.Changes.{Follows, IsBefore, IsAffected, AreRemade, AffectedNames}
 use Rattle.olr_renewal.specs.declared.renewal.Renewal.{Renewal}
 use Rattle.olr_renewal.specs.declared.renewal.Renewed.{Renewed}
 use Rattle.olr_renewal.specs.declared.update.MapUpdate.{MapUpdate}
@@ -46,9 +53,6 @@ entries_of r = map entry_of r.entries.items
 
 abbrev pub after_renewal : Renewal → List Item → List Item
 after_renewal r is = all_put is (made_at r)
-
-abbrev pub items_before : Option (Bor PathList) → PathList → List Item
-items_before o l = unwrap_or (option_map (λ b. items b.now) o) (items l)
 
 abbrev pub ReportsIfOther : List Item → List ℕ → Answer → List Entry → List Entry → Type 0
 ReportsIfOther before name A es fs =
@@ -104,3 +108,27 @@ CanRenewOver map slot u f before is =
 
 abbrev pub AreRenewed : {M : Type 0} → (M → Map) → MapUpdate M → List Item → List Item → List Item → Renewed → Type 0
 AreRenewed map u before is js r = IsRenewal u.margin (map u.map.now) u.touched.now before (to_renew_by u is) js r
+
+pub record CanRenewUnder {M : Type 0} (map : M → Map) (slot : M → ℕ → ℕ) (u : MapUpdate M) (f : DistanceBounds)
+    (is : List Item) (o : Overlay) : Type 0
+  where
+    pub names : NamesDiffer (all_named (under_overlay is o))
+    pub renewable : CanRenewOver map slot u f is (under_overlay is o)
+
+abbrev pub IsRenewed : {M : Type 0} → (M → Map) → MapUpdate M → List Item → List Item → Renewal → Type 0
+IsRenewed map u before is r = AreRenewed map u before is (after_renewal r (to_renew_by u is)) r.renewed
+
+pub record IsStored {M : Type 0} (u : MapUpdate M) (is : List Item) (r : Renewal) (js : List Item) (s : Renewed) : Type 0 where
+  pub items : js ≡ after_renewal r (to_renew_by u is)
+  pub entries : s.entries ≡ r.renewed.entries
+  pub work : s.work ≡ r.renewed.work
+  pub queries : AreNewQueries s.queries.items (to_renew_by u is) js
+
+-- ---- without a change of the map
+
+abbrev pub IsUnchanged : {M : Type 0} → (M → Map) → MapUpdate M → List Item → Type 0
+IsUnchanged map u is = WasBefore u.margin (map u.map.now) (map u.map.now) u.touched.now is
+
+abbrev pub AreAffectedNames : {M : Type 0} → (M → Map) → MapUpdate M → List Item → List (List ℕ) → Type 0
+AreAffectedNames map u is names =
+    AffectedNames u.margin (map u.map.now) (nodes_of u.touched.now) (lines_of u.touched.now) is names

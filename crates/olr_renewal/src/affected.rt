@@ -4,29 +4,27 @@ ghost use Rattle.std.specs.List.{list_any};
 ghost use Rattle.olr_spec.specs.Map.{has};
 ghost use Rattle.olr_spec.specs.Detours.{Near};
 ghost use Rattle.olr_route.specs.Bounds.{AreLengths};
-ghost use Rattle.olr_renewal.specs.Bounds.{IsRight, IsSource};
 ghost use Rattle.olr_route.specs.declared.distances.Direction.TheVariants.{Against};
 ghost use Rattle.olr_paths.specs.Items.{made_of, items};
 ghost use Rattle.olr_paths.specs.Views.{shown_items};
-ghost use Rattle.olr_renewal.specs.ChangeSets.{nodes_of, lines_of};
-ghost use Rattle.olr_renewal.specs.AffectedSearches.{sources, IsExactAt, IsSearchedFor};
-ghost use Rattle.olr_paths.specs.Origins.{LackQueries};
-ghost use Rattle.olr_renewal.specs.Candidates.{AreCandidates};
 ghost use Rattle.olr_paths.specs.Changes.{LineTouched, QueryTouched, TraversedTouched};
 ghost use Rattle.olr_paths.specs.Origins as origins;
-ghost use Rattle.olr_renewal.specs.AffectedSearches.{AreBoundsOf};
-ghost use Rattle.olr_paths.specs.Origins.{AreShort, Begins};
+ghost use Rattle.olr_paths.specs.Origins.{Begins, LackQueries};
+ghost use Rattle.olr_renewal.specs.Bounds.{IsRight, IsSource};
+ghost use Rattle.olr_renewal.specs.ChangeSets.{nodes_of, lines_of};
+ghost use Rattle.olr_renewal.specs.AffectedSearches.{sources, IsExactAt};
+ghost use Rattle.olr_renewal.specs.Updates.{CanSearch, Searched, FindsCandidates};
 
 use crate::candidates::{Candidates, positions};
 use crate::change_set::ChangeSet;
-use crate::detours::begin_detours;
 use crate::distance_bounds::DistanceBounds;
 use crate::sources::begin_at;
+use crate::update::MapUpdate;
 use olr_answers::{CoverageQuery, Margin, Path};
 use olr_model::{Footprint, LineId, MapRead, NodeId};
 use olr_paths::{OverlaidList, PathList, Published};
 use olr_route::{Dijkstra, Direction, GREATEST_LIMIT, LEG_LIMIT};
-use std::alloc::{AllocError, Global};
+use std::alloc::AllocError;
 
 /// The greatest length of a coverage query with a margin, in decimetres.
 fn farthest(margin: Margin) -> u32
@@ -40,26 +38,25 @@ fn farthest(margin: Margin) -> u32
 
 /// Searches against the lines from all touched nodes. If the distance bounds are known, they limit the search; otherwise
 /// the length of coverage queries with the margin does.
-pub(crate) fn search_near<M: MapRead>(
-    alloc: Global,
-    map: &M,
-    margin: Margin,
-    touched: &ChangeSet,
+fn search_near<M: MapRead>(
+    update: &MapUpdate<'_, M>,
     bounds: &DistanceBounds,
     near: &mut Dijkstra,
 ) -> Result<(), AllocError>
-    ensures lengths { OnOk result
-        (AreLengths (M.map map.now) (M.node_slot map.now) Against (sources touched.now) near.new) }
-    ensures returned { OnOk result (IsRight (M.map map.now) (M.node_slot map.now) bounds.now
-        → (v w : ℕ) → IsSource bounds.now v w → w ≤ origins.farthest margin
-        → IsExactAt (M.map map.now) (M.node_slot map.now) touched.now near.new v (min w GREATEST_LIMIT)) }
+    ensures lengths { OnOk result (AreLengths (M.map update.now.map.now) (M.node_slot update.now.map.now) Against
+        (sources update.now.touched.now) near.new) }
+    ensures returned { OnOk result (IsRight (M.map update.now.map.now) (M.node_slot update.now.map.now) bounds.now
+        → (v w : ℕ) → IsSource bounds.now v w → w ≤ origins.farthest update.now.margin
+        → IsExactAt (M.map update.now.map.now) (M.node_slot update.now.map.now) update.now.touched.now near.new v
+        (min w GREATEST_LIMIT)) }
 {
-    begin_at(alloc, map, Direction::Against, touched.nodes(), near)?;
+    let (map, nodes) = (update.map, update.touched.nodes());
+    begin_at(update.alloc, map, Direction::Against, nodes, near)?;
     if bounds.is_known() {
         near.settle_under(map, bounds.bounds())?;
         return Ok(());
     }
-    near.settle_to(map, farthest(margin))?;
+    near.settle_to(map, farthest(update.margin))?;
     Ok(())
 }
 
@@ -82,50 +79,41 @@ fn is_without_queries(overlaid: OverlaidList<'_>) -> bool
 /// Searches against the lines from the touched nodes; from none of them, if no coverage query can reach one: the distance
 /// bounds show so, or no path has a query.
 fn search_touched<M: MapRead>(
-    alloc: Global,
-    map: &M,
-    margin: Margin,
-    touched: &ChangeSet,
-    bounds: &DistanceBounds,
+    update: &MapUpdate<'_, M>,
     overlaid: OverlaidList<'_>,
+    bounds: &DistanceBounds,
     near: &mut Dijkstra,
 ) -> Result<(), AllocError>
-    requires bounds { AreBoundsOf (M.map map.now) (M.node_slot map.now) bounds.now (shown_items overlaid) }
-    requires short { AreShort margin (shown_items overlaid) }
-    ensures { OnOk result
-        (IsSearchedFor (M.map map.now) (M.node_slot map.now) touched.now near.new (Begins (shown_items overlaid.entry))) }
+    requires { CanSearch M.map M.node_slot update.now bounds.now (shown_items overlaid) }
+    ensures { OnOk result (Searched M.map M.node_slot update.now near.new (Begins (shown_items overlaid.entry))) }
 {
-    if bounds.is_far(map, touched.nodes()) || is_without_queries(overlaid) {
-        near.begin(map, Direction::Against, &[])?;
+    if bounds.is_far(update.map, update.touched.nodes()) || is_without_queries(overlaid) {
+        near.begin(update.map, Direction::Against, &[])?;
         return Ok(());
     }
-    search_near(alloc, map, margin, touched, bounds, near)?;
+    search_near(update, bounds, near)?;
     Ok(())
 }
 
 /// Searches from the touched nodes, and finds the paths that the edits may affect. Without paths, nothing is searched.
-pub fn find_candidates<M: MapRead>(
-    alloc: Global,
-    map: &M,
-    margin: Margin,
+pub(crate) fn find_candidates<M: MapRead>(
+    update: &MapUpdate<'_, M>,
     overlaid: OverlaidList<'_>,
-    touched: &ChangeSet,
     bounds: &DistanceBounds,
     near: &mut Dijkstra,
 ) -> Result<Candidates, AllocError>
-    requires bounds { AreBoundsOf (M.map map.now) (M.node_slot map.now) bounds.now (shown_items overlaid) }
-    requires short { AreShort margin (shown_items overlaid) }
-    ensures { IfOk result (λ c. AreCandidates (M.map map.now) (M.node_slot map.now) touched.now near.new
-        (shown_items overlaid.entry) c.positions.items) }
+    requires { CanSearch M.map M.node_slot update.now bounds.now (shown_items overlaid) }
+    ensures { IfOk result (λ c. FindsCandidates M.map M.node_slot update.now near.new (shown_items overlaid.entry)
+        c.positions.items) }
 {
     if overlaid.at(0).is_none() {
         return Ok(Candidates {
-            positions: Vec::new(alloc),
+            positions: Vec::new(update.alloc),
             labelled: 0,
         });
     }
-    search_touched(alloc, map, margin, touched, bounds, overlaid, near)?;
-    let positions = positions(alloc, map, overlaid, touched, near)?;
+    search_touched(update, overlaid, bounds, near)?;
+    let positions = positions(update, overlaid, near)?;
     Ok(Candidates {
         positions,
         labelled: near.labelled_slots().len(),
@@ -133,13 +121,14 @@ pub fn find_candidates<M: MapRead>(
 }
 
 /// Whether a coverage query reaches a touched node, within its length and the greatest limit.
-fn is_near<M: MapRead>(map: &M, touched: &ChangeSet, near: &Dijkstra, query: CoverageQuery) -> bool
-    requires { IsSearchedFor (M.map map.now) (M.node_slot map.now) touched.now near.now (λ l. l ≡ query) }
-    ensures { IsTrue result ↔ Near (M.map map.now) (nodes_of touched.now) query.from (min query.within GREATEST_LIMIT) }
+fn is_near<M: MapRead>(update: &MapUpdate<'_, M>, near: &Dijkstra, query: CoverageQuery) -> bool
+    requires { Searched M.map M.node_slot update.now near.now (λ l. l ≡ query) }
+    ensures { IsTrue result
+        ↔ Near (M.map update.now.map.now) (nodes_of update.now.touched.now) query.from (min query.within GREATEST_LIMIT) }
 {
-    match map.slot_of(query.from) {
+    match update.map.slot_of(query.from) {
         Some(slot) => near.is_within(slot, query.within.min(GREATEST_LIMIT)),
-        None => touched.has_node(query.from),
+        None => update.touched.has_node(query.from),
     }
 }
 
@@ -186,16 +175,16 @@ pub(crate) fn is_path_touched(touched: &ChangeSet, path: &Path, published: &Publ
 
 /// Whether one of a path's coverage queries, as they were on the map before the edits, reaches a touched node.
 pub(crate) fn is_query_touched<M: MapRead>(
-    map: &M,
-    touched: &ChangeSet,
+    update: &MapUpdate<'_, M>,
     near: &Dijkstra,
     queries: &[CoverageQuery],
 ) -> bool
-    requires { IsSearchedFor (M.map map.now) (M.node_slot map.now) touched.now near.now (Contains queries.now) }
-    ensures { IsTrue result ↔ QueryTouched (M.map map.now) (nodes_of touched.now) queries.now }
+    requires { Searched M.map M.node_slot update.now near.now (Contains queries.now) }
+    ensures { IsTrue result
+        ↔ QueryTouched (M.map update.now.map.now) (nodes_of update.now.touched.now) queries.now }
 {
     for query in queries {
-        if is_near(map, touched, near, *query) {
+        if is_near(update, near, *query) {
             return true;
         }
     }

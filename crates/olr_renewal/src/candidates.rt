@@ -1,32 +1,32 @@
 //! Which paths the edits may affect: found by what they touched, without a pass over all paths.
-ghost use Rattle.std.specs.Prelude.{◌≡◌, ◌<◌, ◌≤◌, ℕ, [], Some, All, Contains, length, get_or, IsTrue, IsFalse};
+ghost use Rattle.std.specs.Prelude.{◌≡◌, ◌<◌, ◌≤◌, ℕ, [], Some, All, Contains, length, get_or, min, IsTrue, IsFalse};
 ghost use Rattle.std.specs.Prelude.{IfOk, OnOk};
 ghost use Rattle.std.specs.List.Sorted.{IsStrictlyIncreasing};
 ghost use Rattle.olr_spec.specs.Map.{Map, has, has_node};
-ghost use Rattle.std.specs.Prelude.{min};
-ghost use Rattle.olr_route.specs.declared.frontier.TheConstants.{GREATEST_LIMIT};
 ghost use Rattle.olr_spec.specs.Detours.{Near};
+ghost use Rattle.olr_route.specs.declared.frontier.TheConstants.{GREATEST_LIMIT};
 ghost use Rattle.olr_paths.specs.PathIds.{path_ids_of};
-ghost use Rattle.olr_renewal.specs.Bounds.{IsEdit, IsRight, IsSource, IsUnderWay};
 ghost use Rattle.olr_paths.specs.Items.{items};
-ghost use Rattle.olr_renewal.specs.ChangeSets.{nodes_of, lines_of};
-ghost use Rattle.olr_renewal.specs.AffectedSearches.{IsSearchedFor};
 ghost use Rattle.olr_paths.specs.Overlaid.{overlay_changes};
-ghost use Rattle.olr_renewal.specs.AffectedSearches.{AreBoundsOf};
 ghost use Rattle.olr_paths.specs.Origins.{Begins};
 ghost use Rattle.olr_paths.specs.Views.{shown_items};
+ghost use Rattle.olr_renewal.specs.Bounds.{IsEdit, IsRight, IsSource, IsUnderWay};
+ghost use Rattle.olr_renewal.specs.ChangeSets.{nodes_of, lines_of};
+ghost use Rattle.olr_renewal.specs.AffectedSearches.{AreBoundsOf};
 ghost use Rattle.olr_renewal.specs.Candidates.{Includes, Finds, Covers, CoversSearched, FindsChanged};
+ghost use Rattle.olr_renewal.specs.Updates.{Searched};
 
 use crate::change_set::ChangeSet;
 use crate::distance_bounds::DistanceBounds;
+use crate::update::MapUpdate;
 use olr_model::MapRead;
 use olr_paths::{Index, Numbered, OverlaidList, PathList};
 use olr_route::Dijkstra;
-use std::alloc::{AllocError, Global};
+use std::alloc::AllocError;
 
 /// The paths that edits may affect, as a search from the touched nodes found them.
 #[derive(Drop)]
-pub struct Candidates {
+pub(crate) struct Candidates {
     /// Their positions in the list, in ascending order.
     pub positions: Vec<usize>,
     /// How many nodes the search labelled.
@@ -203,21 +203,18 @@ fn put_listed<M: MapRead>(
 /// The positions of the paths that the edits may affect, and of replaced and new paths, each once and in ascending order.
 /// All positions if the list may have a path that is not encoded yet.
 pub(crate) fn positions<M: MapRead>(
-    alloc: Global,
-    map: &M,
+    update: &MapUpdate<'_, M>,
     overlaid: OverlaidList<'_>,
-    touched: &ChangeSet,
     near: &Dijkstra,
 ) -> Result<Vec<usize>, AllocError>
-    requires { IsSearchedFor (M.map map.now) (M.node_slot map.now) touched.now near.now (Begins (shown_items overlaid)) }
+    requires { Searched M.map M.node_slot update.now near.now (Begins (shown_items overlaid)) }
     ensures ascending { IfOk result (λ found. IsStrictlyIncreasing found.items) }
-    ensures covers { IfOk result
-        (λ found. Covers (M.map map.now) (nodes_of touched.now) (lines_of touched.now) (shown_items overlaid.entry)
-        found.items) }
+    ensures covers { IfOk result (λ found. Covers (M.map update.now.map.now) (nodes_of update.now.touched.now)
+        (lines_of update.now.touched.now) (shown_items overlaid.entry) found.items) }
 {
     let count = overlaid.list.paths.len();
-    let mut found = Vec::new(alloc);
-    put_listed(map, overlaid, touched, near, &mut found)?;
+    let mut found = Vec::new(update.alloc);
+    put_listed(update.map, overlaid, update.touched, near, &mut found)?;
     put_range(
         count,
         count + overlaid.overlay.added.paths.len(),
@@ -254,7 +251,7 @@ fn are_spared<M: MapRead>(map: &M, touched: &ChangeSet, bounds: &DistanceBounds)
 /// Whether it is known without a search that edits affect no path of the list: all were encoded, none has a touched
 /// node or line, and no coverage query reaches a touched node. If so, the edits leave the bounds right. `map` is the
 /// map before the edits.
-pub fn affects_none<M: MapRead>(
+pub(crate) fn affects_none<M: MapRead>(
     map: &M,
     list: &PathList,
     touched: &ChangeSet,

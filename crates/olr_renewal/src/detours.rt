@@ -1,16 +1,19 @@
 //! Whether changed lines offer a detour that is as short as a coverage query.
 ghost use Rattle.std.specs.Prelude.{◌≡◌, ◌<◌, ◌≤◌, ◌↔◌, ℕ, List, length, All, IsTrue, IfOk, OnOk};
-ghost use Rattle.olr_spec.specs.Map.{Map, has_node};
+ghost use Rattle.olr_spec.specs.Map.{Map, IsMap, has_node};
 ghost use Rattle.olr_spec.specs.Detours.{Detour};
 ghost use Rattle.olr_spec.specs.Queries.{IsClear};
-ghost use Rattle.olr_renewal.specs.ChangeSets.{changed_of};
 ghost use Rattle.olr_route.specs.Distances.{Leads};
 ghost use Rattle.olr_route.specs.Searches.{IsSearch};
-ghost use Rattle.olr_renewal.specs.AffectedSearches.{AreDetours, AreDetoursIfFew, most_changed};
 ghost use Rattle.olr_paths.specs.Changes.{StayKnown};
+ghost use Rattle.olr_renewal.specs.AffectedSearches.{AreDetours, most_changed};
+ghost use Rattle.olr_renewal.specs.ChangeSets.{changed_of};
+ghost use Rattle.olr_renewal.specs.Updates.{AreReady, AreReadyIfFew};
+ghost use Rattle.olr_renewal.specs.declared.change_set.ChangeSet.{ChangeSet as Noted};
 
 use crate::change_set::ChangeSet;
 use crate::sources::begin_at;
+use crate::update::MapUpdate;
 use olr_answers::{CoverageQuery, KnownQuery};
 use olr_model::MapRead;
 use olr_route::{Dijkstra, Direction, GREATEST_LIMIT};
@@ -47,23 +50,18 @@ pub(crate) fn are_few(touched: &ChangeSet) -> bool
 
 /// Begins the searches for distances to the starts of changed lines and from their ends, unless no path is found that
 /// the edits may affect, or too many lines changed.
-pub fn begin_detours<M: MapRead>(
-    alloc: Global,
-    map: &M,
-    touched: &ChangeSet,
+pub(crate) fn begin_detours<M: MapRead>(
+    update: &MapUpdate<'_, M>,
     found: &[usize],
     detours: &mut Detours,
 ) -> Result<(), AllocError>
-    ensures { OnOk result (0 < length found.now
-        → AreDetoursIfFew (M.map map.now) (M.node_slot map.now) touched.now detours.new) }
+    ensures { OnOk result (0 < length found.now → AreReadyIfFew M.map M.node_slot update.now detours.new) }
 {
-    if found.is_empty() {
+    if found.is_empty() || !are_few(update.touched) {
         return Ok(());
     }
-    if !are_few(touched) {
-        return Ok(());
-    }
-    let changed = touched.changed.as_slice();
+    let (alloc, map) = (update.alloc, update.map);
+    let changed = update.touched.changed.as_slice();
     begin_at(alloc, map, Direction::Against, changed, &mut detours.before)?;
     begin_at(alloc, map, Direction::Along, changed, &mut detours.after)
 }
@@ -83,17 +81,17 @@ fn at_least(search: &Dijkstra, slot: u32) -> u32
 
 /// Settles both searches half as far as `within`. Only if one of them finds its node, the other goes on to what is left.
 fn settle_both<M: MapRead>(
-    map: &M,
-    touched: &ChangeSet,
+    update: &MapUpdate<'_, M>,
     detours: &mut Detours,
     from: u32,
     to: u32,
     within: u32,
 ) -> Result<(), AllocError>
     requires short { within ≤ GREATEST_LIMIT }
-    requires searches { AreDetours (M.map map.now) (M.node_slot map.now) touched.now detours.old }
-    ensures { OnOk result (AreDetours (M.map map.now) (M.node_slot map.now) touched.now detours.new) }
+    requires searches { AreReady M.map M.node_slot update.now detours.old }
+    ensures { OnOk result (AreReady M.map M.node_slot update.now detours.new) }
 {
+    let map = update.map;
     detours.before.settle_to(map, within / 2)?;
     detours.after.settle_to(map, within / 2)?;
     match (detours.before.dist_at(from), detours.after.dist_at(to)) {
@@ -105,66 +103,54 @@ fn settle_both<M: MapRead>(
 
 /// True only if no detour over the changed lines, from the node in the slot `from` to the node in the slot `to`, is at
 /// most `within` decimetres long.
-fn has_no_detour<M: MapRead>(
-    map: &M,
-    touched: &ChangeSet,
-    detours: &mut Detours,
-    from: u32,
-    to: u32,
-    within: u32,
-) -> Result<bool, AllocError>
-    requires short { within ≤ GREATEST_LIMIT }
-    requires searches { AreDetours (M.map map.now) (M.node_slot map.now) touched.now detours.old }
-    ensures none { IfOk result (λ none. IsTrue none → (v w : ℕ) → IsTrue (has_node (M.map map.now) v)
-        → M.node_slot map.now v ≡ from → IsTrue (has_node (M.map map.now) w) → M.node_slot map.now w ≡ to
-        → ¬ Detour (M.map map.now) (changed_of touched.now) v w within) }
-    ensures detours { OnOk result (AreDetours (M.map map.now) (M.node_slot map.now) touched.now detours.new) }
+fn are_longer(detours: &Detours, from: u32, to: u32, within: u32) -> bool
+    ensures { IsTrue result → (N : Map) (slot : ℕ → ℕ) (t : Noted) (v w : ℕ) → IsMap N → AreDetours N slot t detours.now
+        → IsTrue (has_node N v) → slot v ≡ from → IsTrue (has_node N w) → slot w ≡ to
+        → ¬ Detour N (changed_of t) v w within }
 {
-    settle_both(map, touched, detours, from, to, within)?;
     let there = u64::from(at_least(&detours.before, from));
     let back = u64::from(at_least(&detours.after, to));
-    Ok(there + back > u64::from(within))
+    there + back > u64::from(within)
 }
 
 /// True only if no detour over the changed lines is as short as the coverage query. The searches go no farther than the
 /// test needs.
 fn is_clear<M: MapRead>(
-    map: &M,
-    touched: &ChangeSet,
+    update: &MapUpdate<'_, M>,
     detours: &mut Detours,
     query: &CoverageQuery,
 ) -> Result<bool, AllocError>
-    requires { AreDetours (M.map map.now) (M.node_slot map.now) touched.now detours.old }
+    requires { AreReady M.map M.node_slot update.now detours.old }
     ensures clear { IfOk result
-        (λ clear. IsTrue clear → IsClear (M.map map.now) (changed_of touched.now) query.now) }
-    ensures detours { OnOk result (AreDetours (M.map map.now) (M.node_slot map.now) touched.now detours.new) }
+        (λ clear. IsTrue clear → IsClear (M.map update.now.map.now) (changed_of update.now.touched.now) query.now) }
+    ensures detours { OnOk result (AreReady M.map M.node_slot update.now detours.new) }
 {
     if query.within > GREATEST_LIMIT {
         return Ok(false);
     }
-    let Some(from) = map.slot_of(query.from) else {
+    let Some(from) = update.map.slot_of(query.from) else {
         return Ok(false);
     };
-    let Some(to) = map.slot_of(query.to) else {
+    let Some(to) = update.map.slot_of(query.to) else {
         return Ok(false);
     };
-    has_no_detour(map, touched, detours, from, to, query.within)
+    settle_both(update, detours, from, to, query.within)?;
+    Ok(are_longer(detours, from, to, query.within))
 }
 
 /// True only if each coverage query is clear.
 pub(crate) fn are_clear<M: MapRead>(
-    map: &M,
-    touched: &ChangeSet,
+    update: &MapUpdate<'_, M>,
     detours: &mut Detours,
     queries: &[CoverageQuery],
 ) -> Result<bool, AllocError>
-    requires { AreDetours (M.map map.now) (M.node_slot map.now) touched.now detours.old }
-    ensures clear { IfOk result
-        (λ clear. IsTrue clear → All (IsClear (M.map map.now) (changed_of touched.now)) queries.now) }
-    ensures detours { OnOk result (AreDetours (M.map map.now) (M.node_slot map.now) touched.now detours.new) }
+    requires { AreReady M.map M.node_slot update.now detours.old }
+    ensures clear { IfOk result (λ clear. IsTrue clear
+        → All (IsClear (M.map update.now.map.now) (changed_of update.now.touched.now)) queries.now) }
+    ensures detours { OnOk result (AreReady M.map M.node_slot update.now detours.new) }
 {
     for query in queries {
-        if !is_clear(map, touched, detours, query)? {
+        if !is_clear(update, detours, query)? {
             return Ok(false);
         }
     }
@@ -174,23 +160,21 @@ pub(crate) fn are_clear<M: MapRead>(
 /// Those of the coverage queries along a path's own lines that are clear of the changed lines; none if too many lines
 /// changed.
 pub(crate) fn clear_known<M: MapRead>(
-    alloc: Global,
-    map: &M,
-    touched: &ChangeSet,
+    update: &MapUpdate<'_, M>,
     detours: &mut Detours,
     known: &[KnownQuery],
 ) -> Result<Vec<KnownQuery>, AllocError>
-    requires { AreDetoursIfFew (M.map map.now) (M.node_slot map.now) touched.now detours.old }
-    ensures clear { IfOk result
-        (λ clear. StayKnown (M.map map.now) (changed_of touched.now) known.now clear.items) }
-    ensures detours { OnOk result (AreDetoursIfFew (M.map map.now) (M.node_slot map.now) touched.now detours.new) }
+    requires { AreReadyIfFew M.map M.node_slot update.now detours.old }
+    ensures clear { IfOk result (λ clear. StayKnown (M.map update.now.map.now) (changed_of update.now.touched.now)
+        known.now clear.items) }
+    ensures detours { OnOk result (AreReadyIfFew M.map M.node_slot update.now detours.new) }
 {
-    let mut clear = Vec::new(alloc);
-    if !are_few(touched) {
+    let mut clear = Vec::new(update.alloc);
+    if !are_few(update.touched) {
         return Ok(clear);
     }
     for one in known {
-        if is_clear(map, touched, detours, &one.query)? {
+        if is_clear(update, detours, &one.query)? {
             clear.push(*one)?;
         }
     }

@@ -104,8 +104,7 @@ impl DistanceBounds {
     ghost use Rattle.olr_spec.specs.Map.{Map, has};
     ghost use Rattle.olr_spec.specs.Detours.{Near};
     ghost use Rattle.olr_renewal.specs.Bounds.{source_of, bound_at, bounds_len, IsSource, IsRight, IsUnderWay, IsEdit};
-    ghost use Rattle.olr_renewal.specs.Bounds.{IsFar};
-    ghost use Rattle.olr_renewal.specs.Bounds.{IsLowered, IsReopened};
+    ghost use Rattle.olr_renewal.specs.Bounds.{IsFar, IsLowered, IsReopened};
 
     /// No sources and no bounds. Does not allocate.
     pub fn new(alloc: Global) -> DistanceBounds

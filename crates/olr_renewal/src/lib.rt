@@ -18,15 +18,12 @@ mod searches;
 mod sources;
 mod update;
 
-pub use actions::{Action, decide, is_affected};
-pub use add_and_set::{add, set};
-pub use affected::find_candidates;
-pub use candidates::{Candidates, affects_none};
+pub use add_and_set::{Encoded, add, encode, set};
 pub use change_set::{ChangeSet, ChangedLine};
-pub use detours::{Detours, begin_detours};
+pub use detours::Detours;
 pub use distance_bounds::DistanceBounds;
 pub use naming::affected_names;
-pub use reencode::{preview_over, renew_over, renew_unaffected};
+pub use reencode::{Unstored, renew_over, renew_unaffected, renewal_over};
 pub use renewal::Renewed;
 pub use searches::Searches;
 pub use update::MapUpdate;

@@ -2,70 +2,57 @@
 ghost use Rattle.std.specs.Prelude.{◌≡◌, ◌∷◌, ◌++◌, ◌⊎◌, [], map as list_map, string_bytes, IfOk, OnOk};
 ghost use Rattle.olr_paths.specs.Items.{items};
 ghost use Rattle.olr_paths.specs.Views.{shown_items, shown_item};
-ghost use Rattle.olr_renewal.specs.ChangeSets.{nodes_of, lines_of};
-ghost use Rattle.olr_renewal.specs.AffectedSearches.{IsSearchedFor};
-ghost use Rattle.olr_renewal.specs.Candidates.{AreCandidates};
-ghost use Rattle.olr_renewal.specs.AffectedSearches.{AreBoundsOf};
 ghost use Rattle.olr_paths.specs.Origins.{BeginsIn};
-ghost use Rattle.olr_renewal.specs.Actions.{ToSkip, ToName};
-ghost use Rattle.olr_renewal.specs.Changes.{AffectedNames};
-ghost use Rattle.olr_renewal.specs.Reencoded.{WasBefore};
+ghost use Rattle.olr_renewal.specs.AffectedSearches.{AreBoundsOf};
+ghost use Rattle.olr_renewal.specs.Updates.{Searched, FindsCandidates, Skips, Names};
+ghost use Rattle.olr_renewal.specs.Reencoded.{IsUnchanged, AreAffectedNames};
 
 use crate::actions::is_affected;
 use crate::affected::find_candidates;
-use crate::change_set::ChangeSet;
-use crate::distance_bounds::DistanceBounds;
+use crate::searches::Searches;
+use crate::update::MapUpdate;
 use olr_model::MapRead;
 use olr_paths::{OverlaidList, Overlay, PathList, PathView};
-use olr_refs::Margin;
 use olr_route::Dijkstra;
-use std::alloc::{AllocError, Global};
+use std::alloc::AllocError;
 
 /// Appends the name of a path, if edits would affect it.
 fn push_if_affected<M: MapRead>(
-    alloc: Global,
-    map: &M,
-    touched: &ChangeSet,
+    update: &MapUpdate<'_, M>,
     near: &Dijkstra,
     shown: PathView<'_>,
     names: &mut Vec<String>,
 ) -> Result<(), AllocError>
-    requires { IsSearchedFor (M.map map.now) (M.node_slot map.now) touched.now near.now (BeginsIn (shown_item shown).made) }
-    ensures { OnOk result
-        ((ToSkip (M.map map.now) (nodes_of touched.now) (lines_of touched.now) (shown_item shown.entry).made
-        (shown_item shown.entry).path × (list_map string_bytes names.new.items ≡ list_map string_bytes names.old.items))
-        ⊎ (ToName (M.map map.now) (nodes_of touched.now) (lines_of touched.now) (shown_item shown.entry).made
-        (shown_item shown.entry).path × (list_map string_bytes names.new.items
+    requires { Searched M.map M.node_slot update.now near.now (BeginsIn (shown_item shown).made) }
+    ensures { OnOk result ((Skips M.map update.now (shown_item shown.entry)
+        × (list_map string_bytes names.new.items ≡ list_map string_bytes names.old.items))
+        ⊎ (Names M.map update.now (shown_item shown.entry) × (list_map string_bytes names.new.items
         ≡ list_map string_bytes names.old.items ++ (shown_item shown.entry).name ∷ []))) }
 {
-    if is_affected(map, touched, near, shown) {
-        names.push(String::from_str(alloc, shown.name)?)?;
+    if is_affected(update, near, shown) {
+        names.push(String::from_str(update.alloc, shown.name)?)?;
     }
     Ok(())
 }
 
 /// The names of the paths that edits would affect, after the search from what they touch.
 fn names_by<M: MapRead>(
-    alloc: Global,
-    map: &M,
-    margin: Margin,
+    update: &MapUpdate<'_, M>,
     overlaid: OverlaidList<'_>,
-    touched: &ChangeSet,
     near: &Dijkstra,
     positions: &[usize],
 ) -> Result<Vec<String>, AllocError>
-    requires candidates { AreCandidates (M.map map.now) (M.node_slot map.now) touched.now near.now (shown_items overlaid)
-        positions.now }
-    requires before { WasBefore margin (M.map map.now) (M.map map.now) touched.now (shown_items overlaid) }
-    ensures { IfOk result (λ names. AffectedNames margin (M.map map.now) (nodes_of touched.now) (lines_of touched.now)
-        (shown_items overlaid.entry) (list_map string_bytes names.items)) }
+    requires candidates { FindsCandidates M.map M.node_slot update.now near.now (shown_items overlaid) positions.now }
+    requires before { IsUnchanged M.map update.now (shown_items overlaid) }
+    ensures { IfOk result (λ names. AreAffectedNames M.map update.now (shown_items overlaid.entry)
+        (list_map string_bytes names.items)) }
 {
-    let mut names = Vec::new(alloc);
+    let mut names = Vec::new(update.alloc);
     for position in positions {
         let Some(shown) = overlaid.at(*position) else {
             continue;
         };
-        push_if_affected(alloc, map, touched, near, shown, &mut names)?;
+        push_if_affected(update, near, shown, &mut names)?;
     }
     Ok(names)
 }
@@ -73,33 +60,24 @@ fn names_by<M: MapRead>(
 /// The names of the paths of a list that edits would affect which touch these nodes and lines, in the order of the list.
 /// The results in the list are right on the map with the margin, and the bounds are distance bounds for all its coverage queries.
 pub fn affected_names<M: MapRead>(
-    alloc: Global,
-    map: &M,
-    margin: Margin,
+    update: &MapUpdate<'_, M>,
     list: &PathList,
-    touched: &ChangeSet,
-    bounds: &DistanceBounds,
-    near: &mut Dijkstra,
+    searches: &mut Searches,
 ) -> Result<Vec<String>, AllocError>
-    requires before { WasBefore margin (M.map map.now) (M.map map.now) touched.now (items list.now) }
-    requires bounds { AreBoundsOf (M.map map.now) (M.node_slot map.now) bounds.now (items list.now) }
-    ensures { IfOk result (λ names. AffectedNames margin (M.map map.now) (nodes_of touched.now) (lines_of touched.now)
-        (items list.now) (list_map string_bytes names.items)) }
+    requires before { IsUnchanged M.map update.now (items list.now) }
+    requires bounds { AreBoundsOf (M.map update.now.map.now) (M.node_slot update.now.map.now) searches.old.bounds
+        (items list.now) }
+    ensures names { IfOk result
+        (λ names. AreAffectedNames M.map update.now (items list.now) (list_map string_bytes names.items)) }
+    ensures bounds { searches.new.bounds ≡ searches.old.bounds }
 {
-    let overlay = Overlay::new(alloc);
+    let overlay = Overlay::new(update.alloc);
     let overlaid = OverlaidList {
         list,
         overlay: &overlay,
         before: list,
     };
-    let found = find_candidates(alloc, map, margin, overlaid, touched, bounds, near)?;
-    names_by(
-        alloc,
-        map,
-        margin,
-        overlaid,
-        touched,
-        near,
-        &found.positions,
-    )
+    let near = &mut searches.near;
+    let found = find_candidates(update, overlaid, &searches.bounds, near)?;
+    names_by(update, overlaid, near, &found.positions)
 }

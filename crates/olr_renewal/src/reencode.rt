@@ -1,16 +1,17 @@
 //! Encodes again the paths whose answer a change of the map may have changed, in place or in a list under changes.
-ghost use Rattle.std.specs.Prelude.{◌≡◌, ℕ, List, [], IsSome, IfSome, IfOk, OnErr};
+ghost use Rattle.std.specs.Prelude.{◌≡◌, ℕ, List, [], MatchOption, IsSome, IfSome, IfOk, OnErr};
 ghost use Rattle.olr_spec.specs.Map.{Map};
 ghost use Rattle.olr_spec.specs.Margins.{Margin as Margins};
 ghost use Rattle.olr_commands.specs.State.{NamesDiffer};
+ghost use Rattle.olr_paths.specs.Items.{Item, items, all_named};
+ghost use Rattle.olr_paths.specs.Overlaid.{RemovesNone, overlay_changes, under_overlay};
+ghost use Rattle.olr_paths.specs.Origins.{AreNewQueries};
+ghost use Rattle.olr_paths.specs.Changes.{Reported};
+ghost use Rattle.olr_renewal.specs.AffectedSearches.{AreBoundsOf};
 ghost use Rattle.olr_renewal.specs.Bounds.{IsEdit, IsRight, IsUnderWay};
 ghost use Rattle.olr_renewal.specs.ChangeSets.{nodes_of};
-ghost use Rattle.olr_paths.specs.Items.{Item, items, all_named};
-ghost use Rattle.olr_paths.specs.Views.{shown_items};
-ghost use Rattle.olr_paths.specs.Overlaid.{RemovesNone, overlay_changes, under_overlay};
-ghost use Rattle.olr_renewal.specs.AffectedSearches.{AreBoundsOf};
-ghost use Rattle.olr_paths.specs.Origins.{AreNewQueries};
-ghost use Rattle.olr_renewal.specs.Reencoded.{items_before, WasBefore, IsRenewal, CanRenewOver, AreRenewed, to_renew_by};
+ghost use Rattle.olr_renewal.specs.Reencoded.{WasBefore, IsRenewal, CanRenewUnder, AreRenewed, IsRenewed, IsStored, to_renew_by};
+ghost use Rattle.olr_renewal.specs.Reencoded.{after_renewal, entries_of};
 
 use crate::candidates::affects_none;
 use crate::change_set::ChangeSet;
@@ -19,40 +20,92 @@ use crate::renewal::{Renewal, Renewed, renewal_of};
 use crate::searches::Searches;
 use crate::update::MapUpdate;
 use olr_model::MapRead;
-use olr_paths::{OverlaidList, Overlay, PathList, put_in};
+use olr_paths::{OverlaidList, Overlay, PathList, fresh_queries, put_in};
 use std::alloc::{AllocError, Global};
 use std::mem;
 
-/// `renew_over` for changes that remove no path. The replaced and new paths are stored in place, at a cost that
-/// depends only on the changes. The reported paths are those whose answer differs from the earlier one of their name,
-/// in `before` if it is given.
-fn renew_overlaid<M: MapRead>(
-    list: &mut PathList,
-    alloc: Global,
+/// The renewal of a list under changes, before it is stored.
+#[derive(Drop)]
+pub struct Unstored {
+    renewal: Renewal,
+    /// If the changes remove a path, the list under them.
+    copy: Option<PathList>,
+}
+
+impl Unstored {
+    /// What is reported and counted, if it isn't stored.
+    pub fn into_renewed(self) -> Renewed
+        ensures { result ≡ self.renewal.renewed }
+    {
+        let Unstored { renewal, copy } = self;
+        drop(copy);
+        let Renewal { fresh, renewed } = renewal;
+        drop(fresh);
+        renewed
+    }
+}
+
+/// The renewal of a list under changes: new and replaced paths are encoded, and those whose answer the edits of the map may
+/// have changed; all paths if the margin was set. It has the paths whose answer differs from the earlier one of their
+/// name, and the counts: each affected path counts as one encoding. The results in the list are right on the map
+/// before the update, and the bounds on the one after it, for all coverage queries of the list. Nothing is stored.
+pub fn renewal_over<M: MapRead>(
+    list: &PathList,
     update: &MapUpdate<'_, M>,
-    before: Option<&PathList>,
     overlay: &Overlay,
-    bounds: &DistanceBounds,
     searches: &mut Searches,
+) -> Result<Unstored, AllocError>
+    requires { CanRenewUnder M.map M.node_slot update.now searches.old.bounds (items list.now) overlay.now }
+    ensures renewed { IfOk result (λ u. IsRenewed M.map update.now (items list.now)
+        (under_overlay (items list.now) overlay.now) u.renewal) }
+    ensures copied { IfOk result (λ u. MatchOption u.copy (RemovesNone (overlay_changes overlay.now))
+        (λ copy. items copy ≡ under_overlay (items list.now) overlay.now)) }
+    ensures bounds { searches.new.bounds ≡ searches.old.bounds }
+{
+    if !overlay.removes_some() {
+        let overlaid = OverlaidList {
+            list,
+            overlay,
+            before: list,
+        };
+        let renewal = renewal_of(update, overlaid, searches)?;
+        let copy = None;
+        return Ok(Unstored { renewal, copy });
+    }
+    let copy = overlay.overlaid_copy(update.alloc, list)?;
+    let none = Overlay::new(update.alloc);
+    let overlaid = OverlaidList {
+        list: &copy,
+        overlay: &none,
+        before: list,
+    };
+    let renewal = renewal_of(update, overlaid, searches)?;
+    drop(none);
+    let copy = Some(copy);
+    Ok(Unstored { renewal, copy })
+}
+
+/// Makes the changes of a list, of which none removes a path, and stores their renewal. The replaced and new paths are
+/// stored in place, at a cost that depends only on the changes. If an allocation fails, the list is unchanged.
+fn store<M: MapRead>(
+    list: &mut PathList,
+    update: &MapUpdate<'_, M>,
+    overlay: &Overlay,
+    renewal: Renewal,
 ) -> Result<Renewed, AllocError>
     requires none_removed { RemovesNone (overlay_changes overlay.now) }
     requires names { NamesDiffer (all_named (under_overlay (items list.old) overlay.now)) }
-    requires renewable { CanRenewOver M.map M.node_slot update.now bounds.now (items_before before list.old)
-        (under_overlay (items list.old) overlay.now) }
-    ensures renewed { IfOk result (AreRenewed M.map update.now (items_before before.entry list.old)
-        (under_overlay (items list.old) overlay.now) (items list.new)) }
-    ensures queries { IfOk result (λ r. AreNewQueries r.queries.items
-        (to_renew_by update.now (under_overlay (items list.old) overlay.now)) (items list.new)) }
+    requires reported { (before : List Item) × Reported before
+        (after_renewal renewal (to_renew_by update.now (under_overlay (items list.old) overlay.now))) (entries_of renewal.renewed) }
+    ensures stored { IfOk result (λ r. IsStored update.now (under_overlay (items list.old) overlay.now) renewal
+        (items list.new) r) }
     ensures err { OnErr result (items list.new ≡ items list.old) }
 {
-    let overlaid = OverlaidList {
-        list,
-        overlay,
-        before: before.unwrap_or(list),
-    };
-    let Renewal { fresh, renewed, .. } = renewal_of(alloc, update, overlaid, bounds, searches)?;
-    put_in(alloc, list, overlay, fresh)?;
+    let Renewal { fresh, mut renewed } = renewal;
+    let queries = fresh_queries(update.alloc, &fresh)?;
+    put_in(update.alloc, list, overlay, fresh)?;
     list.note_encoded();
+    renewed.queries = queries;
     Ok(renewed)
 }
 
@@ -82,107 +135,50 @@ pub fn renew_unaffected<M: MapRead>(
     Some(Renewal::none(alloc).renewed)
 }
 
-/// Makes the changes of the list, and encodes the new and the replaced paths, and those whose answer the edits of the
-/// map may have changed; all paths if the margin was set. Returns the paths whose answer differs from the earlier one of
-/// their name, and the counts: each affected path counts as one encoding. The results in the list are right on the map
-/// before the update, and the bounds on the one after it, for all coverage queries of the list: they limit the search
-/// from touched nodes. If no path is removed, the changes are made in place, at the cost of the changes and of the
-/// affected paths; otherwise the list under the changes replaces the list, at the cost of all paths. If an allocation
-/// fails, the list is unchanged.
+/// Makes the changes of the list, and stores their renewal, which `renewal_over` returns. If no path is removed, the
+/// changes are made in place, at the cost of the changes and of the affected paths; otherwise the list under the changes
+/// replaces the list, at the cost of all paths. If an allocation fails, the list is unchanged.
 pub fn renew_over<M: MapRead>(
     list: &mut PathList,
-    alloc: Global,
     update: &MapUpdate<'_, M>,
     overlay: &Overlay,
-    bounds: &DistanceBounds,
     searches: &mut Searches,
 ) -> Result<Renewed, AllocError>
-    requires names { NamesDiffer (all_named (under_overlay (items list.old) overlay.now)) }
-    requires renewable { CanRenewOver M.map M.node_slot update.now bounds.now (items list.old)
-        (under_overlay (items list.old) overlay.now) }
+    requires { CanRenewUnder M.map M.node_slot update.now searches.old.bounds (items list.old) overlay.now }
     ensures renewed { IfOk result (AreRenewed M.map update.now (items list.old)
         (under_overlay (items list.old) overlay.now) (items list.new)) }
     ensures queries { IfOk result (λ r. AreNewQueries r.queries.items
         (to_renew_by update.now (under_overlay (items list.old) overlay.now)) (items list.new)) }
     ensures err { OnErr result (items list.new ≡ items list.old) }
+    ensures bounds { searches.new.bounds ≡ searches.old.bounds }
 {
-    if !overlay.removes_some() {
-        let renewed = renew_overlaid(list, alloc, update, None, overlay, bounds, searches)?;
-        list.index(alloc);
-        return Ok(renewed);
+    let Unstored { renewal, copy } = renewal_over(list, update, overlay, searches)?;
+    if let Some(copy) = copy {
+        return replace(list, update, copy, renewal);
     }
-    let mut overlaid = overlay.overlaid_copy(alloc, list)?;
-    let none = Overlay::new(alloc);
-    let before = Some(&*list);
-    let renewed = renew_overlaid(
-        &mut overlaid,
-        alloc,
-        update,
-        before,
-        &none,
-        bounds,
-        searches,
-    );
-    drop(none);
-    if renewed.is_ok() {
-        replace_by(list, alloc, overlaid);
-    } else {
-        drop(overlaid);
-    }
-    renewed
-}
-
-/// What `renew_over` would return for changes that remove no path.
-fn preview_overlaid<M: MapRead>(
-    alloc: Global,
-    update: &MapUpdate<'_, M>,
-    overlaid: OverlaidList<'_>,
-    bounds: &DistanceBounds,
-    searches: &mut Searches,
-) -> Result<Renewed, AllocError>
-    requires { CanRenewOver M.map M.node_slot update.now bounds.now (items overlaid.before.now) (shown_items overlaid) }
-    ensures { IfOk result (λ r. (js : List Item) × AreRenewed M.map update.now (items overlaid.entry.before.now)
-        (shown_items overlaid.entry) js r) }
-{
-    let Renewal { fresh, renewed, .. } = renewal_of(alloc, update, overlaid, bounds, searches)?;
-    drop(fresh);
+    let renewed = store(list, update, overlay, renewal)?;
+    list.index(update.alloc);
     Ok(renewed)
 }
 
-/// What `renew_over` would return. The affected paths are encoded for it, and nothing is stored.
-pub fn preview_over<M: MapRead>(
-    list: &PathList,
-    alloc: Global,
+/// Replaces the list by its copy under changes, of which this is the renewal, and adds the index entries of its paths.
+fn replace<M: MapRead>(
+    list: &mut PathList,
     update: &MapUpdate<'_, M>,
-    overlay: &Overlay,
-    bounds: &DistanceBounds,
-    searches: &mut Searches,
+    mut copy: PathList,
+    renewal: Renewal,
 ) -> Result<Renewed, AllocError>
-    requires names { NamesDiffer (all_named (under_overlay (items list.now) overlay.now)) }
-    requires renewable { CanRenewOver M.map M.node_slot update.now bounds.now (items list.now)
-        (under_overlay (items list.now) overlay.now) }
-    ensures { IfOk result (λ r. (js : List Item) × AreRenewed M.map update.now (items list.now)
-        (under_overlay (items list.now) overlay.now) js r) }
+    requires names { NamesDiffer (all_named (items copy)) }
+    requires reported { (before : List Item) × Reported before
+        (after_renewal renewal (to_renew_by update.now (items copy))) (entries_of renewal.renewed) }
+    ensures stored { IfOk result (λ r. IsStored update.now (items copy) renewal (items list.new) r) }
+    ensures err { OnErr result (items list.new ≡ items list.old) }
 {
-    if !overlay.removes_some() {
-        let overlaid = OverlaidList {
-            list,
-            overlay,
-            before: list,
-        };
-        return preview_overlaid(alloc, update, overlaid, bounds, searches);
-    }
-    let copy = overlay.overlaid_copy(alloc, list)?;
-    let none = Overlay::new(alloc);
-    let overlaid = OverlaidList {
-        list: &copy,
-        overlay: &none,
-        before: list,
-    };
-    let renewed = preview_overlaid(alloc, update, overlaid, bounds, searches);
+    let none = Overlay::new(update.alloc);
+    let renewed = store(&mut copy, update, &none, renewal)?;
     drop(none);
-    drop(copy);
-    renewed
+    replace_by(list, update.alloc, copy);
+    Ok(renewed)
 }
 
 /// Replaces the list by another, and adds the index entries of its paths.

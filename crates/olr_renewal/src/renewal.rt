@@ -1,30 +1,26 @@
 //! Encodes again the paths whose answer a change of the map may have changed.
-ghost use Rattle.std.specs.Prelude.{◌≡◌, ◌↔◌, ◌<◌, Contains, Some, map as list_map, length, true, IsTrue, IfOk, OnOk};
+ghost use Rattle.std.specs.Prelude.{◌≡◌, ◌↔◌, ◌<◌, Some, map as list_map, length, true, IsTrue, IfOk, OnOk};
 ghost use Rattle.olr_spec.specs.Map.{Map};
 ghost use Rattle.olr_commands.specs.Words.{entry_of};
-ghost use Rattle.olr_renewal.specs.declared.change_set.ChangeSet.{ChangeSet as Noted};
-ghost use Rattle.olr_spec.specs.Queries.{CoverageQuery as QueryRecord};
 ghost use Rattle.olr_paths.specs.Items.{made_of, items, answer_in};
 ghost use Rattle.olr_paths.specs.Views.{shown_items, shown_item};
-ghost use Rattle.olr_renewal.specs.AffectedSearches.{AreDetoursIfFew};
-ghost use Rattle.olr_renewal.specs.Candidates.{AreCandidates};
-ghost use Rattle.olr_paths.specs.Origins.{BeginsPut};
 ghost use Rattle.olr_paths.specs.Changes.{to_renew};
 ghost use Rattle.olr_renewal.specs.Changes.{Follows};
-ghost use Rattle.olr_renewal.specs.Reencoded.{made_at, after_renewal, ReportsIfOther, IsStep, IsGiven, WasBefore};
-ghost use Rattle.olr_renewal.specs.Reencoded.{IsRenewal, IsRenewable, CanRenewOver, AreRenewed, to_renew_by};
+ghost use Rattle.olr_renewal.specs.Reencoded.{after_renewal, ReportsIfOther, IsStep, IsGiven, WasBefore};
+ghost use Rattle.olr_renewal.specs.Reencoded.{IsRenewal, IsRenewable, CanRenewOver, IsRenewed};
+ghost use Rattle.olr_renewal.specs.Updates.{AreReadyIfFew, FindsCandidates};
+ghost use Rattle.olr_renewal.specs.declared.change_set.ChangeSet.{ChangeSet as Noted};
 
 use crate::actions::{Action, decide};
 use crate::affected::find_candidates;
 use crate::detours::{Detours, begin_detours};
-use crate::distance_bounds::DistanceBounds;
-use crate::encoding::publish;
+use crate::encoding::published;
 use crate::searches::Searches;
 use crate::update::MapUpdate;
 use olr_commands::Entry;
 use olr_model::MapRead;
-use olr_paths::{NamedPath, OverlaidList, PathList, PathView, Published, fresh_queries};
-use olr_refs::CoverageQuery;
+use olr_paths::{NamedPath, OverlaidList, PathList, PathView, Published};
+use olr_refs::{CoverageQuery, encode_again};
 use olr_route::{Dijkstra, Work};
 use std::alloc::{AllocError, Global};
 use std::rc::Rc;
@@ -73,7 +69,6 @@ pub struct Renewed {
 /// The renewal of a list, before its results are stored.
 #[derive(Drop)]
 pub(crate) struct Renewal {
-    alloc: Global,
     /// The paths that were encoded again, each with its position in the list.
     pub(crate) fresh: Vec<(usize, NamedPath)>,
     /// What is reported and counted.
@@ -91,7 +86,6 @@ impl Renewal {
         ensures work { result.renewed.work ≡ no_work }
     {
         Renewal {
-            alloc,
             fresh: Vec::new(alloc),
             renewed: Renewed {
                 entries: Vec::new(alloc),
@@ -128,17 +122,12 @@ impl Renewal {
                 });
             }
             Action::Encode(known) => {
-                let (made, work) = publish(
-                    self.alloc,
-                    update.map,
-                    shown.path,
-                    update.margin,
-                    &known,
-                    query,
-                )?;
-                let published = Rc::new(self.alloc, made)?;
+                let (alloc, map, margin) = (update.alloc, update.map, update.margin);
+                let encoding = encode_again(alloc, map, shown.path, margin, &known, query)?;
+                let (made, work) = published(alloc, encoding)?;
+                let published = Rc::new(alloc, made)?;
                 let entries = &mut self.renewed.entries;
-                push_if_changed(self.alloc, before, shown.name, &published, entries)?;
+                push_if_changed(alloc, before, shown.name, &published, entries)?;
                 let named = NamedPath {
                     path: shown.path.clone()?,
                     published: Some(published),
@@ -153,7 +142,6 @@ impl Renewal {
 
 /// The renewal of a list under changes, whose candidates are found, and for which the searches for detours have begun.
 fn renewal_by<M: MapRead>(
-    alloc: Global,
     update: &MapUpdate<'_, M>,
     overlaid: OverlaidList<'_>,
     positions: &[usize],
@@ -161,10 +149,8 @@ fn renewal_by<M: MapRead>(
     detours: &mut Detours,
     query: &mut Dijkstra,
 ) -> Result<Renewal, AllocError>
-    requires candidates { AreCandidates (M.map update.now.map.now) (M.node_slot update.now.map.now) update.now.touched.now
-        near.now (shown_items overlaid) positions.now }
-    requires detours { 0 < length positions.now → AreDetoursIfFew (M.map update.now.map.now)
-        (M.node_slot update.now.map.now) update.now.touched.now detours.old }
+    requires candidates { FindsCandidates M.map M.node_slot update.now near.now (shown_items overlaid) positions.now }
+    requires detours { 0 < length positions.now → AreReadyIfFew M.map M.node_slot update.now detours.old }
     requires follows { Follows (items overlaid.before.now) (shown_items overlaid) }
     requires before { (L : Map) × WasBefore update.now.margin L (M.map update.now.map.now) update.now.touched.now
         (shown_items overlaid) }
@@ -172,37 +158,56 @@ fn renewal_by<M: MapRead>(
         (items overlaid.entry.before.now) (shown_items overlaid.entry) (after_renewal r (shown_items overlaid.entry))
         r.renewed) }
 {
-    let mut renewal = Renewal::none(alloc);
+    let mut renewal = Renewal::none(update.alloc);
     for position in positions {
         let Some(shown) = overlaid.at(*position) else {
             continue;
         };
-        let action = decide(alloc, update.map, update.touched, near, detours, shown)?;
+        let action = decide(update, near, detours, shown)?;
         renewal.advance(update, overlaid.before, *position, shown, action, query)?;
+    }
+    Ok(renewal)
+}
+
+/// The renewal of a list under changes, each of whose paths is encoded again, without known coverage queries.
+#[inline(never)]
+fn renewal_of_all<M: MapRead>(
+    update: &MapUpdate<'_, M>,
+    overlaid: OverlaidList<'_>,
+    query: &mut Dijkstra,
+) -> Result<Renewal, AllocError>
+    ensures { IfOk result (λ r. (L : Map) (t : Noted)
+        → WasBefore update.now.margin L (M.map update.now.map.now) t (to_renew true (shown_items overlaid.entry))
+        → IsRenewal update.now.margin (M.map update.now.map.now) t (items overlaid.entry.before.now)
+        (to_renew true (shown_items overlaid.entry)) (after_renewal r (to_renew true (shown_items overlaid.entry))) r.renewed) }
+{
+    let mut renewal = Renewal::none(update.alloc);
+    for position in 0..overlaid.len() {
+        let Some(shown) = overlaid.at(position) else {
+            unreachable!()
+        };
+        let action = Action::Encode(Vec::new(update.alloc));
+        renewal.advance(update, overlaid.before, position, shown, action, query)?;
     }
     Ok(renewal)
 }
 
 /// The renewal of a list under changes, of which the edits may have changed some answers.
 fn renewal_of_some<M: MapRead>(
-    alloc: Global,
     update: &MapUpdate<'_, M>,
     overlaid: OverlaidList<'_>,
-    bounds: &DistanceBounds,
     searches: &mut Searches,
 ) -> Result<Renewal, AllocError>
     requires { IsRenewable update.now.margin (M.map update.now.map.now) (M.node_slot update.now.map.now)
-        update.now.touched.now bounds.now (items overlaid.before.now) (shown_items overlaid) }
-    ensures { IfOk result (λ r. IsRenewal update.now.margin (M.map update.now.map.now) update.now.touched.now
+        update.now.touched.now searches.old.bounds (items overlaid.before.now) (shown_items overlaid) }
+    ensures renewed { IfOk result (λ r. IsRenewal update.now.margin (M.map update.now.map.now) update.now.touched.now
         (items overlaid.entry.before.now) (shown_items overlaid.entry) (after_renewal r (shown_items overlaid.entry))
         r.renewed) }
+    ensures bounds { searches.new.bounds ≡ searches.old.bounds }
 {
-    let (map, touched) = (update.map, update.touched);
-    let near = &mut searches.near;
-    let found = find_candidates(alloc, map, update.margin, overlaid, touched, bounds, near)?;
-    begin_detours(alloc, map, touched, &found.positions, &mut searches.detours)?;
+    let found = find_candidates(update, overlaid, &searches.bounds, &mut searches.near)?;
+    begin_detours(update, &found.positions, &mut searches.detours)?;
     let mut renewal = renewal_by(
-        alloc,
         update,
         overlaid,
         &found.positions,
@@ -216,63 +221,21 @@ fn renewal_of_some<M: MapRead>(
     Ok(renewal)
 }
 
-/// The renewal of a list under changes, each of whose paths is encoded again, without known coverage queries.
-#[inline(never)]
-fn renewal_of_all<M: MapRead>(
-    alloc: Global,
+/// The renewal of a list under changes. If the margin was set, each path is encoded again; otherwise those of which the
+/// edits may have changed the answer.
+pub(crate) fn renewal_of<M: MapRead>(
     update: &MapUpdate<'_, M>,
     overlaid: OverlaidList<'_>,
-    query: &mut Dijkstra,
-) -> Result<Renewal, AllocError>
-    ensures { IfOk result (λ r. (L : Map) (t : Noted)
-        → WasBefore update.now.margin L (M.map update.now.map.now) t (to_renew true (shown_items overlaid.entry))
-        → IsRenewal update.now.margin (M.map update.now.map.now) t (items overlaid.entry.before.now)
-        (to_renew true (shown_items overlaid.entry)) (after_renewal r (to_renew true (shown_items overlaid.entry))) r.renewed) }
-{
-    let mut renewal = Renewal::none(alloc);
-    for position in 0..overlaid.len() {
-        let Some(shown) = overlaid.at(position) else {
-            unreachable!()
-        };
-        let action = Action::Encode(Vec::new(alloc));
-        renewal.advance(update, overlaid.before, position, shown, action, query)?;
-    }
-    Ok(renewal)
-}
-
-/// `renewal_of`, without its coverage queries.
-fn renewal_unnoted<M: MapRead>(
-    alloc: Global,
-    update: &MapUpdate<'_, M>,
-    overlaid: OverlaidList<'_>,
-    bounds: &DistanceBounds,
     searches: &mut Searches,
 ) -> Result<Renewal, AllocError>
-    requires { CanRenewOver M.map M.node_slot update.now bounds.now (items overlaid.before.now) (shown_items overlaid) }
-    ensures { IfOk result (λ r. AreRenewed M.map update.now (items overlaid.entry.before.now) (shown_items overlaid.entry)
-        (after_renewal r (to_renew_by update.now (shown_items overlaid.entry))) r.renewed) }
+    requires { CanRenewOver M.map M.node_slot update.now searches.old.bounds (items overlaid.before.now)
+        (shown_items overlaid) }
+    ensures renewed { IfOk result
+        (IsRenewed M.map update.now (items overlaid.entry.before.now) (shown_items overlaid.entry)) }
+    ensures bounds { searches.new.bounds ≡ searches.old.bounds }
 {
     if update.sets_margin {
-        return renewal_of_all(alloc, update, overlaid, &mut searches.query);
+        return renewal_of_all(update, overlaid, &mut searches.query);
     }
-    renewal_of_some(alloc, update, overlaid, bounds, searches)
-}
-
-/// The renewal of a list under changes. If the margin was set, each path is encoded again.
-pub(crate) fn renewal_of<M: MapRead>(
-    alloc: Global,
-    update: &MapUpdate<'_, M>,
-    overlaid: OverlaidList<'_>,
-    bounds: &DistanceBounds,
-    searches: &mut Searches,
-) -> Result<Renewal, AllocError>
-    requires { CanRenewOver M.map M.node_slot update.now bounds.now (items overlaid.before.now) (shown_items overlaid) }
-    ensures renewed { IfOk result (λ r. AreRenewed M.map update.now (items overlaid.entry.before.now)
-        (shown_items overlaid.entry) (after_renewal r (to_renew_by update.now (shown_items overlaid.entry))) r.renewed) }
-    ensures queries { IfOk result (λ r. (l : QueryRecord) → BeginsPut (made_at r) l →
-        Contains r.renewed.queries.items l) }
-{
-    let mut renewal = renewal_unnoted(alloc, update, overlaid, bounds, searches)?;
-    renewal.renewed.queries = fresh_queries(alloc, &renewal.fresh)?;
-    Ok(renewal)
+    renewal_of_some(update, overlaid, searches)
 }

@@ -1,11 +1,6 @@
 use Rattle.olr_paths.proofs.Common.{◌∙◌, ap}
-use Rattle.olr_paths.proofs.NotedPositions.{noted_more, noted_same}
+use Rattle.olr_paths.proofs.NotedPositions.{noted_more}
 use Rattle.olr_paths.proofs.finder.note_each.Goals as goal
-
-pub loop-k-preserved-then-is_at : goal.loop-k-preserved-then-is_at
-loop-k-preserved-then-is_at g c = noted_same g.T.Numbered.number_of _ _ _ _ c.args.before.now _ _ _ c.loop-k-test.true
-    (c.index_number-number.ensures ∙ ap g.T.Numbered.number_of c.index-items-k.is) (c.is_at.ensures c.if-is_at.true)
-    c.requires c.loop-k.invariant
 
 pub loop-k-preserved : goal.loop-k-preserved
 loop-k-preserved g c = noted_more g.T.Numbered.number_of _ _ _ _ _ _ _ _ c.loop-k-test.true

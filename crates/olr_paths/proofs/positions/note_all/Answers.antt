@@ -1,22 +1,8 @@
-use Rattle.olr_paths.proofs.Common.{◌≡◌, ◌∙◌, get_or, subst, sym, arith, get_or_default, NamedNoted, Grows, slice_get}
+use Rattle.olr_paths.proofs.Common.{◌≡◌, ◌∙◌, get_or, subst, sym, arith, get_or_default, NamedNoted, slice_get}
 use Rattle.olr_paths.proofs.Common.{Some, String, Global, NamedPath, slice_get_within, length, ◌<◌, ◌≤◌, List, take_all}
-use Rattle.olr_paths.proofs.Common.{AreNotedAt, IsNoted, named_keys}
-use Rattle.olr_paths.proofs.PathIdLemmas.{noted_grown}
+use Rattle.olr_paths.proofs.Common.{AreNotedAt, IsNoted}
 use Rattle.olr_paths.proofs.NotedPositions.{One, NotedAt, at_more}
 use Rattle.olr_paths.proofs.positions.note_all.Goals as goal
-
-pub loop-position-preserved-in_default : goal.loop-position-preserved-in_default
-loop-position-preserved-in_default c =
-    let l = c.loop-position.list in
-    let r : One = c.loop-position-item.result in
-    let one : NotedAt l.path_ids.items l.finder r = λ low.
-    let some = c.in_default.ensures.found.1 (omega (arith, low, l.long)) in
-    let never : ⊥ = cc (some) in absurd never in
-    let stay : Grows l.finder l.finder = ((λ n m t. t), (λ n m t. t), (λ n m t. t), (λ known. known)) in (
-      at_more l.path_ids.items l.finder l.finder _ _ r c.loop-position-test.true stay c.loop-position.invariant.0
-          (subst (λ (x : One). NotedAt l.path_ids.items l.finder x) c.loop-position-item.is one),
-      c.loop-position.invariant.1,
-    )
 
 pub note-requires : goal.note-requires
 note-requires c =
@@ -44,17 +30,6 @@ loop-position-preserved c =
           (subst (λ (y : One). NotedAt ms g y) c.loop-position-item.is one),
       c.loop-position.invariant.1,
     )
-
-pub invariant_of-list-in-loop-position : goal.invariant_of-list-in-loop-position
-invariant_of-list-in-loop-position c =
-    let l = c.loop-position.list in
-    record {
-      long = l.long;
-      ascend = l.ascend;
-      noted = λ k e at. noted_grown l.finder c.note.new.self (get_or l.path_ids.items k 0) (named_keys e.1)
-          c.note.ensures.grows (l.noted k e at);
-      encoded = l.encoded;
-    }
 
 pub returns-clause-noted : goal.returns-clause-noted
 returns-clause-noted c =

@@ -1,5 +1,5 @@
 use Rattle.olr_paths.proofs.Common.{◌≡◌, ℕ, List, [], ◌∷◌, ◌++◌, ◌+◌, inl, inr, take, sym, ap, ◌∙◌, subst, take_more}
-use Rattle.olr_paths.proofs.Common.{BeginsPut, puts_of, NamedPath, arith, take_all}
+use Rattle.olr_paths.proofs.Common.{BeginsPut, puts_of, NamedPath}
 use Rattle.olr_paths.proofs.OriginLemmas.{begins_push}
 use Rattle.olr_paths.proofs.queries.fresh_queries.Goals as goal
 
@@ -17,6 +17,3 @@ loop-named-preserved c = λ v h.
       | inl a ↦ c.in_ok-push_queries.ensures.before v (c.loop-named.invariant v a)
       | inr b ↦ c.in_ok-push_queries.ensures.named v b
     ]
-
-pub returns : goal.returns
-returns c = λ v h. c.loop-named.invariant v (rw (take_all c.loop-named.named-index c.args.fresh.now (omega arith)) h)

@@ -1,8 +1,7 @@
-use Rattle.olr_register.proofs.Common.{◌∙◌, ◌++◌, ◌+◌, List, subst, sym, ap, map, take, items, map_of}
-use Rattle.olr_register.proofs.Common.{all_named}
+use Rattle.olr_register.proofs.Common.{◌∙◌, ◌++◌, ◌+◌, List, subst, sym, ap, map, take, items, map_of, all_named}
 use Rattle.olr_commands.specs.Ambiguities.{NamedObstacle, Ambiguities, named}
 use Rattle.olr_commands.specs.Words.{named_obstacle_of}
-use Rattle.olr_ambiguity.specs.Found.{found_of}
+use Rattle.olr_answers.specs.Ambiguities.{found_of}
 use Rattle.olr_spec.specs.Queries.{AreKnownWith, KnownQuery}
 use Rattle.olr_register.proofs.Ambiguous.{ambiguities_next, is_ambiguity, known_at}
 use Rattle.olr_register.proofs.ambiguities.all_ambiguities.Goals as goal

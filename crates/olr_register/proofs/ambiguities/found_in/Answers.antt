@@ -3,7 +3,7 @@ use Rattle.std.proofs.Common.{All, IsTrue}
 use Rattle.std.proofs.lemmas.Result.{IfOk-weaker}
 use Rattle.olr_spec.specs.Map.{has_line}
 use Rattle.olr_spec.specs.Ambiguity.{obstacles}
-use Rattle.olr_ambiguity.specs.Found.{found_of}
+use Rattle.olr_answers.specs.Ambiguities.{found_of}
 use Rattle.olr_answers.specs.Answers.{answer_of}
 use Rattle.olr_answers.specs.declared.answer.Answer.{Answer}
 use Rattle.olr_commands.specs.Ambiguities.{obstacles_of}

@@ -1,7 +1,7 @@
 use Rattle.olr_register.proofs.Common.{◌∙◌, ◌++◌, List, sym, ap, subst, map, map_of}
 use Rattle.olr_commands.specs.Ambiguities.{NamedObstacle, Ambiguity, named}
 use Rattle.olr_commands.specs.Words.{named_obstacle_of}
-use Rattle.olr_ambiguity.specs.Found.{found_of}
+use Rattle.olr_answers.specs.Ambiguities.{found_of}
 use Rattle.olr_register.proofs.Ambiguous.{is_ambiguity}
 use Rattle.olr_register.proofs.ambiguities.own_ambiguity.Goals as goal
 

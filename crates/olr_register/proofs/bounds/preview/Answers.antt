@@ -1,20 +1,20 @@
-use Rattle.olr_register.proofs.Common.{subst}
-use Rattle.olr_commands.specs.State.{NamesDiffer}
-use Rattle.olr_register.proofs.Bounded.{settled_bounds}
-use Rattle.olr_register.proofs.Listed.{named_to_renew}
+use Rattle.olr_register.proofs.Common.{items, under_overlay}
+use Rattle.olr_renewal.specs.Reencoded.{after_renewal, to_renew_by}
+use Rattle.olr_register.proofs.Bounded.{can_renew, settled_bounds}
 use Rattle.olr_register.proofs.bounds.preview.Goals as goal
 
-pub preview_over-requires : goal.preview_over-requires
-preview_over-requires c =
-    let h = c.requires.renewable.1 in
-    record {
-      names = subst NamesDiffer (named_to_renew c.args.update.now.sets_margin _) h.names;
-      renewable = record {
-        follows = h.follows;
-        bounds = c.settle_bounds.ensures _ c.requires.bounded;
-        before = (c.requires.renewable.0, h.before);
-      };
-    }
+pub renewal_over-requires : goal.renewal_over-requires
+renewal_over-requires c =
+    can_renew c.args.update.now _ _ (items c.args.paths.now) c.args.overlay.now c.requires c.settle_bounds.ensures
+
+pub returns-clause-renewed : goal.returns-clause-renewed
+returns-clause-renewed c =
+    let ls = to_renew_by c.args.update.now (under_overlay (items c.args.paths.now) c.args.overlay.now) in
+    (after_renewal c.in_ok-unstored.unstored.renewal ls, rw c.into_renewed.ensures c.in_ok-unstored.ensures.renewed)
 
 pub returns-clause-bounded : goal.returns-clause-bounded
-returns-clause-bounded c = λ T is h. settled_bounds (c.settle_bounds.ensures is h)
+returns-clause-bounded c = λ T is h. rw c.renewal_over.ensures.bounds (settled_bounds (c.settle_bounds.ensures is h))
+
+pub returns-in_err-unstored-clause-bounded : goal.returns-in_err-unstored-clause-bounded
+returns-in_err-unstored-clause-bounded c = λ T is h.
+    rw c.renewal_over.ensures.bounds (settled_bounds (c.settle_bounds.ensures is h))

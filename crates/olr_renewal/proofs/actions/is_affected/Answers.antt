@@ -5,15 +5,15 @@ use Rattle.olr_renewal.proofs.actions.is_affected.Goals as goal
 
 pub is_query_touched-requires : goal.is_query_touched-requires
 is_query_touched-requires g c =
-    rw c.queries.ensures (subst (λ (o : Option Made). IsSearchedFor (g.M.MapRead.map c.args.map.now)
-    (g.M.MapRead.node_slot c.args.map.now) c.args.touched.now c.args.near.now (BeginsIn o))
+    rw c.queries.ensures (subst (λ (o : Option Made). IsSearchedFor (g.M.MapRead.map c.args.update.now.map.now)
+    (g.M.MapRead.node_slot c.args.update.now.map.now) c.args.update.now.touched.now c.args.near.now (BeginsIn o))
     (ap (option_map (λ p. made_of p.now)) c.in-Some.is) c.requires)
 
 pub returns-else-is_path_touched-clause-stays : goal.returns-else-is_path_touched-clause-stays
 returns-else-is_path_touched-clause-stays g c = λ off. (
   made_of c.in-Some.published.now,
   ap (option_map (λ p. made_of p.now)) c.in-Some.is,
-  untouched (g.M.MapRead.map c.args.map.now) (nodes_of c.args.touched.now) (lines_of c.args.touched.now)
+  untouched (g.M.MapRead.map c.args.update.now.map.now) (nodes_of c.args.update.now.touched.now) (lines_of c.args.update.now.touched.now)
       (made_of c.in-Some.published.now) c.args.shown.path.now.value
       (rw c.deref.ensures at c.is_path_touched.ensures) (rw c.queries.ensures at c.is_query_touched.ensures)
       c.if-is_path_touched.false off,

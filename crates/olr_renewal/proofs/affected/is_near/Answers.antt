@@ -4,8 +4,8 @@ use Rattle.olr_renewal.proofs.affected.is_near.Goals as goal
 
 pub returns-in-Some : goal.returns-in-Some
 returns-in-Some g c =
-    let N = g.M.MapRead.map c.args.map.now in
-    let T = nodes_of c.args.touched.now in
+    let N = g.M.MapRead.map c.args.update.now.map.now in
+    let T = nodes_of c.args.update.now.touched.now in
     let s = c.requires in
     let l : CoverageQuery = record { from = c.query.inside.from; to = c.query.inside.to; within = c.query.inside.within } in
     let there = c.in-Some.ensures.0 in
@@ -19,7 +19,7 @@ returns-in-Some g c =
 
 pub returns-in-None : goal.returns-in-None
 returns-in-None g c =
-    let N = g.M.MapRead.map c.args.map.now in
-    let T = nodes_of c.args.touched.now in
+    let N = g.M.MapRead.map c.args.update.now.map.now in
+    let T = nodes_of c.args.update.now.touched.now in
     subst (λ (k : CoverageQuery). IsTrue c.has_node.result ↔ Near N T k.from (min k.within GREATEST_LIMIT)) c.query.view_is
-    (rw c.has_node.ensures (near_absent N (g.met.M.MapRead.sound c.args.map.now) T c.query.inside.from _ c.in-None.ensures))
+    (rw c.has_node.ensures (near_absent N (g.met.M.MapRead.sound c.args.update.now.map.now) T c.query.inside.from _ c.in-None.ensures))

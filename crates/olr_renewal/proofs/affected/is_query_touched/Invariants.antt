@@ -3,5 +3,5 @@ use Rattle.olr_renewal.proofs.affected.is_query_touched.Given as goal
 
 -- none of the coverage queries so far reaches a touched node
 abbrev pub invariant-loop-query : goal.invariant-loop-query
-invariant-loop-query g l = All (λ k. ¬ Near (g.M.MapRead.map l.map) (nodes_of l.touched) k.from (min k.within GREATEST_LIMIT))
+invariant-loop-query g l = All (λ k. ¬ Near (g.M.MapRead.map l.update.map.now) (nodes_of l.update.touched.now) k.from (min k.within GREATEST_LIMIT))
     (take l.query-index l.queries)

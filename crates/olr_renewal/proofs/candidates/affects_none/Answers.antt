@@ -1,5 +1,4 @@
-use Rattle.olr_renewal.proofs.Common.{[], refl, AreFar, items}
-use Rattle.olr_renewal.proofs.Common.{nodes_of}
+use Rattle.olr_renewal.proofs.Common.{[], refl, AreFar, items, nodes_of}
 use Rattle.olr_renewal.proofs.Covering.{all_none, covers_far}
 use Rattle.olr_renewal.proofs.candidates.affects_none.Goals as goal
 

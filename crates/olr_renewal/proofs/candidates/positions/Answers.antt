@@ -8,9 +8,9 @@ use Rattle.olr_renewal.proofs.candidates.positions.Goals as goal
 
 pub returns : goal.returns
 returns g c =
-    let N = g.M.MapRead.map c.args.map.now in
-    let slot = g.M.MapRead.node_slot c.args.map.now in
-    let t = c.args.touched.now in
+    let N = g.M.MapRead.map c.args.update.now.map.now in
+    let slot = g.M.MapRead.node_slot c.args.update.now.map.now in
+    let t = c.args.update.now.touched.now in
     let s = c.args.near.now in
     let l = c.args.overlaid in
     let cs = overlay_changes l.overlay.now in

@@ -1,5 +1,4 @@
-use Rattle.olr_renewal.proofs.Common.{◌≡◌, ◌∙◌, ℕ, List, false, sym, subst, has, same_name}
-use Rattle.olr_renewal.proofs.Common.{Includes}
+use Rattle.olr_renewal.proofs.Common.{◌≡◌, ◌∙◌, ℕ, List, false, sym, subst, has, same_name, Includes}
 use Rattle.olr_paths.proofs.NamedEntries.{first_at, named_there, names_differ, same_flip}
 use Rattle.olr_paths.proofs.Changed.{not_there, change_left}
 use Rattle.olr_renewal.proofs.Covering.{pushed_includes, others_apart, unfound}

@@ -1,5 +1,4 @@
-use Rattle.olr_renewal.proofs.Common.{◌≡◌, ℕ, IsTrue, get_or, sym, ◌∙◌, arith, has_node}
-use Rattle.olr_renewal.proofs.Common.{Finds}
+use Rattle.olr_renewal.proofs.Common.{◌≡◌, ℕ, IsTrue, get_or, sym, ◌∙◌, arith, has_node, Finds}
 use borrow.Author.Count.{below_more}
 use Rattle.std.proofs.lemmas.List.{get_or_default}
 use Rattle.olr_renewal.proofs.Covering.{finds_none}

@@ -1,5 +1,4 @@
-use Rattle.olr_renewal.proofs.Common.{◌≡◌, ◌<◌, ℕ, IsTrue, get_or, has_node}
-use Rattle.olr_renewal.proofs.Common.{Finds, Includes}
+use Rattle.olr_renewal.proofs.Common.{◌≡◌, ◌<◌, ℕ, IsTrue, get_or, has_node, Finds, Includes}
 use Rattle.olr_renewal.proofs.candidates.put_found_at.Given as goal
 
 -- the positions for the slots so far are added

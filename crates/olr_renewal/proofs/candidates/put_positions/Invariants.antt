@@ -1,5 +1,4 @@
-use Rattle.olr_renewal.proofs.Common.{ℕ, ◌<◌, take, length, get_or, IsTrue, has}
-use Rattle.olr_renewal.proofs.Common.{Includes}
+use Rattle.olr_renewal.proofs.Common.{ℕ, ◌<◌, take, length, get_or, IsTrue, has, Includes}
 use Rattle.olr_renewal.proofs.candidates.put_positions.Given as goal
 
 -- the positions of the path ids so far are added

@@ -1,5 +1,4 @@
-use Rattle.olr_renewal.proofs.Common.{ℕ, ◌<◌, ◌≤◌, IsTrue, has}
-use Rattle.olr_renewal.proofs.Common.{Includes}
+use Rattle.olr_renewal.proofs.Common.{ℕ, ◌<◌, ◌≤◌, IsTrue, has, Includes}
 use Rattle.olr_renewal.proofs.candidates.put_range.Given as goal
 
 -- the positions so far are added

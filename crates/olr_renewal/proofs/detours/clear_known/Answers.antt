@@ -1,7 +1,5 @@
 use Rattle.olr_renewal.proofs.Common.{◌≡◌, List, ◌∷◌, [], ◌++◌, ap, sym, subst, ◌∙◌, Global, KnownQuery, CoverageQuery}
-use Rattle.olr_renewal.proofs.Common.{Vec}
-use Rattle.olr_renewal.proofs.Common.{changed_of}
-use Rattle.olr_renewal.proofs.Common.{All-nil, All-push}
+use Rattle.olr_renewal.proofs.Common.{Vec, changed_of, All-nil, All-push}
 use Rattle.olr_spec.proofs.KnownLemmas.{known_stays}
 use Rattle.olr_spec.specs.Queries.{IsClear, IsKnownWith}
 use Rattle.olr_renewal.proofs.detours.clear_known.Goals.{then-branch+in_ok-push, else-branch}
@@ -9,8 +7,8 @@ use Rattle.olr_renewal.proofs.detours.clear_known.Goals as goal
 
 pub loop-one-preserved : goal.loop-one-preserved
 loop-one-preserved g c =
-    let N = g.M.MapRead.map c.args.map.now in
-    let C = changed_of c.args.touched.now in
+    let N = g.M.MapRead.map c.args.update.now.map.now in
+    let C = changed_of c.args.update.now.touched.now in
     let item : KnownQuery = c.one-item.result in
     let old : List KnownQuery = c.loop-one.clear.items in (
       (λ m M ls there here are.
@@ -33,7 +31,7 @@ loop-one-preserved g c =
 
 pub loop-one-init : goal.loop-one-init
 loop-one-init g c = (
-  (λ m M ls there here are. rw c.new-clear.ensures.items (All-nil (IsKnownWith m (g.M.MapRead.map c.args.map.now) ls))),
+  (λ m M ls there here are. rw c.new-clear.ensures.items (All-nil (IsKnownWith m (g.M.MapRead.map c.args.update.now.map.now) ls))),
   c.requires (c.are_few.ensures.0 c.if-not-are_few.false),
 )
 
@@ -42,4 +40,4 @@ returns-clause-clear g c = c.loop-one.invariant.0
 
 pub returns-then-not-are_few-clause-clear : goal.returns-then-not-are_few-clause-clear
 returns-then-not-are_few-clause-clear g c = λ m M ls there here are.
-    rw c.new-clear.ensures.items (All-nil (IsKnownWith m (g.M.MapRead.map c.args.map.now) ls))
+    rw c.new-clear.ensures.items (All-nil (IsKnownWith m (g.M.MapRead.map c.args.update.now.map.now) ls))

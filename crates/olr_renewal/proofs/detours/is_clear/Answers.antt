@@ -1,8 +1,8 @@
-use Rattle.olr_renewal.proofs.Common.{◌≡◌, sym, ap, IfOk-weaker, CoverageQuery}
+use Rattle.olr_renewal.proofs.Common.{◌≡◌, sym, ap, CoverageQuery}
 use Rattle.olr_renewal.proofs.detours.is_clear.Goals as goal
 
-pub returns : goal.returns
-returns g c =
+pub returns-clause-clear : goal.returns-clause-clear
+returns-clause-clear g c = λ yes.
     let l = c.args.query.now in
     let raw = c.query.inside in
     let from_is : raw.from ≡ l.from = ap (λ (k : CoverageQuery). k.from) c.query.view_is in
@@ -10,9 +10,6 @@ returns g c =
     let within_is : raw.within ≡ l.within = ap (λ (k : CoverageQuery). k.within) c.query.view_is in
     let from = rw from_is at c.in-Some.ensures in
     let to = rw to_is at c.in-Some-slot_of.ensures in
-    record {
-      clear = IfOk-weaker c.has_no_detour.result _ _
-          (λ b none yes. rw within_is at (none yes l.from l.to from.0 (sym from.1) to.0 (sym to.1)))
-          c.has_no_detour.ensures.none;
-      detours = c.has_no_detour.ensures.detours;
-    }
+    rw within_is at (c.are_longer.ensures yes (g.M.MapRead.map c.args.update.now.map.now)
+    (g.M.MapRead.node_slot c.args.update.now.map.now) c.args.update.now.touched.now l.from l.to
+    (g.met.M.MapRead.sound c.args.update.now.map.now) c.in_ok-settle_both.ensures from.0 (sym from.1) to.0 (sym to.1))

@@ -1,16 +1,15 @@
 use Rattle.std.proofs.lemmas.Result.{on_ok_weaker}
-use Rattle.olr_renewal.proofs.Common.{Along, Against}
-use Rattle.olr_renewal.proofs.Common.{sources_in, changed_of}
+use Rattle.olr_renewal.proofs.Common.{Along, Against, sources_in, changed_of}
 use Rattle.olr_renewal.proofs.detours.settle_both.Goals as goal
 
 pub settle_to-requires-in-Some-None-clause-begun : goal.settle_to-requires-in-Some-None-clause-begun
 settle_to-requires-in-Some-None-clause-begun g c =
-    let C = changed_of c.args.touched.now in
+    let C = changed_of c.args.update.now.touched.now in
     (Along, sources_in Along C, c.in_ok-settle_to-2.ensures.search Along _ c.requires.searches.after)
 
 pub settle_to-requires-in-None-Some-clause-begun : goal.settle_to-requires-in-None-Some-clause-begun
 settle_to-requires-in-None-Some-clause-begun g c =
-    let C = changed_of c.args.touched.now in
+    let C = changed_of c.args.update.now.touched.now in
     (Against, sources_in Against C, c.in_ok-settle_to.ensures.search Against _ c.requires.searches.before)
 
 pub returns-in-Some-None : goal.returns-in-Some-None

@@ -8,11 +8,12 @@ invariant_of-overlaid g c = record {
   none_removed = none_removed_by (overlay_changes c.new-overlay.result) (items c.new-overlay.result.added) c.new-overlay.ensures;
 }
 
-pub find_candidates-requires-clause-short : goal.find_candidates-requires-clause-short
-find_candidates-requires-clause-short g c = rw (c.new-overlay.ensures (items c.args.list.now)) (are_short c.requires.before)
+pub find_candidates-requires : goal.find_candidates-requires
+find_candidates-requires g c = rw (c.new-overlay.ensures (items c.args.list.now))
+    (record { bounds = c.requires.bounds; short = are_short c.requires.before })
 
 pub names_by-requires-clause-candidates : goal.names_by-requires-clause-candidates
 names_by-requires-clause-candidates g c = rw c.deref.ensures.value c.in_ok-found.ensures
 
-pub returns : goal.returns
-returns g c = rw (c.new-overlay.ensures (items c.args.list.now)) at c.names_by.ensures
+pub returns-clause-names : goal.returns-clause-names
+returns-clause-names g c = rw (c.new-overlay.ensures (items c.args.list.now)) at c.names_by.ensures

@@ -1,30 +1,50 @@
-use Rattle.olr_renewal.proofs.Common.{◌∙◌, items, overlay_changes}
-use Rattle.olr_paths.proofs.Changed.{none_removed_by}
+use Rattle.olr_renewal.proofs.Common.{IfOk-weaker, Item, List, Map, Renewal, items}
+use Rattle.olr_renewal.specs.Reencoded.{AreRenewed, IsRenewed, IsStored}
+use Rattle.olr_renewal.specs.declared.renewal.Renewed.{Renewed}
+use Rattle.olr_renewal.specs.declared.update.MapUpdate.{MapUpdate}
 use Rattle.olr_renewal.proofs.reencode.renew_over.Goals as goal
 
--- if a path is removed: for the list under the changes
-pub renew_overlaid-renewed-requires : goal.renew_overlaid-renewed-requires
-renew_overlaid-renewed-requires g c =
-    let none = c.new-none in
-    let e = none.ensures (items c.in_ok-overlaid.overlaid) ∙ c.in_ok-overlaid.ensures in
-    record {
-      none_removed = none_removed_by (overlay_changes none.result) (items none.result.added) none.ensures;
-      names = rw e c.requires.names;
-      renewable = rw e c.requires.renewable;
-    }
+-- the renewal, as it is stored and returned
+stored : {M : Type 0} (map : M → Map) (u : MapUpdate M) (before is js : List Item) (r : Renewal) (s : Renewed) →
+    IsRenewed map u before is r → IsStored u is r js s → AreRenewed map u before is js s
+stored map u before is js r s h t = record {
+  remade = rw t.items h.remade;
+  named = rw t.items h.named;
+  reported = rw (t.items, t.entries) h.reported;
+  counted = λ L q. let k = h.counted L q in (k.0, k.1, rw t.work k.2);
+}
 
-pub returns-then-is_ok-clause-renewed : goal.returns-then-is_ok-clause-renewed
-returns-then-is_ok-clause-renewed g c = rw c.replace_by.ensures
-    (rw (c.new-none.ensures (items c.in_ok-overlaid.overlaid), c.in_ok-overlaid.ensures) at
-    c.renew_overlaid-renewed.ensures.renewed)
+-- if a path is removed: of the list under the changes
+pub replace-requires-clause-names : goal.replace-requires-clause-names
+replace-requires-clause-names g c =
+    rw (rw c.in-Some.is at c.in_ok-renewal.ensures.copied) c.requires.names
 
-pub returns-then-is_ok-clause-queries : goal.returns-then-is_ok-clause-queries
-returns-then-is_ok-clause-queries g c = rw c.replace_by.ensures
-    (rw (c.new-none.ensures (items c.in_ok-overlaid.overlaid), c.in_ok-overlaid.ensures) at
-    c.renew_overlaid-renewed.ensures.queries)
+pub replace-requires-clause-reported : goal.replace-requires-clause-reported
+replace-requires-clause-reported g c =
+    rw (rw c.in-Some.is at c.in_ok-renewal.ensures.copied)
+    (items c.args.list.now, c.in_ok-renewal.ensures.renewed.reported)
 
-pub returns-then-not-removes_some-clause-renewed : goal.returns-then-not-removes_some-clause-renewed
-returns-then-not-removes_some-clause-renewed g c = rw c.index.ensures c.in_ok-renewed.ensures.renewed
+pub returns-in-Some-clause-renewed : goal.returns-in-Some-clause-renewed
+returns-in-Some-clause-renewed g c =
+    IfOk-weaker c.replace.result _ _
+    (λ s t. stored g.M.MapRead.map c.args.update.now _ _ _ _ s c.in_ok-renewal.ensures.renewed t)
+    (rw (rw c.in-Some.is at c.in_ok-renewal.ensures.copied) at c.replace.ensures.stored)
 
-pub returns-then-not-removes_some-clause-queries : goal.returns-then-not-removes_some-clause-queries
-returns-then-not-removes_some-clause-queries g c = rw c.index.ensures c.in_ok-renewed.ensures.queries
+pub returns-in-Some-clause-queries : goal.returns-in-Some-clause-queries
+returns-in-Some-clause-queries g c =
+    IfOk-weaker c.replace.result _ _ (λ s t. t.queries)
+    (rw (rw c.in-Some.is at c.in_ok-renewal.ensures.copied) at c.replace.ensures.stored)
+
+pub store-requires-clause-none_removed : goal.store-requires-clause-none_removed
+store-requires-clause-none_removed g c = rw c.in_default.is at c.in_ok-renewal.ensures.copied
+
+pub store-requires-clause-reported : goal.store-requires-clause-reported
+store-requires-clause-reported g c = (items c.args.list.now, c.in_ok-renewal.ensures.renewed.reported)
+
+pub returns-clause-renewed : goal.returns-clause-renewed
+returns-clause-renewed g c =
+    rw c.index.ensures (stored g.M.MapRead.map c.args.update.now _ _ _ _ _ c.in_ok-renewal.ensures.renewed
+    c.in_ok-renewed.ensures.stored)
+
+pub returns-clause-queries : goal.returns-clause-queries
+returns-clause-queries g c = rw c.index.ensures c.in_ok-renewed.ensures.stored.queries

@@ -1,6 +1,5 @@
 use Rattle.olr_renewal.proofs.Common.{◌≡◌, Some, Item, List, ap, arith, to_renew, items, length, option_map, shown_item}
-use Rattle.olr_renewal.proofs.Common.{shown_items}
-use Rattle.olr_renewal.proofs.Common.{inl, refl, slice_get, take_all, without_answer, ◌∙◌, map}
+use Rattle.olr_renewal.proofs.Common.{shown_items, inl, refl, slice_get, take_all, without_answer, ◌∙◌, map}
 use Rattle.std.proofs.Common.{true}
 use Rattle.std.proofs.lemmas.List.{length-map}
 use Rattle.std.proofs.lemmas.Option.{slice_get-map}

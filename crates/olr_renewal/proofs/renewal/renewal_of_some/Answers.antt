@@ -1,5 +1,5 @@
 use Rattle.olr_renewal.proofs.RetainedLemmas.{are_short}
 use Rattle.olr_renewal.proofs.renewal.renewal_of_some.Goals as goal
 
-pub find_candidates-requires-clause-short : goal.find_candidates-requires-clause-short
-find_candidates-requires-clause-short g c = are_short c.requires.before.1
+pub find_candidates-requires : goal.find_candidates-requires
+find_candidates-requires g c = record { bounds = c.requires.bounds; short = are_short c.requires.before.1 }

@@ -1,4 +1,4 @@
-use Rattle.olr_paths.proofs.Common.{◌∷◌, [], under_change, ◌≡◌, ◌-◌, ◌≤◌, ◌∙◌, ℕ, List, Some, refl, String, Global}
+use Rattle.olr_paths.proofs.Common.{◌∷◌, [], under_change, ◌≡◌, ◌-◌, ◌≤◌, ◌∙◌, ℕ, List, Some, String, Global}
 use Rattle.olr_paths.proofs.Common.{length, slice_get, ap, sym, arith, length-map, slice_get-map, option_map, Item}
 use Rattle.olr_paths.proofs.Common.{◌<◌, cases_lt, inl, inr, true, false, items, overlay_changes, change_at}
 use Rattle.olr_paths.proofs.Common.{shown_items, shown_item, NamedPath}
@@ -40,18 +40,11 @@ returns-in_err-name-clause-shown c =
     ∙ ap (option_map item_of) (sym c.in_err-name.ensures.entry)
     ∙ ap (option_map shown_item) (sym c.from_residual.ensures)
 
-pub returns : goal.returns
-returns c =
+pub returns-clause-shown : goal.returns-clause-shown
+returns-clause-shown c =
     let l = c.args.self in
     let e : String Global × NamedPath = (c.in_ok-name.name.now, c.in_ok-name.named.now) in
-    let at = item_at l.overlay.now.added.paths.entries (c.args.position - c.len-count.result) e
-    (sym c.in_ok-name.ensures.entry) in
-    let few = c.len-few.ensures in
-    record {
-      shown =
-          behind l c.args.position c.len-count.result c.len-count.ensures.len c.in_default.ensures.found.1
-          ∙ at ∙ ap (λ (n : List ℕ). Some (under n c.in_ok-name.named.now)) (sym c.as_str-2.ensures.value)
-          ∙ ap (λ (j : Item). Some j) (sym c.show.ensures);
-      small = λ some. let within = c.in_ok-name.ensures.found.0 refl in
-          omega (arith, within, few.len, few.small, c.len-count.ensures.small);
-    }
+    behind l c.args.position c.len-count.result c.len-count.ensures.len c.in_default.ensures.found.1
+    ∙ item_at l.overlay.now.added.paths.entries (c.args.position - c.len-count.result) e (sym c.in_ok-name.ensures.entry)
+    ∙ ap (λ (n : List ℕ). Some (under n c.in_ok-name.named.now)) (sym c.as_str-2.ensures.value)
+    ∙ ap (λ (j : Item). Some j) (sym c.show.ensures)

@@ -1,6 +1,5 @@
 use Rattle.olr_paths.proofs.Common.{List, [], ◌≤◌, ◌+◌, ◌++◌, map, length, Entry, entry_of, items, Reported, AreEncoded}
-use Rattle.olr_paths.proofs.Common.{vec_len}
-use Rattle.olr_paths.proofs.Common.{vec_capacity}
+use Rattle.olr_paths.proofs.Common.{vec_len, vec_capacity}
 use Rattle.olr_paths.proofs.NamedEntries.{items_of}
 use Rattle.olr_paths.proofs.path_list.PathList.entries.Given as goal
 

@@ -38,7 +38,6 @@ returns c =
     let few = leb-false full c.args.self.now.count (sym c.if-is_full.ensures) in
     let m = c.in_ok-make.ensures in
     let same = m.count in
-    let h = m.held c.requires in
     record {
       before = m.before;
       made = m.made;
@@ -47,15 +46,7 @@ returns c =
       reply = refl;
       refused = tt;
       unchanged = tt;
-      held = record {
-        undo = h.undo;
-        sound = h.sound;
-        few = omega arith;
-        noted = h.noted;
-        made = h.made;
-        follows = h.follows;
-        begins = h.begins;
-      };
+      held = m.held c.requires;
       margin = m.margin;
       under_way = m.under_way;
     }

@@ -13,7 +13,7 @@ renew-requires c =
     rw (c.new-none.ensures is) (record {
       renewable = (M, can_set r.margin r.margin sound.margin M is c.new-touched.result c.new-touched.ensures.changed sound);
       bounded = record {
-        under_way = c.new-bounds.ensures.under_way _ _ _;
+        under_way = c.new-searches.ensures _ _ _;
         sources = λ v on. absurd (begins_none is v on);
       };
     })

@@ -1,4 +1,5 @@
 use Rattle.olr_register.proofs.Common.{[], refl, sym, ap, ◌∙◌, Add_path, items, has_name, path_by, string_bytes}
+use Rattle.olr_route.specs.declared.work.Work.{Work}
 use Rattle.olr_register.proofs.Changing.{add_refused}
 use Rattle.olr_register.proofs.Singles.{refused_now, may_refuse, kept_bounds, add_right, add_done}
 use Rattle.olr_commands.specs.declared.fault.CommandFault.TheVariants as rust
@@ -16,6 +17,14 @@ returns-in_err-path c =
     (may_refuse _ _ _ refl (add_refused _ name (path_by c.args.parts) c.has-taken.result _
     (c.has-taken.ensures ∙ ap (has_name (items c.self.inside.paths)) c.deref.ensures) c.in_err-path.ensures.fault))
 
+pub returns-in_err-encoded : goal.returns-in_err-encoded
+returns-in_err-encoded c =
+    let name = string_bytes c.args.name in
+    refused_now c.self.inside c.self.view_is c.requires (Add_path name (path_by c.args.parts)) _ _ rust.Memory
+    c.self.view_is c.from_residual-in_err-encoded.ensures.1
+    (may_refuse _ _ _ refl (add_refused _ name (path_by c.args.parts) c.has-taken.result _
+    (c.has-taken.ensures ∙ ap (has_name (items c.self.inside.paths)) c.deref.ensures) c.in_ok-path.ensures.lacks))
+
 pub returns-in_err-renewed : goal.returns-in_err-renewed
 returns-in_err-renewed c =
     let name = string_bytes c.args.name in
@@ -28,19 +37,22 @@ returns-in_err-renewed c =
 pub invariant_of-self-2 : goal.invariant_of-self-2
 invariant_of-self-2 c =
     let r = c.self.inside in
-    let e = c.in_ok-renewed.ensures in
+    let n = c.in_ok-encoded.ensures in
+    let e = c.in_ok-renewed.ensures.added in
     add_right r c.self.view_is c.requires c.self.invariant (string_bytes c.args.name) (items c.add.new.list)
-    c.in_ok-path.path e.added.0 (rw c.in_ok-path.ensures.ok c.in_ok-path.ensures.good) e.added.1 _
-    (ap (has_name (items r.paths)) (sym c.deref.ensures) ∙ sym c.has-taken.ensures ∙ c.in_ok-path.ensures.right) e.added.2
+    c.in_ok-path.path _ (rw c.in_ok-path.ensures.ok c.in_ok-path.ensures.good) n.made _
+    (ap (has_name (items r.paths)) (sym c.deref.ensures) ∙ sym c.has-taken.ensures ∙ c.in_ok-path.ensures.right)
+    (rw n.path at e.list)
     (c.renew_bounds.ensures r.roads [] (items r.paths) (kept_bounds r c.self.view_is c.requires c.self.invariant) e.queries)
 
 pub returns : goal.returns
 returns c =
     let r = c.self.inside in
-    let e = c.in_ok-renewed.ensures in
+    let n = c.in_ok-encoded.ensures in
+    let e = c.in_ok-renewed.ensures.added in
     rw (← c.in_ok-path.ensures.ok, c.plus-self-inside.ensures)
     (add_done r c.self.view_is c.requires c.self.invariant (string_bytes c.args.name) (items c.add.new.list)
-    c.in_ok-path.path e.added.0 (rw c.in_ok-path.ensures.ok c.in_ok-path.ensures.good) e.added.1 _ _ _ refl
-    e.counted
-    (ap (has_name (items r.paths)) (sym c.deref.ensures) ∙ sym c.has-taken.ensures ∙ c.in_ok-path.ensures.right) e.added.2
-    e.added.3)
+    c.in_ok-path.path _ (rw c.in_ok-path.ensures.ok c.in_ok-path.ensures.good) n.made _ _ _ refl
+    (ap (λ (w : Work). w.encodings) e.work ∙ n.counted)
+    (ap (has_name (items r.paths)) (sym c.deref.ensures) ∙ sym c.has-taken.ensures ∙ c.in_ok-path.ensures.right)
+    (rw n.path at e.list) e.entries)

@@ -1,5 +1,4 @@
-use Rattle.olr_register.proofs.Common.{refl, sym, none_of}
-use Rattle.olr_register.proofs.Common.{No_memory, None}
+use Rattle.olr_register.proofs.Common.{refl, sym, none_of, No_memory, None}
 use Rattle.olr_commands.specs.State.{Ambiguous}
 use Rattle.olr_commands.specs.Reply.{Lacks}
 use Rattle.olr_commands.specs.declared.reply.Reply.TheVariants as reply

@@ -1,5 +1,4 @@
-use Rattle.olr_register.proofs.Common.{refl, sym, ap, map_of, items, content_on}
-use Rattle.olr_register.proofs.Common.{ByState, No_memory, may_want, Some}
+use Rattle.olr_register.proofs.Common.{refl, sym, ap, map_of, items, content_on, ByState, No_memory, may_want, Some}
 use Rattle.olr_commands.specs.State.{Ambiguous}
 use Rattle.olr_commands.specs.Reply.{Lacks}
 use Rattle.olr_commands.specs.declared.reply.Reply.TheVariants as reply

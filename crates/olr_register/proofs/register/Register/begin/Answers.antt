@@ -31,12 +31,12 @@ pub invariant_of-self : goal.invariant_of-self
 invariant_of-self c =
     let s = c.self.inside in
     let none = none_of s.batch (sym c.if-is_some.ensures) in
-    rw c.replace.ensures.after (begun_held s.margin s.roads (items s.paths) _ s.bounds (rw none at c.self.invariant) (empty c))
+    rw c.replace.ensures.after (begun_held s.margin s.roads (items s.paths) _ s.searches.bounds (rw none at c.self.invariant) (empty c))
 
 pub returns : goal.returns
 returns c =
     let s = c.self.inside in
     let none = none_of s.batch (sym c.if-is_some.ensures) in
     rw (← c.self.view_is, none, c.replace.ensures.after)
-    (begin_done s.margin s.roads (items s.paths) _ s.bounds (rw none at c.self.invariant) (empty c) _ _
+    (begin_done s.margin s.roads (items s.paths) _ s.searches.bounds (rw none at c.self.invariant) (empty c) _ _
     (ap (λ es. replies.Paths (map entry_of es)) c.new-4.ensures.items))

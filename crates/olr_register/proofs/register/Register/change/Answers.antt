@@ -15,7 +15,7 @@ invariant_of-self c =
           register_moved s.margin s.roads c.hold.new.roads (items s.paths) (Some c.in-Some.batch) _ c.hold.ensures.before
           c.hold.ensures.held (c.hold.ensures.margin s.margin right.register.margin) right.register;
       bounded = record {
-        under_way = c.hold.ensures.under_way s.bounds right.bounded.under_way;
+        under_way = c.hold.ensures.under_way s.searches.bounds right.bounded.under_way;
         sources = right.bounded.sources;
       };
     }

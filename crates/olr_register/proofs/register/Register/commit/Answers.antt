@@ -1,14 +1,13 @@
 use Rattle.olr_register.proofs.Common.{◌≡◌, true, false, Some, None, Ok, List, map, length, refl, sym, ap, ◌∙◌, subst}
 use Rattle.olr_register.proofs.Common.{ne_eqb, map_of, map_before, Named, Content, Commit, IsContent, ByState, may_want}
-use Rattle.olr_register.proofs.Common.{entry_of, items, all_named, under_overlay, nodes_of, lines_of, Registered}
+use Rattle.olr_register.proofs.Common.{items, all_named, under_overlay, nodes_of, lines_of, Registered}
 use Rattle.olr_register.proofs.Common.{content_on, batch_of, Lacks_memory, Affects, AreGiven, Batch, Bool, Change, Item}
 use Rattle.olr_register.proofs.Common.{Map, Margin, all_lines, all_nodes, to_renew, has, held_of, under_batch, ℕ}
-use Rattle.olr_register.proofs.BatchSteps.{held_content, right_count}
+use Rattle.olr_register.proofs.BatchSteps.{right_count, renewed_content, renewed_reply}
 use Rattle.olr_register.proofs.Counting.{counted_all, counted_changes, rise_on}
-use Rattle.olr_register.proofs.Noted.{can_commit}
+use Rattle.olr_register.proofs.Noted.{can_commit, can_renew_batch}
 use Rattle.olr_register.proofs.Outcomes.{answered_counted, answered_refused, Accepts}
 use Rattle.olr_register.proofs.Renewed.{remade_made}
-use Rattle.olr_register.proofs.Replies.{planned_changes}
 use Rattle.olr_register.proofs.States.{state, of_parts, in_states, right_as}
 use Rattle.olr_commands.specs.declared.fault.CommandFault.TheVariants as rust
 use Rattle.olr_commands.specs.declared.reply.Reply.TheVariants as reply
@@ -51,17 +50,7 @@ returns-then-batch-count c =
     (λ xs i. ByState (rw (ne_eqb (length xs) c.args.count (λ h. c.if-batch-count.true (i.count ∙ h))))))
 
 pub renew-requires : goal.renew-requires
-renew-requires c =
-    let s = c.self.inside in
-    let right = right_as s c.in-Some.is c.self.invariant in
-    record {
-      renewable =
-          (map_before s.roads c.in-Some.batch.log, can_commit s.margin s.roads (items s.paths) c.in-Some.batch right.register);
-      bounded = record {
-        under_way = right.bounded.under_way;
-        sources = λ l on. right.bounded.sources l (right.register.held.begins l on);
-      };
-    }
+renew-requires c = can_renew_batch (right_as c.self.inside c.in-Some.is c.self.invariant)
 
 pub invariant_of-self-2 : goal.invariant_of-self-2
 invariant_of-self-2 c =
@@ -102,10 +91,8 @@ returns c =
         (refl, tt),
         (
           right_count old (batch_of s.roads is b) xs i c.if-batch-count.false
-              ∙ ap (λ (d : Content). Ok (state d None)) (held_content old s.roads is b xs i
-              ∙ ap (λ (ps : List Named). record { map = M; paths = ps; margin = b.margin }) (sym e.renewed.named)),
-          planned_changes s.margin b.margin old.map M is js (map entry_of n.entries.items) right.register.content
-              right.register.made (remade_made b.margin M _ js e.renewed.remade) e.renewed.reported,
+              ∙ ap (λ (d : Content). Ok (state d None)) (renewed_content s.roads is b js n e.renewed old xs i),
+          renewed_reply s.roads is b js n e.renewed s.margin right.register,
         ),
       ),
       subst (λ (ps : List Named). CountIs (Affects old xs) ps count.0) (sym e.renewed.named)

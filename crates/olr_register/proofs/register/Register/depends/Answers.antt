@@ -46,9 +46,9 @@ affected_names-requires-clause-before c =
 
 -- the bounds after they are settled, and the register with them
 module _ (r : Inside) (f : DistanceBounds) (shut : r.batch ≡ None)
-    (kept : IsKeptRight r.margin r.roads (items r.paths) r.batch r.bounds)
-    (right : IsUnderWay (map_of r.roads) (slot_of r.roads) [] r.bounds → IsRight (map_of r.roads) (slot_of r.roads) f)
-    (sources : (s w : ℕ) → IsSource r.bounds s w → IsSource f s w) where
+    (kept : IsKeptRight r.margin r.roads (items r.paths) r.batch r.searches.bounds)
+    (right : IsUnderWay (map_of r.roads) (slot_of r.roads) [] r.searches.bounds → IsRight (map_of r.roads) (slot_of r.roads) f)
+    (sources : (s w : ℕ) → IsSource r.searches.bounds s w → IsSource f s w) where
   settled : AreBoundsOf (map_of r.roads) (slot_of r.roads) f (items r.paths)
   settled =
       let h = right_as r shut kept in
@@ -64,13 +64,13 @@ affected_names-requires-clause-bounds c =
 
 pub invariant_of-self : goal.invariant_of-self
 invariant_of-self c =
-    kept_settled c.self.inside c.settle.new.self (none_of c.self.inside.batch (sym c.if-is_some.ensures)) c.self.invariant
-    c.settle.ensures.right c.settle.ensures.sources
+    rw c.affected_names.ensures.bounds (kept_settled c.self.inside c.settle.new.self (none_of c.self.inside.batch (sym c.if-is_some.ensures)) c.self.invariant
+    c.settle.ensures.right c.settle.ensures.sources)
 
 pub invariant_of-self-2 : goal.invariant_of-self-2
 invariant_of-self-2 c =
-    kept_settled c.self.inside c.settle.new.self (none_of c.self.inside.batch (sym c.if-is_some.ensures)) c.self.invariant
-    c.settle.ensures.right c.settle.ensures.sources
+    rw c.affected_names.ensures.bounds (kept_settled c.self.inside c.settle.new.self (none_of c.self.inside.batch (sym c.if-is_some.ensures)) c.self.invariant
+    c.settle.ensures.right c.settle.ensures.sources)
 
 pub returns-in_err-names : goal.returns-in_err-names
 returns-in_err-names c =
@@ -89,5 +89,5 @@ returns c =
       nodes_asked r.margin (map_of r.roads) (all_named (items r.paths)) c.args.nodes.now
           (sym c.are_nodes.ensures ∙ c.if-not-are_nodes.false),
       dependents r.margin (map_of r.roads) c.args.nodes.now c.in_ok-around.around c.in_ok-around.ensures (items r.paths) _
-          right.register.made c.in_ok-names.ensures,
+          right.register.made c.in_ok-names.ensures.names,
     ))

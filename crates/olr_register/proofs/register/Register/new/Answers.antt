@@ -16,7 +16,7 @@ invariant_of-result c = record {
     margin = tt;
   };
   bounded = record {
-    under_way = c.new-5.ensures.under_way _ _ [];
+    under_way = c.new-3.ensures _ _ [];
     sources = λ v on. absurd (rw c.new-2.ensures at on);
   };
 }

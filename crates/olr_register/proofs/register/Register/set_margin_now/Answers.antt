@@ -5,10 +5,8 @@ use Rattle.olr_register.proofs.register.Register.set_margin_now.Goals as goal
 
 pub renew-requires : goal.renew-requires
 renew-requires c =
-    let r = c.self.inside in
-    let can = margin_requires r c.self.view_is c.requires c.self.invariant c.args.margin c.routes-routes.ensures.margin
-    c.clear.new.self c.clear.ensures.nodes c.clear.ensures.changed in
-    rw (c.new-none.ensures (items r.paths)) (record { renewable = can.renewable; bounded = can.bounded })
+    rw (c.new-none.ensures (items c.self.inside.paths)) (margin_requires c.self.inside c.self.view_is c.requires
+    c.self.invariant c.args.margin c.routes-routes.ensures.margin c.clear.new.self c.clear.ensures.nodes c.clear.ensures.changed)
 
 pub invariant_of-self : goal.invariant_of-self
 invariant_of-self c =

@@ -1,6 +1,0 @@
-use Rattle.olr_renewal.proofs.encoding.publish.Goals as goal
-
-pub returns-clause-made : goal.returns-clause-made
-returns-clause-made g c =
-    let e = c.in_ok-answer.ensures.encoding in
-    rw c.in_ok-published.ensures (record { answer = e.answer; traversed = e.traversed; queries = e.queries; known = e.known })
