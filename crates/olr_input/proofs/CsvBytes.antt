@@ -4,15 +4,15 @@ use Rattle.std.proofs.Common.{take, drop, sym, ap, ◌∙◌, arith, length-drop
 use Rattle.csv.specs.Machine.{step, ends_at_end, is_end, fields_after, field_after, next_record}
 use Rattle.csv.specs.Reading.{default_config, is_bom, strip_bom}
 use Rattle.csv.specs.declared.parser.State.TheVariants.{StartRecord}
-use Rattle.olr_input.specs.InMemory.{csv_state, csv_action, csv_step}
-use Rattle.olr_input.specs.declared.in_memory.Action.{Action}
+use Rattle.olr_input.specs.Machine.{csv_state, csv_action, csv_step}
+use Rattle.olr_input.specs.declared.machine.Action.{Action}
 use Rattle.std.proofs.Math.ListN.{drop_of_length-le}
 use Rattle.std.proofs.Math.Seq.{drop-length, take-length}
 use Rattle.std.proofs.lemmas.List.{append-nil, append_assoc, take_more}
 use Rattle.std.specs.Prelude.{if◌then◌else◌}
 use Rattle.csv.specs.declared.parser.State.{State}
 use Rattle.csv.specs.declared.parser.Action.{Action as CsvAction}
-use Rattle.olr_input.specs.declared.in_memory.State.{State as Here}
+use Rattle.olr_input.specs.declared.machine.State.{State as Here}
 use Rattle.csv.specs.declared.parser.Action.TheVariants as act
 
 -- the effect of a byte, by the state and the action after it
@@ -28,7 +28,7 @@ unfolding next_record
 of_byte s t a f p rest c e = rw e refl
 
 -- the bytes from an index on, with the first of them
-at : (text : List ℕ) (i : ℕ) → i < length text → drop i text ≡ get_or text i 0 ∷ drop (i + 1) text
+pub at : (text : List ℕ) (i : ℕ) → i < length text → drop i text ≡ get_or text i 0 ∷ drop (i + 1) text
 at text i low = drop-cons text i 0 low ∙ ap (λ (k : ℕ). get_or text i 0 ∷ drop k text) (sym (add-one i))
 
 -- a part of a text, with one byte more

@@ -2,14 +2,13 @@ pub mod SessionLemmas
 pub mod CsvBytes
 pub mod CsvRecords
 pub mod Writing
+pub mod BlockLemmas
 pub mod WholeLines
-pub mod GivenLines
 pub mod KeptLines
 pub mod Parts
 pub mod Passing
 pub mod LoggedEvents
 pub mod WholeTexts
 pub mod Renewing
-pub mod LineLemmas
 pub mod LineRecords
 pub mod LinesRead

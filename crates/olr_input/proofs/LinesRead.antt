@@ -1,237 +1,337 @@
--- The records of an input that is read one record a line are those of its lines.
-use Rattle.std.proofs.Common.{◌≡◌, ◌∙◌, ◌==◌, ℕ, zero, suc, Bool, true, false, List, [], ◌∷◌, ◌++◌, length, Some, inl}
-use Rattle.std.proofs.Common.{inr, refl, sym, ap, subst, arith, add-one}
-use Rattle.std.proofs.lemmas.List.{append-nil, append_assoc}
-use Rattle.std.specs.Prelude.{nat_lt, if◌then◌else◌}
-use Rattle.csv.specs.Machine.{next_record}
-use Rattle.csv.specs.Reading.{default_config, records, records_from, records_next, Reached, AreRecords, strip_bom}
-use Rattle.csv.specs.declared.parser.State.{State}
-use Rattle.csv.specs.declared.parser.State.TheVariants as st
-use Rattle.olr_input.specs.Lines.{BetweenRecords, is_line_end}
-use Rattle.olr_input.specs.SingleLines.{Place, line_start, next_place, is_quoted, most_in_line, ended, HasNoEnd}
-use Rattle.olr_input.specs.SingleLines.{one_a_line, one_a_line_from, are_single_from, ending, ending_of_quotes}
-use Rattle.olr_input.specs.SingleLines.{lines_from, lines_of, EachIs, mark_after, ends_mark}
-use Rattle.olr_input.specs.declared.single_lines.Mark.{Mark}
-use Rattle.olr_input.specs.declared.single_lines.Mark.TheVariants as mark
-use Rattle.olr_input.proofs.CsvRecords.{are_more, are_none}
-use Rattle.olr_input.proofs.LineLemmas.{from_end, from_byte, not_quoted}
-use Rattle.olr_input.proofs.LineRecords.{From, IsEnd, after, line_gives_one, line_end, input_end, single_same}
+-- The records of the lines of an input, as they are read.
+use Rattle.std.proofs.Common.{◌≡◌, ◌≢◌, ◌∙◌, ◌+◌, ◌<◌, ◌≤◌, ◌==◌, ℕ, Bool, true, false, List, [], ◌∷◌, ◌++◌}
+use Rattle.std.proofs.Common.{length, take, drop, map, Some, None, inl, inr, refl, sym, ap, subst, arith, length-append}
+use Rattle.std.proofs.Common.{get_or}
+use Rattle.std.proofs.lemmas.List.{append-nil, append_assoc, take-append-drop, map-append}
+use Rattle.std.specs.Prelude.{if◌then◌else◌}
+use Rattle.csv.specs.Reading.{strip_bom, is_bom}
+use Rattle.olr_input.specs.LineRecords.{HasNoEnd, if_any, lines_from, lines_of, most_in_line, is_rejected, formless}
+use Rattle.olr_input.specs.LineRecords.{line_record, unmarked, left_after, Kept, Finds, Steps}
+use Rattle.olr_input.specs.Lines.{is_line_end}
+use Rattle.olr_input.specs.Blocks.{block_of, input_left}
+use Rattle.olr_input.specs.Sessions.{Known}
+use Rattle.olr_input.specs.declared.blocks.Blocks.{Blocks}
+use Rattle.olr_input.specs.declared.line_records.LineRecords.{LineRecords}
+use Rattle.std.specs.Io.KnownBytes.{IsAtEnd, prepend_known}
+use Rattle.olr_input.proofs.CsvBytes.{at}
+use Rattle.olr_input.proofs.LineRecords.{no_end_parts, no_end_join, rejected_record}
 
--- ---- the record of a line alone
+abbrev Records : List (List ℕ) → List (List (List ℕ))
+Records lines = map line_record lines
 
-none_at_end : (n : ℕ) → records_from default_config n st.StartRecord [] ≡ []
-unfolding records_from next_record
-none_at_end zero = refl
-none_at_end (suc n) = refl
+-- ---- lines
 
-pub alone : (b : ℕ) (line : List ℕ) (none : HasNoEnd (b ∷ line)) →
-    are_single_from most_in_line line_start (b ∷ line) ≡ true →
-    records default_config (b ∷ line) ≡ (line_gives_one b line none).fields ∷ []
-unfolding records_from
-alone b line none single =
-    let n = length (b ∷ line) in
-    let one = line_gives_one b line none in
-    let same : From line_start ((b ∷ line) ++ []) ≡ b ∷ line =
-    ap (From line_start) (append-nil (b ∷ line)) ∙ single_same most_in_line line_start (b ∷ line) single in
-    let reads : next_record default_config st.StartRecord [] [] (b ∷ line) ≡ Some (one.fields, st.StartRecord, []) =
-    ap (next_record default_config st.StartRecord [] []) (sym same)
-    ∙ one.reads st.StartRecord (inl refl) [] [] st.StartRecord [] input_end in
-    ap (λ (m : ℕ). records_from default_config m st.StartRecord (b ∷ line)) (add-one n)
-    ∙ ap (records_next (records_from default_config n)) reads ∙ ap (λ (rs : List (List (List ℕ))). one.fields ∷ rs) (none_at_end n)
+pub line_goes_on : (part line rest : List ℕ) → HasNoEnd part → lines_from line (part ++ rest) ≡ lines_from (line ++ part) rest
+unfolding lines_from
+line_goes_on [] line rest none = ap (λ (l : List ℕ). lines_from l rest) (sym (append-nil line))
+line_goes_on (b ∷ part) line rest none =
+    let parts = no_end_parts b part none in
+    rw parts.0 (line_goes_on part (line ++ b ∷ []) rest parts.1
+    ∙ ap (λ (l : List ℕ). lines_from l rest) (append_assoc line (b ∷ []) part))
 
--- ---- all lines
+pub line_ends : (line : List ℕ) (e : ℕ) (rest : List ℕ) → is_line_end e ≡ true →
+    lines_from line (e ∷ rest) ≡ if_any line ++ lines_of rest
+unfolding lines_from
+line_ends line e rest end = rw end refl
 
-ends : (b : ℕ) → is_line_end b ≡ true → IsEnd b
-ends b h = by_feed (b == 10) refl
-  where
-    by_feed : (feed : Bool) → (b == 10) ≡ feed → IsEnd b
-    by_feed true e = inl (grind arith)
-    by_feed false e = inr (grind arith)
+-- of a line that ends
+pub lines_ended : (line : List ℕ) (e : ℕ) (rest : List ℕ) → HasNoEnd line → is_line_end e ≡ true →
+    lines_of (line ++ e ∷ rest) ≡ if_any line ++ lines_of rest
+lines_ended line e rest none end = line_goes_on line [] (e ∷ rest) none ∙ line_ends line e rest end
 
-after_is_between : (b : ℕ) → IsEnd b → BetweenRecords (after b)
-after_is_between b (inl e) = rw e (inl refl)
-after_is_between b (inr e) = rw e (inr refl)
-
--- an empty line
-skips : (s : State) (b : ℕ) (xs : List ℕ) → BetweenRecords s → IsEnd b →
-    next_record default_config s [] [] (b ∷ xs) ≡ next_record default_config st.StartRecord [] [] xs
-unfolding next_record
-skips s b xs (inl at) (inl e) = rw (at, e) refl
-skips s b xs (inl at) (inr e) = rw (at, e) refl
-skips s b xs (inr at) (inl e) = rw (at, e) refl
-skips s b xs (inr at) (inr e) = rw (at, e) refl
-
-same_records : (s t : State) (xs ys : List ℕ) (rs : List (List (List ℕ))) →
-    next_record default_config s [] [] xs ≡ next_record default_config t [] [] ys → AreRecords default_config t ys rs →
-    AreRecords default_config s xs rs
-unfolding Reached
-same_records s t xs ys [] e h =
-    (s, xs, (refl, refl), e ∙ (λ i. next_record default_config (h.2.0 i) [] [] (h.2.1 i)) ∙ h.3)
-same_records s t xs ys (r ∷ rs) e h = (h.0, h.1, (h.2.0, e ∙ h.2.1, h.2.2, h.2.3), h.3)
-
-no_records : (s : State) → BetweenRecords s → AreRecords default_config s [] []
-unfolding next_record
-no_records s (inl e) = are_none s [] (rw e refl)
-no_records s (inr e) = are_none s [] (rw e refl)
-
-no_end_more : (line : List ℕ) (b : ℕ) → HasNoEnd line → is_line_end b ≡ false → HasNoEnd (line ++ b ∷ [])
-no_end_more [] b none e = rw e refl
-no_end_more (c ∷ line) b none e =
-    let first : is_line_end c ≡ false = grind arith in
-    let rest : HasNoEnd line = grind arith in
-    rw first (no_end_more line b rest e)
-
--- what is known of the record of each line
-module _ (Is : List ℕ → List (List ℕ) → Type 0)
-    (is : (b : ℕ) (line : List ℕ) (none : HasNoEnd (b ∷ line)) → Is (b ∷ line) (line_gives_one b line none).fields) where
-  pub record Yields (s : State) (bytes : List ℕ) (lines : List (List ℕ)) : Type 0 where
-    pub records : List (List (List ℕ))
-    pub all : AreRecords default_config s bytes records
-    pub each : EachIs Is lines records
-
-  yields_from : (bytes line : List ℕ) (s : State) → BetweenRecords s → HasNoEnd line →
-      Yields s (From line_start (line ++ bytes)) (lines_from line bytes)
-  unfolding one_a_line_from lines_from
-  yields_from [] [] s at none = record { records = []; all = no_records s at; each = tt }
-  yields_from [] (c ∷ line) s at none =
-      let one = line_gives_one c line none in
-      record {
-        records = one.fields ∷ [];
-        all = are_more s st.StartRecord _ [] one.fields [] (one.reads s at [] [] st.StartRecord [] input_end)
-            (no_records st.StartRecord (inl refl));
-        each = (is c line none, tt);
-      }
-  yields_from (b ∷ bytes) line s at none = by_end (is_line_end b) refl line none
-      (λ t between. yields_from bytes [] t between refl) (λ longer no_end. yields_from bytes longer s at no_end)
-    where
-      by_end : (end : Bool) → is_line_end b ≡ end → (line : List ℕ) → HasNoEnd line
-          → ((t : State) → BetweenRecords t → Yields t (From line_start bytes) (lines_of bytes))
-          → ((longer : List ℕ) → HasNoEnd longer → Yields s (From line_start (longer ++ bytes)) (lines_from longer bytes))
-          → Yields s (From line_start (line ++ b ∷ bytes)) (lines_from line (b ∷ bytes))
-      by_end true e [] none rest more =
-          let r = rest st.StartRecord (inl refl) in
-          record {
-            records = r.records;
-            all = subst (λ (x : List ℕ). AreRecords default_config s x r.records) (sym (from_end most_in_line line_start b bytes e))
-                (same_records s st.StartRecord (b ∷ From line_start bytes) (From line_start bytes) r.records
-                (skips s b (From line_start bytes) at (ends b e)) r.all);
-            each = rw e r.each;
-          }
-      by_end true e (c ∷ line) none rest more =
-          let one = line_gives_one c line none in
-          let r = rest (after b) (after_is_between b (ends b e)) in
-          record {
-            records = one.fields ∷ r.records;
-            all = are_more s (after b) _ (From line_start bytes) one.fields r.records
-                (one.reads s at (b ∷ bytes) (b ∷ From line_start bytes) (after b) (From line_start bytes) (line_end b bytes (ends b e)))
-                r.all;
-            each = rw e (is c line none, r.each);
-          }
-      by_end false e line none rest more =
-          let r = more (line ++ b ∷ []) (no_end_more line b none e) in
-          record {
-            records = r.records;
-            all = subst (λ (x : List ℕ). AreRecords default_config s (From line_start x) r.records)
-                (append_assoc line (b ∷ []) bytes) r.all;
-            each = rw e r.each;
-          }
-
-  pub yields : (bytes : List ℕ) → Yields st.StartRecord (From line_start bytes) (lines_of bytes)
-  yields bytes = yields_from bytes [] st.StartRecord (inl refl) refl
+-- of the last one
+lines_last : (line : List ℕ) → HasNoEnd line → lines_of line ≡ if_any line
+unfolding lines_from
+lines_last line none = ap lines_of (sym (append-nil line)) ∙ line_goes_on line [] [] none
 
 -- ---- a byte order mark
 
-abbrev place_in : Mark → State → ℕ → Place
-place_in m s n = record { mark = m; state = s; length = n }
-
--- a byte that isn't the next one of a mark
-from_same : (m : Mark) (s : State) (n : ℕ) (b : ℕ) (bs : List ℕ) → mark_after m b ≡ mark.Over → ends_mark m b ≡ false →
-    From (place_in m s n) (b ∷ bs) ≡ From (place_in mark.Over s n) (b ∷ bs)
-unfolding one_a_line_from
-from_same m s n b bs over not_last =
-    ap (λ (q : Place).
-    if is_line_end b then ending_of_quotes s ++ b ∷ From line_start bs
-    else if nat_lt n most_in_line then b ∷ From q bs
-    else if n == most_in_line then ending s ++ From (ended most_in_line) bs
-    else From (ended most_in_line) bs) (rw (over, not_last) refl)
-
-first_kept : (p : Place) (b : ℕ) (bs : List ℕ) → is_quoted p.state ≡ false → nat_lt p.length most_in_line ≡ true →
-    (xs : List ℕ) × (From p (b ∷ bs) ≡ b ∷ xs)
-first_kept p b bs q less = by_end (is_line_end b) refl
+no_mark_byte : (e : ℕ) → is_line_end e ≡ true →
+    ((e == 0xEF) ≡ false) × ((e == 0xBB) ≡ false) × ((e == 0xBF) ≡ false)
+no_mark_byte e end = by_feed (e == 10) (e == 13) refl refl
   where
-    by_end : (end : Bool) → is_line_end b ≡ end → (xs : List ℕ) × (From p (b ∷ bs) ≡ b ∷ xs)
-    by_end true e = (
-      From line_start bs,
-      from_end most_in_line p b bs e ∙ ap (λ (x : List ℕ). x ++ b ∷ From line_start bs) (not_quoted p.state q),
-    )
-    by_end false e = (From (next_place p b) bs, from_byte most_in_line p b bs e less)
+    by_feed : (feed return : Bool) → (e == 10) ≡ feed → (e == 13) ≡ return →
+        ((e == 0xEF) ≡ false) × ((e == 0xBB) ≡ false) × ((e == 0xBF) ≡ false)
+    by_feed true return f r = let is : e ≡ 10 = grind arith in rw is (refl, refl, refl)
+    by_feed false true f r = let is : e ≡ 13 = grind arith in rw is (refl, refl, refl)
+    by_feed false false f r = absurd (grind arith)
 
-not_first : (a : ℕ) (xs : List ℕ) → (a == 0xEF) ≡ false → strip_bom (a ∷ xs) ≡ a ∷ xs
+strip_ended : (line : List ℕ) (e : ℕ) (rest : List ℕ) → is_line_end e ≡ true →
+    strip_bom (line ++ e ∷ rest) ≡ strip_bom line ++ e ∷ rest
 unfolding strip_bom
-not_first a [] h = refl
-not_first a (b ∷ []) h = refl
-not_first a (b ∷ c ∷ xs) h = rw h refl
-
-not_second : (b : ℕ) (xs : List ℕ) → (b == 0xBB) ≡ false → strip_bom (0xEF ∷ b ∷ xs) ≡ 0xEF ∷ b ∷ xs
-unfolding strip_bom
-not_second b [] h = refl
-not_second b (c ∷ xs) h = rw h refl
-
-not_third : (c : ℕ) (xs : List ℕ) → (c == 0xBF) ≡ false → strip_bom (0xEF ∷ 0xBB ∷ c ∷ xs) ≡ 0xEF ∷ 0xBB ∷ c ∷ xs
-unfolding strip_bom
-not_third c xs h = rw h refl
-
-marked : (xs : List ℕ) → strip_bom (one_a_line (0xEF ∷ 0xBB ∷ 0xBF ∷ xs)) ≡ From line_start (strip_bom (0xEF ∷ 0xBB ∷ 0xBF ∷ xs))
-unfolding strip_bom one_a_line_from
-marked xs = refl
-
-mark_alone : strip_bom (one_a_line (0xEF ∷ [])) ≡ From line_start (strip_bom (0xEF ∷ []))
-unfolding strip_bom one_a_line_from
-mark_alone = refl
-
-two_alone : strip_bom (one_a_line (0xEF ∷ 0xBB ∷ [])) ≡ From line_start (strip_bom (0xEF ∷ 0xBB ∷ []))
-unfolding strip_bom one_a_line_from
-two_alone = refl
-
--- without a mark, the first line is like the others
-pub first_mark : (bytes : List ℕ) → strip_bom (one_a_line bytes) ≡ From line_start (strip_bom bytes)
-unfolding strip_bom one_a_line_from
-first_mark [] = refl
-first_mark (a ∷ bytes) = by_first (a == 0xEF) refl
+strip_ended [] e [] end = refl
+strip_ended [] e (x ∷ []) end = refl
+strip_ended [] e (x ∷ y ∷ rest) end = let no = no_mark_byte e end in rw no.0 refl
+strip_ended (a ∷ []) e [] end = refl
+strip_ended (a ∷ []) e (x ∷ rest) end = let no = no_mark_byte e end in by_first (a == 0xEF) refl no.1
   where
-    unmarked : (bytes out : List ℕ) → strip_bom bytes ≡ bytes → strip_bom out ≡ out → one_a_line bytes ≡ out →
-        From line_start bytes ≡ out → strip_bom (one_a_line bytes) ≡ From line_start (strip_bom bytes)
-    unmarked bytes out h g e f = ap strip_bom e ∙ g ∙ sym f ∙ ap (From line_start) (sym h)
+    by_first : (f : Bool) → (a == 0xEF) ≡ f → (e == 0xBB) ≡ false → strip_bom (a ∷ e ∷ x ∷ rest) ≡ a ∷ e ∷ x ∷ rest
+    by_first true f n = rw (f, n) refl
+    by_first false f n = rw f refl
+strip_ended (a ∷ b ∷ []) e rest end = let no = no_mark_byte e end in by_first (a == 0xEF) (b == 0xBB) refl refl no.2
+  where
+    by_first : (f g : Bool) → (a == 0xEF) ≡ f → (b == 0xBB) ≡ g → (e == 0xBF) ≡ false →
+        strip_bom (a ∷ b ∷ e ∷ rest) ≡ a ∷ b ∷ e ∷ rest
+    by_first true true f g n = rw (f, g, n) refl
+    by_first true false f g n = rw (f, g) refl
+    by_first false g f h n = rw f refl
+strip_ended (a ∷ b ∷ c ∷ line) e rest end = by_mark (is_bom a b c) refl
+  where
+    by_mark : (m : Bool) → is_bom a b c ≡ m →
+        (if is_bom a b c then line ++ e ∷ rest else a ∷ b ∷ c ∷ (line ++ e ∷ rest))
+        ≡ (if is_bom a b c then line else a ∷ b ∷ c ∷ line) ++ e ∷ rest
+    by_mark true m = rw m refl
+    by_mark false m = rw m refl
 
-    by_third : (c : ℕ) (xs : List ℕ) (last : Bool) → (c == 0xBF) ≡ last →
-        strip_bom (one_a_line (0xEF ∷ 0xBB ∷ c ∷ xs)) ≡ From line_start (strip_bom (0xEF ∷ 0xBB ∷ c ∷ xs))
-    by_third c xs true e = let is : c ≡ 0xBF = grind arith in rw is (marked xs)
-    by_third c xs false e =
-        let kept = first_kept (place_in mark.Over st.InField 2) c xs refl refl in
-        unmarked (0xEF ∷ 0xBB ∷ c ∷ xs) (0xEF ∷ 0xBB ∷ c ∷ kept.0) (not_third c xs e) (not_third c kept.0 e)
-        (ap (λ (x : List ℕ). 0xEF ∷ 0xBB ∷ x) (from_same mark.Third st.InField 2 c xs refl (rw e refl) ∙ kept.1))
-        (ap (λ (x : List ℕ). 0xEF ∷ 0xBB ∷ x) kept.1)
+-- of bytes that are more than a mark
+pub record Stripped (line : List ℕ) : Type 0 where
+  pub more : (rest : List ℕ) → strip_bom (line ++ rest) ≡ strip_bom line ++ rest
+  pub size : length line ≤ length (strip_bom line) + 3
 
-    by_second : (b : ℕ) (xs : List ℕ) (second : Bool) → (b == 0xBB) ≡ second →
-        strip_bom (one_a_line (0xEF ∷ b ∷ xs)) ≡ From line_start (strip_bom (0xEF ∷ b ∷ xs))
-    by_second b [] true e = let is : b ≡ 0xBB = grind arith in rw is two_alone
-    by_second b (c ∷ xs) true e = let is : b ≡ 0xBB = grind arith in rw is (by_third c xs (c == 0xBF) refl)
-    by_second b xs false e =
-        let kept = first_kept (place_in mark.Over st.InField 1) b xs refl refl in
-        unmarked (0xEF ∷ b ∷ xs) (0xEF ∷ b ∷ kept.0) (not_second b xs e) (not_second b kept.0 e)
-        (ap (λ (x : List ℕ). 0xEF ∷ x) (from_same mark.Second st.InField 1 b xs (rw e refl) refl ∙ kept.1))
-        (ap (λ (x : List ℕ). 0xEF ∷ x) kept.1)
+stripped : (line : List ℕ) → 3 ≤ length line → Stripped line
+unfolding strip_bom
+stripped [] some = absurd (omega arith)
+stripped (a ∷ []) some = absurd (omega arith)
+stripped (a ∷ b ∷ []) some = absurd (omega arith)
+stripped (a ∷ b ∷ c ∷ line) some = record { more = by_more (is_bom a b c) refl; size = by_size (is_bom a b c) refl }
+  where
+    by_more : (m : Bool) → is_bom a b c ≡ m → (rest : List ℕ) →
+        (if is_bom a b c then line ++ rest else a ∷ b ∷ c ∷ (line ++ rest))
+        ≡ (if is_bom a b c then line else a ∷ b ∷ c ∷ line) ++ rest
+    by_more true m rest = rw m refl
+    by_more false m rest = rw m refl
 
-    after_first : (xs : List ℕ) → strip_bom (one_a_line (0xEF ∷ xs)) ≡ From line_start (strip_bom (0xEF ∷ xs))
-    after_first [] = mark_alone
-    after_first (b ∷ xs) = by_second b xs (b == 0xBB) refl
+    by_size : (m : Bool) → is_bom a b c ≡ m →
+        length (a ∷ b ∷ c ∷ line) ≤ length (if is_bom a b c then line else a ∷ b ∷ c ∷ line) + 3
+    by_size true m = rw m (omega arith)
+    by_size false m = rw m (omega arith)
 
-    by_first : (first : Bool) → (a == 0xEF) ≡ first →
-        strip_bom (one_a_line (a ∷ bytes)) ≡ From line_start (strip_bom (a ∷ bytes))
-    by_first true e =
-        let is : a ≡ 0xEF = grind arith in
-        subst (λ (x : ℕ). strip_bom (one_a_line (x ∷ bytes)) ≡ From line_start (strip_bom (x ∷ bytes))) (sym is) (after_first bytes)
-    by_first false e =
-        let kept = first_kept line_start a bytes refl refl in
-        unmarked (a ∷ bytes) (a ∷ kept.0) (not_first a bytes e) (not_first a kept.0 e)
-        (from_same mark.First st.StartRecord 0 a bytes (rw e refl) refl ∙ kept.1) kept.1
+no_end_stripped : (line : List ℕ) → HasNoEnd line → HasNoEnd (strip_bom line)
+unfolding strip_bom
+no_end_stripped [] none = none
+no_end_stripped (a ∷ []) none = none
+no_end_stripped (a ∷ b ∷ []) none = none
+no_end_stripped (a ∷ b ∷ c ∷ line) none = by_mark (is_bom a b c) refl
+  where
+    rest : HasNoEnd line
+    rest = (no_end_parts c line (no_end_parts b (c ∷ line) (no_end_parts a (b ∷ c ∷ line) none).1).1).1
+
+    by_mark : (m : Bool) → is_bom a b c ≡ m → HasNoEnd (if is_bom a b c then line else a ∷ b ∷ c ∷ line)
+    by_mark true m = rw m rest
+    by_mark false m = rw m none
+
+-- ---- the first line, and others
+
+pub no_end_unmarked : (first : Bool) (line : List ℕ) → HasNoEnd line → HasNoEnd (unmarked first line)
+no_end_unmarked true line none = no_end_stripped line none
+no_end_unmarked false line none = none
+
+unmarked_ended : (first : Bool) (line : List ℕ) (e : ℕ) (rest : List ℕ) → HasNoEnd line → is_line_end e ≡ true →
+    lines_of (unmarked first (line ++ e ∷ rest)) ≡ if_any (unmarked first line) ++ lines_of rest
+unmarked_ended true line e rest none end =
+    ap lines_of (strip_ended line e rest end) ∙ lines_ended (strip_bom line) e rest (no_end_stripped line none) end
+unmarked_ended false line e rest none end = lines_ended line e rest none end
+
+unmarked_last : (first : Bool) (line : List ℕ) → HasNoEnd line →
+    lines_of (unmarked first line) ≡ if_any (unmarked first line)
+unmarked_last first line none = lines_last (unmarked first line) (no_end_unmarked first line none)
+
+-- ---- lines that are too long
+
+long_record : (line : List ℕ) → most_in_line < length line → Records (if_any line) ≡ formless ∷ []
+long_record [] long = absurd (omega arith)
+long_record (b ∷ line) long =
+    let rejected : is_rejected (b ∷ line) ≡ true = grind arith in
+    ap (λ (r : List (List ℕ)). r ∷ []) (rejected_record (b ∷ line) rejected)
+
+long_lines : (rest k l : List ℕ) → most_in_line < length k → most_in_line < length l →
+    Records (lines_from k rest) ≡ Records (lines_from l rest)
+unfolding lines_from
+long_lines [] k l a b = long_record k a ∙ sym (long_record l b)
+long_lines (e ∷ rest) k l a b =
+    let ka = length-append k (e ∷ []) in
+    let lb = length-append l (e ∷ []) in
+    by_end (is_line_end e) refl (long_lines rest (k ++ e ∷ []) (l ++ e ∷ []) (omega arith) (omega arith))
+  where
+    by_end : (end : Bool) → is_line_end e ≡ end →
+        Records (lines_from (k ++ e ∷ []) rest) ≡ Records (lines_from (l ++ e ∷ []) rest)
+        → Records (lines_from k (e ∷ rest)) ≡ Records (lines_from l (e ∷ rest))
+    by_end true end more =
+        ap Records (line_ends k e rest end) ∙ map-append line_record (if_any k) (lines_of rest)
+        ∙ ap (λ (rs : List (List (List ℕ))). rs ++ Records (lines_of rest)) (long_record k a ∙ sym (long_record l b))
+        ∙ sym (map-append line_record (if_any l) (lines_of rest)) ∙ sym (ap Records (line_ends l e rest end))
+    by_end false end more = rw end more
+
+-- too long, even after a mark
+abbrev TooLong : List ℕ → Type 0
+TooLong line = most_in_line + 3 < length line
+
+unmarked_long : (first : Bool) (line : List ℕ) → TooLong line → most_in_line < length (unmarked first line)
+unmarked_long true line long = let s = (stripped line (omega arith)).size in omega arith
+unmarked_long false line long = omega arith
+
+unmarked_more : (first : Bool) (line : List ℕ) → TooLong line → (rest : List ℕ) →
+    unmarked first (line ++ rest) ≡ unmarked first line ++ rest
+unmarked_more true line long rest = (stripped line (omega arith)).more rest
+unmarked_more false line long rest = refl
+
+-- what is left out of a line changes nothing
+pub kept_lines : (first : Bool) (line more kept rest : List ℕ) → HasNoEnd line → HasNoEnd more → Kept line more kept →
+    Records (lines_of (unmarked first (line ++ (more ++ rest)))) ≡ Records (lines_of (unmarked first (kept ++ rest)))
+kept_lines first line more kept rest none end (inl is) =
+    ap (λ (l : List ℕ). Records (lines_of (unmarked first l)))
+    (sym (append_assoc line more rest) ∙ ap (λ (l : List ℕ). l ++ rest) (sym is))
+kept_lines first line more kept rest none end (inr is) =
+    let u = unmarked first line in
+    let clean = no_end_unmarked first line none in
+    let long = unmarked_long first line is.1 in
+    ap (λ (l : List ℕ). Records (lines_of l)) (unmarked_more first line is.1 (more ++ rest))
+    ∙ ap Records (line_goes_on u [] (more ++ rest) clean ∙ line_goes_on more u rest end)
+    ∙ long_lines rest (u ++ more) u (let s = length-append u more in omega arith) long
+    ∙ ap Records (sym (line_goes_on u [] rest clean))
+    ∙ ap (λ (l : List ℕ). Records (lines_of l)) (sym (unmarked_more first line is.1 rest))
+    ∙ ap (λ (l : List ℕ). Records (lines_of (unmarked first (l ++ rest)))) (sym is.0)
+
+pub kept_line : (first : Bool) (line more kept : List ℕ) → HasNoEnd line → HasNoEnd more → Kept line more kept →
+    Records (if_any (unmarked first (line ++ more))) ≡ Records (if_any (unmarked first kept))
+kept_line first line more kept none end (inl is) = ap (λ (l : List ℕ). Records (if_any (unmarked first l))) (sym is)
+kept_line first line more kept none end (inr is) =
+    let size = length-append line more in
+    let long : TooLong (line ++ more) = omega arith in
+    long_record (unmarked first (line ++ more)) (unmarked_long first (line ++ more) long)
+    ∙ sym (long_record (unmarked first line) (unmarked_long first line is.1))
+    ∙ ap (λ (l : List ℕ). Records (if_any (unmarked first l))) (sym is.0)
+
+pub kept_clean : (line more kept : List ℕ) → HasNoEnd line → HasNoEnd more → Kept line more kept → HasNoEnd kept
+kept_clean line more kept none end (inl is) = subst HasNoEnd (sym is) (no_end_join line more none end)
+kept_clean line more kept none end (inr is) = subst HasNoEnd (sym is.0) none
+
+-- ---- steps of a source
+
+-- the bytes of a block up to the byte at an index, and those after it
+split_at : (block : List ℕ) (i : ℕ) → i < length block →
+    block ≡ take i block ++ get_or block i 0 ∷ drop (i + 1) block
+split_at block i low = sym (take-append-drop i block) ∙ ap (λ (r : List ℕ). take i block ++ r) (at block i low)
+
+-- the records after a line that ends
+ended_records : (first : Bool) (line block kept xs : List ℕ) (i : ℕ) → HasNoEnd line → i < length block →
+    HasNoEnd (take i block) → is_line_end (get_or block i 0) ≡ true → Kept line (take i block) kept →
+    Records (lines_of (unmarked first (line ++ (block ++ xs))))
+    ≡ Records (if_any (unmarked first kept)) ++ Records (lines_of (drop (i + 1) block ++ xs))
+ended_records first line block kept xs i none low part end keeps =
+    let e = get_or block i 0 in
+    let rest = drop (i + 1) block ++ xs in
+    let all : line ++ (block ++ xs) ≡ (line ++ take i block) ++ e ∷ rest =
+    ap (λ (b : List ℕ). line ++ (b ++ xs)) (split_at block i low)
+    ∙ ap (λ (b : List ℕ). line ++ b) (append_assoc (take i block) (e ∷ drop (i + 1) block) xs)
+    ∙ sym (append_assoc line (take i block) (e ∷ rest)) in
+    ap (λ (b : List ℕ). Records (lines_of (unmarked first b))) all
+    ∙ ap Records (unmarked_ended first (line ++ take i block) e rest (no_end_join line (take i block) none part) end)
+    ∙ map-append line_record (if_any (unmarked first (line ++ take i block))) (lines_of rest)
+    ∙ ap (λ (rs : List (List (List ℕ))). rs ++ Records (lines_of rest))
+    (kept_line first line (take i block) kept none part keeps)
+
+nothing : Records (lines_of []) ≡ []
+unfolding lines_from
+nothing = refl
+
+module _ {R : Type 0} (remaining : R → Known) (old new : LineRecords R) where
+  abbrev block : List ℕ
+  block = block_of old.source
+
+  -- these are left after the byte at an index of the block
+  abbrev After : ℕ → List (List (List ℕ)) → Type 0
+  After i rs = left_after false [] (prepend_known (drop (i + 1) block) (remaining old.source.input)) rs
+
+  -- a line ended in the block
+  pub line_steps : (found : Bool) (fields : List (List ℕ)) (kept : List ℕ) (i : ℕ) → HasNoEnd old.line.items →
+      i < length (block_of old.source) → HasNoEnd (take i (block_of old.source)) →
+      is_line_end (get_or (block_of old.source) i 0) ≡ true → Kept old.line.items (take i (block_of old.source)) kept →
+      Finds (if_any (unmarked old.is_first kept)) found fields → new.is_first ≡ false → new.line.items ≡ [] →
+      block_of new.source ≡ drop (i + 1) (block_of old.source) → remaining new.source.input ≡ remaining old.source.input →
+      Steps remaining old new (if found then Some true else None) fields
+  line_steps found fields kept i none low part end keeps finds later empty drops same =
+      by_found found finds
+    where
+      here : (rs : List (List (List ℕ))) → After i rs → left_after new.is_first [] (input_left remaining new.source) rs
+      here rs h =
+          subst (λ (f : Bool). left_after f [] (input_left remaining new.source) rs) (sym later)
+          (subst (λ (b : List ℕ). left_after false [] (prepend_known b (remaining new.source.input)) rs) (sym drops)
+          (subst (λ (k : Known). left_after false [] (prepend_known (drop (i + 1) block) k) rs) (sym same) h))
+
+      goes : (k : Known) (rs : List (List (List ℕ))) → left_after old.is_first old.line.items (prepend_known block k) rs →
+          (rest : List (List (List ℕ))) × (rs ≡ Records (if_any (unmarked old.is_first kept)) ++ rest)
+          × left_after false [] (prepend_known (drop (i + 1) block) k) rest
+      goes None rs h = absurd h
+      goes (Some xs) rs h = (
+        Records (lines_of (drop (i + 1) block ++ xs)),
+        h ∙ ended_records old.is_first old.line.items block kept xs i none low part end keeps,
+        refl,
+      )
+
+      by_found : (found : Bool) → Finds (if_any (unmarked old.is_first kept)) found fields →
+          Steps remaining old new (if found then Some true else None) fields
+      by_found true is = λ rs h.
+          let g = goes (remaining old.source.input) rs h in
+          (g.0, g.1 ∙ ap (λ (l : List (List (List ℕ))). l ++ g.0) is, here g.0 g.2)
+      by_found false is = (
+        subst HasNoEnd (sym empty) refl,
+        λ rs h.
+            let g = goes (remaining old.source.input) rs h in
+            let all : rs ≡ g.0 = g.1 ∙ ap (λ (l : List (List (List ℕ))). l ++ g.0) is in
+            subst (λ (l : List ℕ). left_after new.is_first l (input_left remaining new.source) rs) (sym empty)
+            (here rs (subst (After i) (sym all) g.2)),
+      )
+
+  -- the input ended
+  pub last_steps : (found : Bool) (fields : List (List ℕ)) → HasNoEnd old.line.items →
+      IsAtEnd (input_left remaining old.source) → Finds (if_any (unmarked old.is_first old.line.items)) found fields →
+      new.is_first ≡ false → new.source ≡ old.source → Steps remaining old new (Some found) fields
+  last_steps found fields none end finds later same = by_found found finds
+    where
+      all : (k : Known) (rs : List (List (List ℕ))) → IsAtEnd k → left_after old.is_first old.line.items k rs →
+          (rs ≡ Records (if_any (unmarked old.is_first old.line.items))) × left_after false [] k []
+      all None rs e h = absurd h
+      all (Some xs) rs e h = (
+        h ∙ ap (λ (l : List ℕ). Records (lines_of (unmarked old.is_first l)))
+            (ap (λ (x : List ℕ). old.line.items ++ x) e ∙ append-nil old.line.items)
+            ∙ ap Records (unmarked_last old.is_first old.line.items none),
+        sym (ap (λ (x : List ℕ). Records (lines_of x)) e ∙ nothing),
+      )
+
+      by_found : (found : Bool) → Finds (if_any (unmarked old.is_first old.line.items)) found fields →
+          Steps remaining old new (Some found) fields
+      by_found true is = λ rs h.
+          let a = all (input_left remaining old.source) rs end h in (
+            [],
+            a.0 ∙ is,
+            subst (λ (f : Bool). left_after f [] (input_left remaining new.source) []) (sym later)
+                (subst (λ (b : Blocks R). left_after false [] (input_left remaining b) []) (sym same) a.1),
+          )
+      by_found false is = λ rs h. (all (input_left remaining old.source) rs end h).0 ∙ is
+
+  -- a block in which no line ends
+  pub block_steps : (fields : List (List ℕ)) → HasNoEnd old.line.items → HasNoEnd (block_of old.source) →
+      Kept old.line.items (block_of old.source) new.line.items → new.is_first ≡ old.is_first →
+      block_of new.source ≡ [] → remaining new.source.input ≡ remaining old.source.input →
+      Steps remaining old new None fields
+  block_steps fields none clean keeps first empty same = (
+    kept_clean old.line.items (block_of old.source) new.line.items none clean keeps,
+    λ rs h.
+        subst (λ (f : Bool). left_after f new.line.items (input_left remaining new.source) rs) (sym first)
+        (subst (λ (b : List ℕ). left_after old.is_first new.line.items (prepend_known b (remaining new.source.input)) rs) (sym empty)
+        (subst (λ (k : Known). left_after old.is_first new.line.items (prepend_known [] k) rs) (sym same)
+        (goes (remaining old.source.input) rs h))),
+  )
+    where
+      goes : (k : Known) (rs : List (List (List ℕ))) →
+          left_after old.is_first old.line.items (prepend_known (block_of old.source) k) rs
+          → left_after old.is_first new.line.items (prepend_known [] k) rs
+      goes None rs h = absurd h
+      goes (Some xs) rs h =
+          h ∙ kept_lines old.is_first old.line.items (block_of old.source) new.line.items xs none clean keeps
+
+pub finds_one : (line : List ℕ) (fields : List (List ℕ)) → line ≢ [] → fields ≡ line_record line →
+    Finds (if_any line) true fields
+finds_one [] fields some is = absurd (some refl)
+finds_one (b ∷ line) fields some is = ap (λ (r : List (List ℕ)). r ∷ []) (sym is)

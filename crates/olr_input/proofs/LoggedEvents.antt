@@ -1,9 +1,8 @@
 -- The events of a session with a log.
-use Rattle.std.proofs.Common.{◌≡◌, Bool, true, false, not, ℕ, List, [], inl, Ok, Err, sym, ap, subst}
+use Rattle.std.proofs.Common.{◌≡◌, Bool, true, false, ℕ, List, [], inl, Ok, Err, sym, ap, subst}
 use Rattle.std.specs.Prelude.{Result}
-use Rattle.olr_input.specs.Gates.{Passes, PassesAll, Untouched, SettledBy, LostLine, TakesFound, compaction}
-use Rattle.olr_input.specs.Gates.{settled_compaction}
-use Rattle.olr_input.specs.LoggedRuns.{LogHappens, Settles, is_fault}
+use Rattle.olr_input.specs.Gates.{Passes, PassesAll, LostLine, TakesFound, compaction}
+use Rattle.olr_input.specs.LoggedRuns.{LogHappens, Settles}
 use Rattle.olr_input.specs.Sessions.{Known, Event, TakesLeft, TakesNext, Writes, IsOfTaking}
 use Rattle.olr_input.specs.Unkept.{waiting}
 use Rattle.olr_input.specs.declared.buffered.Buffered.{Buffered}
@@ -12,33 +11,16 @@ use Rattle.olr_input.specs.declared.gate.Gate.{Gate}
 use Rattle.olr_input.specs.declared.journal.Journal as journal
 use Rattle.olr_input.specs.declared.logged.Logged.{Logged}
 
-pub settles : {J : Type 0} (j : journal.Ghosts J) (g h : Gate J) (text : List ℕ) (b : Bool) → b ≡ is_fault text →
-    Untouched g h → SettledBy g.unkept (not b) h.unkept
-    → compaction h ≡ settled_compaction (j.size g.journal) (not b) g.unkept.effect (compaction g) → Settles j g text h
-settles j g h text b is u s d =
-    record {
-      untouched = u;
-      due = subst (λ (x : Bool).
-          compaction h ≡ settled_compaction (j.size g.journal) (not x) g.unkept.effect (compaction g)) is d;
-      settled = subst (λ (x : Bool). SettledBy g.unkept (not x) h.unkept) is s;
-    }
-
 module _ {S W J : Type 0} (left : S → List (List (List ℕ)) → Type 0) (contents : W → Known) (j : journal.Ghosts J) where
   abbrev Happens : Logged S J × Buffered W → Event → Logged S J × Buffered W → Type 0
   Happens a e b = LogHappens left contents j a.0 a.1 b.0 b.1 e
 
-  pub writes_logged : (s t : Logged S J) (g : Gate J) (o p : Buffered W) (text : List ℕ)
-      (r : Result (Unit {0}) RunFault) → t.source ≡ s.source → Settles j s.gate text g →
-      PassesAll j.kept j.may_leave contents g o t.gate p text r → Writes Happens (s, o) text (t, p) r
-  writes_logged s t g o p text (Ok done) same settled passes = (same, (g, settled, passes))
-  writes_logged s t g o p text (Err e) same settled cut = (
-    cut.0,
-    cut.1,
-    cut.2,
-    cut.3,
-    (same, (g, subst (λ (x : List ℕ). Settles j s.gate x g) cut.2 settled, cut.4)),
-    cut.5,
-  )
+  pub writes_logged : (s t : Logged S J) (g : Gate J) (o p : Buffered W) (text : List ℕ) (accepted : Bool)
+      (r : Result (Unit {0}) RunFault) → t.source ≡ s.source → Settles j s.gate accepted g →
+      PassesAll j.kept j.may_leave contents g o t.gate p text r → Writes Happens (s, o) text accepted (t, p) r
+  writes_logged s t g o p text accepted (Ok done) same settled passes = (same, (g, settled, passes))
+  writes_logged s t g o p text accepted (Err e) same settled cut =
+      (cut.0, cut.1, cut.2, cut.3, (same, (g, settled, cut.4)), cut.5)
 
   not_lost : (g h : Gate J) → h ≡ g → LostLine g h
   not_lost g h is =

@@ -92,8 +92,8 @@ module _ (l : List ℕ) (r h : ℕ) (e : Effect) (a : AreLines l r h e) where
       }
 
   -- all lines are in the batch
-  pub held : Parts l r (length l) (take r l) (take (h - r) (drop r l) ++ drop h l) []
-  held =
+  pub pending : Parts l r (length l) (take r l) (take (h - r) (drop r l) ++ drop h l) []
+  pending =
       record {
         splits = all.splits ∙ ap (λ (x : List ℕ). take r l ++ x) (sym (append-nil (take (h - r) (drop r l) ++ drop h l)));
         first = all.first;
@@ -185,7 +185,7 @@ module _ (l : List ℕ) (r h : ℕ) (e : Effect) (a : AreLines l r h e) where
       AreLines l r n effect.Nothing
   held_lines n is by =
       subst (λ (m : ℕ). AreLines l r m effect.Nothing) (sym is)
-      (lines_are l r (length l) effect.Nothing (take r l) (take (h - r) (drop r l) ++ drop h l) [] held a.whole
+      (lines_are l r (length l) effect.Nothing (take r l) (take (h - r) (drop r l) ++ drop h l) [] pending a.whole
       (λ _. elim by [
         | inl b ↦ opens (turns_by effect.Begin b refl true) (inr (turns_by effect.Begin b refl false))
         | inr c ↦ opens (turns_by effect.Change c.0 refl true) (inl (some_batch c.1))
@@ -231,7 +231,7 @@ module _ (l : List ℕ) (r h : ℕ) (e : Effect) (a : AreLines l r h e) where
       ≡ pair (take r l) (take (h - r) (drop r l) ++ drop h l)
   held_waits n is =
       ap (λ (m : ℕ). pair (take r l) (take (m - r) (drop r l))) is
-      ∙ of_parts l r (length l) (take r l) (take (h - r) (drop r l) ++ drop h l) [] held
+      ∙ of_parts l r (length l) (take r l) (take (h - r) (drop r l) ++ drop h l) [] pending
 
   ready_waits : (n : ℕ) → n ≡ length l → pair (take n l) (take (n - n) (drop n l))
       ≡ pair (take r l ++ (take (h - r) (drop r l) ++ drop h l)) ([])

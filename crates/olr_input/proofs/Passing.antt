@@ -4,7 +4,7 @@ use Rattle.std.proofs.Common.{refl, sym, ap, subst, Ok, Err, arith, length-drop}
 use Rattle.std.proofs.KnownBytes.{Appends-nil, Appends-trans}
 use Rattle.std.proofs.Math.Seq.{take-add}
 use Rattle.std.proofs.lemmas.List.{append-nil, append_assoc, take-append-drop}
-use Rattle.olr_input.specs.Buffers.{held, Sends}
+use Rattle.olr_input.specs.Buffers.{pending, Sends}
 use Rattle.olr_input.specs.Gates.{is_closed, ready, Keeping, None_sent, None_ready, All_kept, Cut_off}
 use Rattle.olr_input.specs.Gates.{SameBatch, Passes, PassesAll, PassesSome, compaction}
 use Rattle.std.specs.Prelude.{IfOk, IfErr, OnErr, Result}
@@ -80,13 +80,13 @@ module _ {J : Type 0} (kept : J → List ℕ) (may_leave : J → List ℕ → Ty
           others = same_trans g h i a.others b.others;
           due = b.due ∙ a.due;
           device = Appends-trans (contents o.device) (contents p.device) (contents q.device) a.sent b.sent a.device b.device;
-          bytes = sym (append_assoc (held o) x y) ∙ ap (λ (l : List ℕ). l ++ y) a.bytes
-              ∙ append_assoc a.sent (held p) y ∙ ap (λ (l : List ℕ). a.sent ++ l) b.bytes
-              ∙ sym (append_assoc a.sent b.sent (held q));
+          bytes = sym (append_assoc (pending o) x y) ∙ ap (λ (l : List ℕ). l ++ y) a.bytes
+              ∙ append_assoc a.sent (pending p) y ∙ ap (λ (l : List ℕ). a.sent ++ l) b.bytes
+              ∙ sym (append_assoc a.sent b.sent (pending q));
         }
 
     -- bytes are held back
-    pub passes_held : (g : Gate J) (o p : Buffered W) (x : List ℕ) → p.device ≡ o.device → held p ≡ held o ++ x →
+    pub passes_held : (g : Gate J) (o p : Buffered W) (x : List ℕ) → p.device ≡ o.device → pending p ≡ pending o ++ x →
         Through g o g p x
     passes_held g o p x d e =
         record {
@@ -98,12 +98,12 @@ module _ {J : Type 0} (kept : J → List ℕ) (may_leave : J → List ℕ → Ty
           bytes = sym e;
         }
 
-    pub passes_none : (g : Gate J) (o p : Buffered W) → p.device ≡ o.device → held p ≡ held o → Through g o g p []
-    passes_none g o p d e = passes_held g o p [] d (e ∙ sym (append-nil (held o)))
+    pub passes_none : (g : Gate J) (o p : Buffered W) → p.device ≡ o.device → pending p ≡ pending o → Through g o g p []
+    passes_none g o p d e = passes_held g o p [] d (e ∙ sym (append-nil (pending o)))
 
     -- what is held back is sent
     pub passes_sent : (g h : Gate J) (o p : Buffered W) → ((sent : List ℕ) → Keeping kept may_leave g h sent) →
-        SameBatch g h → compaction h ≡ compaction g → Sends (contents o.device) (held o) (contents p.device) (held p)
+        SameBatch g h → compaction h ≡ compaction g → Sends (contents o.device) (pending o) (contents p.device) (pending p)
         → Through g o h p []
     passes_sent g h o p keeps same due s =
         record {
@@ -112,7 +112,7 @@ module _ {J : Type 0} (kept : J → List ℕ) (may_leave : J → List ℕ → Ty
           others = same;
           due = due;
           device = s.1;
-          bytes = append-nil (held o) ∙ s.2;
+          bytes = append-nil (pending o) ∙ s.2;
         }
 
     -- or can't be
@@ -125,7 +125,7 @@ module _ {J : Type 0} (kept : J → List ℕ) (may_leave : J → List ℕ → Ty
           others = same;
           due = due;
           device = Appends-nil (contents o.device);
-          bytes = append-nil (held o);
+          bytes = append-nil (pending o);
         }
 
     -- the first n bytes of a text passed
@@ -155,18 +155,18 @@ module _ {J : Type 0} (kept : J → List ℕ) (may_leave : J → List ℕ → Ty
 
     -- a second try, after what was held back is sent
     pub some_after : (g h : Gate J) (o n p q : Buffered W) (k : ℕ) (text : List ℕ) (r : Result ℕ RunFault) →
-        n.device ≡ o.device → held n ≡ held o ++ take k text → k ≤ 0 → Through g n h p [] → q.device ≡ p.device
-        → IfOk r (λ i. i ≤ length text) → IfOk r (λ i. held q ≡ held p ++ take i text) → OnErr r (held q ≡ held p)
+        n.device ≡ o.device → pending n ≡ pending o ++ take k text → k ≤ 0 → Through g n h p [] → q.device ≡ p.device
+        → IfOk r (λ i. i ≤ length text) → IfOk r (λ i. pending q ≡ pending p ++ take i text) → OnErr r (pending q ≡ pending p)
         → IfErr r (λ e. e ≡ Write) → PassesSome kept may_leave contents g o h q text r
     some_after g h o n p q k text r d e none sent f bound more nothing fault = by_result r bound more nothing fault
       where
         first : Through g o g n []
         first =
-            passes_none g o n d (e ∙ ap (λ (x : List ℕ). held o ++ x) (let zero_is : k ≡ 0 = omega arith in ap (λ (j : ℕ). take j text) zero_is)
-            ∙ append-nil (held o))
+            passes_none g o n d (e ∙ ap (λ (x : List ℕ). pending o ++ x) (let zero_is : k ≡ 0 = omega arith in ap (λ (j : ℕ). take j text) zero_is)
+            ∙ append-nil (pending o))
 
-        by_result : (r : Result ℕ RunFault) → IfOk r (λ i. i ≤ length text) → IfOk r (λ i. held q ≡ held p ++ take i text) →
-            OnErr r (held q ≡ held p) → IfErr r (λ e. e ≡ Write) → PassesSome kept may_leave contents g o h q text r
+        by_result : (r : Result ℕ RunFault) → IfOk r (λ i. i ≤ length text) → IfOk r (λ i. pending q ≡ pending p ++ take i text) →
+            OnErr r (pending q ≡ pending p) → IfErr r (λ e. e ≡ Write) → PassesSome kept may_leave contents g o h q text r
         by_result (Ok i) b m x y =
             (b, passes_trans g g h o n q [] (take i text) first (passes_trans g h h n p q [] (take i text) sent (passes_held h p q (take i text) f m)))
         by_result (Err z) b m x y =

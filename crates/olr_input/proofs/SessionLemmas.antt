@@ -11,9 +11,9 @@ use Rattle.csv.specs.declared.error.ErrorKind.TheVariants as kind
 use Rattle.csv.specs.declared.parser.State.{State}
 use Rattle.csv.specs.declared.parser.State.TheVariants as st
 use Rattle.std.specs.Bool.{MatchBool}
-use Rattle.std.specs.Prelude.{option_map}
+use Rattle.std.specs.Prelude.{option_map, IfSome}
 use Rattle.csv.specs.declared.reader.Reader.{Reader}
-use Rattle.olr_input.specs.Sessions.{Known, Event, Took, Wrote, Renewal, Renewed, History, exchanges, IsPlain}
+use Rattle.olr_input.specs.Sessions.{Known, Answer, Event, Took, Wrote, Renewal, Renewed, History, exchanges, IsPlain}
 use Rattle.olr_input.specs.Sessions.{AreKnown, BeginsWith, StaysPlain, TakesLeft, csv_left, csv_records}
 use Rattle.olr_input.proofs.CsvRecords.{all_records, none_taken, one_taken}
 
@@ -87,13 +87,19 @@ module _ {R : Type 0} (remaining : R → Known) (old new : Reader R) where
       by_failed true e all = absurd cc
       by_failed false e all = all
 
+-- the records of known bytes are left
+pub known_left : (records_of : List ℕ → List (List (List ℕ))) (left : List (List (List ℕ)) → Type 0) (known : Known) →
+    BeginsWith records_of left known → IfSome (option_map records_of known) left
+known_left records_of left None h = tt
+known_left records_of left (Some bytes) h = h
+
 pub history_join : {S : Type 0} (happens : S → Event → S → Type 0) (a b c : S) (es fs : List Event) →
     History happens a es b → History happens b fs c → History happens a (es ++ fs) c
 history_join {S} happens a b c [] fs h k = subst (λ (x : S). History happens x fs c) (sym h) k
 history_join happens a b c (e ∷ es) fs h k = (h.0, h.1, history_join happens h.0 b c es fs h.2 k)
 
-pub exchanges_more : (rs : List (List (List ℕ))) (texts : List (List ℕ)) (renewals : List Renewal) (r : List (List ℕ))
-    (text : List ℕ) (renewal : Renewal) → length texts ≡ length rs → length renewals ≡ length rs →
+pub exchanges_more : (rs : List (List (List ℕ))) (texts : List Answer) (renewals : List Renewal) (r : List (List ℕ))
+    (text : Answer) (renewal : Renewal) → length texts ≡ length rs → length renewals ≡ length rs →
     exchanges (rs ++ r ∷ []) (texts ++ text ∷ []) (renewals ++ renewal ∷ [])
     ≡ exchanges rs texts renewals ++ Took r ∷ Wrote text ∷ Renewed renewal ∷ []
 exchanges_more [] [] [] r text renewal l k = refl

@@ -1,104 +1,88 @@
 -- Lines that are whole records.
-use Rattle.std.proofs.Common.{◌≡◌, ◌∙◌, ℕ, ◌==◌, Bool, true, false, not, List, [], ◌∷◌, ◌++◌, Some}
-use Rattle.std.proofs.Common.{◌⊎◌, length, zero, suc, inl, inr, refl, arith}
-use Rattle.memchr.specs.Find.{Passes, Nowhere, NoneBefore, is_byte3}
+use Rattle.std.proofs.Common.{◌≡◌, ◌∙◌, ◌+◌, ◌-◌, ◌<◌, ◌≤◌, ℕ, ◌==◌, Bool, true, false, not, List, [], ◌∷◌, ◌++◌, length, Some}
+use Rattle.std.proofs.Common.{take, drop, zero, suc, inl, refl, ap, subst, arith}
+use Rattle.std.proofs.lemmas.List.{append_assoc, drop-drop}
+use Rattle.memchr.specs.Find.{Passes, Nowhere, NoneBefore, is_byte, is_byte2, is_byte3}
 use Rattle.std.specs.Prelude.{slice_index}
-use Rattle.csv.specs.Machine.{next_record, step, in_field, is_end, fields_after}
-use Rattle.csv.specs.Machine.{field_after, line_feed, carriage_return}
+use Rattle.csv.specs.Machine.{next_record, step, line_feed, carriage_return}
 use Rattle.csv.specs.Reading.{default_config}
-use Rattle.csv.specs.declared.parser.Action.{Action}
-use Rattle.csv.specs.declared.parser.Action.TheVariants as act
 use Rattle.csv.specs.declared.parser.State.{State}
 use Rattle.csv.specs.declared.parser.State.TheVariants as st
-use Rattle.olr_input.specs.Lines.{BetweenRecords, IsWhole, has_line, is_line_end}
-use Rattle.olr_input.proofs.CsvBytes.{of_byte}
+use Rattle.olr_input.specs.LineRecords.{HasNoEnd}
+use Rattle.olr_input.specs.Lines.{HasLinesUpTo, IsWhole, has_line, has_quote, is_line_end}
+use Rattle.olr_input.specs.Machine.{is_quoted, state_after}
+use Rattle.olr_input.proofs.LineRecords.{IsEnd, after, end_of, gives_one, no_end_more, plain, plain_not_quoted}
+use Rattle.olr_input.proofs.LineRecords.{skips, step_plain}
+use Rattle.olr_input.proofs.Writing.{rest_is}
 
--- a record is read from these bytes alone, from a state, with fields and the bytes of a field
-abbrev Whole : State → List (List ℕ) → List ℕ → List ℕ → Type 0
-Whole s f p bytes =
-    (fields : List (List ℕ)) × (t : State) × (rest : List ℕ)
-    × ((more : List ℕ) → next_record default_config s f p (bytes ++ more) ≡ Some (fields, t, rest ++ more))
+-- a line without quotes, its end, and what follows
+record Parts (bytes : List ℕ) : Type 0 where
+  line : List ℕ
+  end : ℕ
+  rest : List ℕ
+  splits : bytes ≡ line ++ end ∷ rest
+  clean : HasNoEnd line
+  ends : IsEnd end
+  unquoted : (s : State) → plain s ≡ true → plain (state_after s line) ≡ true
 
-ended : (s t : State) (f : List (List ℕ)) (p xs : List ℕ) (x : ℕ) → step default_config s x ≡ (t, act.EndRecord) →
-    Whole s f p (x ∷ xs)
-ended s t f p xs x e = (f ++ p ∷ [], t, xs, λ more. of_byte s t act.EndRecord f p (xs ++ more) x e)
-
-goes_on : (s t : State) (a : Action) (f : List (List ℕ)) (p xs : List ℕ) (x : ℕ) → is_end a ≡ false →
-    step default_config s x ≡ (t, a) → Whole t (fields_after a f p) (field_after a x p) xs → Whole s f p (x ∷ xs)
-goes_on s t a f p xs x no_end e w =
-    (w.0, w.1, w.2, λ more. of_byte s t a f p (xs ++ more) x e ∙ (rw no_end (w.3 more)))
-
--- ---- in a record
-
-abbrev InRecord : State → Type 0
-InRecord s = (s ≡ st.StartField) ⊎ (s ≡ st.InField)
-
-unquoted : (s : State) (x : ℕ) → InRecord s → (x == default_config.quote) ≡ false →
-    step default_config s x ≡ in_field default_config x
-unquoted s x (inl e) no_quote = rw (e, no_quote) refl
-unquoted s x (inr e) no_quote = rw e refl
-
-abbrev Next : ℕ → State × Action → Type 0
-Next x r = ((t : State) × (r ≡ (t, act.EndRecord)) × (is_line_end x ≡ true))
-    ⊎ ((t : State) × (a : Action) × (r ≡ (t, a)) × InRecord t × (is_end a ≡ false) × (is_line_end x ≡ false))
-
-next_by : (x : ℕ) (comma lf cr : Bool) → (x == default_config.delimiter) ≡ comma → (x == line_feed) ≡ lf →
-    (x == carriage_return) ≡ cr → Next x (in_field default_config x)
-next_by x true true cr e l c = absurd (grind arith)
-next_by x true false true e l c = absurd (grind arith)
-next_by x true false false e l c = inr (st.StartField, act.EndField, rw e refl, inl refl, refl, rw (l, c) refl)
-next_by x false lf true e l c = inl (st.AfterCr, rw (e, c) refl, grind arith)
-next_by x false true false e l c = inl (st.StartRecord, rw (e, c, l) refl, rw l refl)
-next_by x false false false e l c = inr (st.InField, act.Copy, rw (e, c, l) refl, inr refl, refl, rw (l, c) refl)
-
--- the rest of a line, of which a byte came before
-rest_of_line : (xs : List ℕ) (s : State) (f : List (List ℕ)) (p : List ℕ) → InRecord s → has_line true xs ≡ true →
-    Whole s f p xs
-rest_of_line [] s f p at h = absurd (grind arith)
-rest_of_line (x ∷ xs) s f p at h =
-    by_byte (x == default_config.quote) (next_by x _ _ _ refl refl refl) refl (rest_of_line xs)
+line_parts : (bytes : List ℕ) → has_line true bytes ≡ true → Parts bytes
+line_parts [] h = absurd (grind arith)
+line_parts (b ∷ bytes) h = by_byte (b == default_config.quote) (is_line_end b) refl refl (line_parts bytes)
   where
-    by_byte : (quote : Bool) → Next x (in_field default_config x) → (x == default_config.quote) ≡ quote →
-        ((t : State) (g : List (List ℕ)) (q : List ℕ) → InRecord t → has_line true xs ≡ true → Whole t g q xs)
-        → Whole s f p (x ∷ xs)
-    by_byte true n q next = absurd (grind arith)
-    by_byte false (inl n) q next = ended s n.0 f p xs x (unquoted s x at q ∙ n.1)
-    by_byte false (inr n) q next =
-        goes_on s n.0 n.1 f p xs x n.4 (unquoted s x at q ∙ n.2)
-        (next n.0 (fields_after n.1 f p) (field_after n.1 x p) n.3 (grind arith))
+    by_byte : (quote end : Bool) → (b == default_config.quote) ≡ quote → is_line_end b ≡ end →
+        (has_line true bytes ≡ true → Parts bytes) → Parts (b ∷ bytes)
+    by_byte true end q e more = absurd (grind arith)
+    by_byte false true q e more =
+        record {
+          line = [];
+          end = b;
+          rest = bytes;
+          splits = refl;
+          clean = refl;
+          ends = end_of b e;
+          unquoted = λ s p. p;
+        }
+    by_byte false false q e more =
+        let p = more (grind arith) in
+        record {
+          line = b ∷ p.line;
+          end = p.end;
+          rest = p.rest;
+          splits = ap (λ (x : List ℕ). b ∷ x) p.splits;
+          clean = no_end_more b p.line e p.clean;
+          ends = p.ends;
+          unquoted = λ s h. p.unquoted (step default_config s b).0 (step_plain s b h q);
+        }
 
--- ---- before a record
-
-no_record : (s : State) (x : ℕ) → BetweenRecords s → is_line_end x ≡ true →
-    step default_config s x ≡ (st.StartRecord, act.Skip)
-no_record s x (inl e) end = rw e (grind arith)
-no_record s x (inr e) end = rw e (grind arith)
-
-begins : (s : State) (x : ℕ) → BetweenRecords s → is_line_end x ≡ false → (x == default_config.quote) ≡ false →
-    step default_config s x ≡ in_field default_config x
-begins s x (inl e) end q = rw e (grind arith)
-begins s x (inr e) end q = rw e (grind arith)
-
-line_from : (xs : List ℕ) (s : State) → BetweenRecords s → has_line false xs ≡ true → Whole s [] [] xs
-line_from [] s at h = absurd (grind arith)
-line_from (x ∷ xs) s at h = by_byte (x == default_config.quote) (is_line_end x) refl refl (line_from xs st.StartRecord (inl refl))
+pub whole_line : (bytes : List ℕ) → has_line false bytes ≡ true → IsWhole bytes
+whole_line [] h s at = absurd (grind arith)
+whole_line (b ∷ bytes) h s at = by_byte (b == default_config.quote) (is_line_end b) refl refl (whole_line bytes)
   where
-    in_line : Next x (in_field default_config x) → (x == default_config.quote) ≡ false → is_line_end x ≡ false →
-        Whole s [] [] (x ∷ xs)
-    in_line (inl n) q e = absurd (grind arith)
-    in_line (inr n) q e =
-        goes_on s n.0 n.1 [] [] xs x n.4 (begins s x at e q ∙ n.2)
-        (rest_of_line xs n.0 (fields_after n.1 [] []) (field_after n.1 x []) n.3 (grind arith))
+    in_line : (q : (b == default_config.quote) ≡ false) → is_line_end b ≡ false → Parts bytes →
+        (fields : List (List ℕ)) × (t : State) × (rest : List ℕ)
+        × ((more : List ℕ) → next_record default_config s [] [] ((b ∷ bytes) ++ more) ≡ Some (fields, t, rest ++ more))
+    in_line q e p =
+        let one = gives_one b p.line (no_end_more b p.line e p.clean) in
+        let closed : is_quoted (state_after st.StartRecord (b ∷ p.line)) ≡ false =
+        plain_not_quoted (state_after st.StartRecord (b ∷ p.line))
+        (p.unquoted (step default_config st.StartRecord b).0 (step_plain st.StartRecord b refl q)) in (
+          one.fields,
+          after p.end,
+          p.rest,
+          λ more. ap (λ (x : List ℕ). next_record default_config s [] [] (b ∷ (x ++ more))) p.splits
+              ∙ ap (λ (x : List ℕ). next_record default_config s [] [] (b ∷ x)) (append_assoc p.line (p.end ∷ p.rest) more)
+              ∙ one.ended closed s at p.end (p.rest ++ more) p.ends,
+        )
 
-    by_byte : (quote end : Bool) → (x == default_config.quote) ≡ quote → is_line_end x ≡ end →
-        (has_line false xs ≡ true → Whole st.StartRecord [] [] xs) → Whole s [] [] (x ∷ xs)
+    by_byte : (quote end : Bool) → (b == default_config.quote) ≡ quote → is_line_end b ≡ end →
+        (has_line false bytes ≡ true → IsWhole bytes)
+        → (fields : List (List ℕ)) × (t : State) × (rest : List ℕ)
+        × ((more : List ℕ) → next_record default_config s [] [] ((b ∷ bytes) ++ more) ≡ Some (fields, t, rest ++ more))
     by_byte true end q e next = absurd (grind arith)
     by_byte false true q e next =
-        goes_on s st.StartRecord act.Skip [] [] xs x refl (no_record s x at e) (next (grind arith))
-    by_byte false false q e next = in_line (next_by x _ _ _ refl refl refl) q e
-
-pub whole_line : (xs : List ℕ) → has_line false xs ≡ true → IsWhole xs
-whole_line xs h s at = line_from xs s at h
+        let w = next (grind arith) st.StartRecord (inl refl) in
+        (w.0, w.1, w.2, λ more. skips s b (bytes ++ more) at (end_of b e) ∙ w.3 more)
+    by_byte false false q e next = in_line q e (line_parts bytes (grind arith))
 
 -- ---- the first byte that ends a line or is a quote
 
@@ -130,3 +114,58 @@ no_line [] h = refl
 no_line (x ∷ xs) h =
     plain_first x xs (λ e. h 0 (omega arith) (omega arith) e)
     ∙ no_line xs (λ j low high. h (suc j) (omega arith) (omega arith))
+
+-- ---- the last end of a line before a quote
+
+abbrev Quotes : List ℕ → ℕ → Type 0
+Quotes xs k = Passes (is_byte default_config.quote) xs k
+
+pub no_quote_before : (xs : List ℕ) (k : ℕ) → k ≤ length xs → Nowhere (Quotes xs) 0 k → has_quote (take k xs) ≡ false
+no_quote_before xs zero within none = refl
+no_quote_before [] (suc k) within none = refl
+no_quote_before (x ∷ xs) (suc k) within none =
+    let plain = none 0 (omega arith) (omega arith) in
+    let rest = no_quote_before xs k (omega (arith, within)) (λ j low high. none (suc j) (omega arith) (omega (arith, high))) in
+    grind (arith, rest, plain)
+
+pub no_quote : (xs : List ℕ) → Nowhere (Quotes xs) 0 (length xs) → has_quote xs ≡ false
+no_quote [] none = refl
+no_quote (x ∷ xs) none =
+    let plain = none 0 (omega arith) (omega arith) in
+    let rest = no_quote xs (λ j low high. none (suc j) (omega arith) (omega (arith, high))) in
+    grind (arith, rest, plain)
+
+pub none_up_to : (xs : List ℕ) → HasLinesUpTo 0 xs
+none_up_to xs = record { each = λ i low. absurd (omega arith) }
+
+lines_from : (xs : List ℕ) (n k i : ℕ) → has_quote (take n xs) ≡ false → k < n →
+    is_line_end (slice_index (take n xs) k) ≡ true → i ≤ k → has_line true (drop i xs) ≡ true
+lines_from xs zero k i none low end from = absurd (omega arith)
+lines_from [] (suc n) k i none low end from = absurd (grind arith)
+lines_from (x ∷ xs) (suc n) zero zero none low end from = grind arith
+lines_from (x ∷ xs) (suc n) zero (suc i) none low end from = absurd (omega arith)
+lines_from (x ∷ xs) (suc n) (suc k) zero none low end from =
+    by_end (is_line_end x) refl (grind arith) (lines_from xs n k 0 (grind arith) (omega arith) end (omega arith))
+  where
+    by_end : (e : Bool) → is_line_end x ≡ e → (x == default_config.quote) ≡ false → has_line true xs ≡ true →
+        has_line true (x ∷ xs) ≡ true
+    by_end true e q rest = rw (q, e) refl
+    by_end false e q rest = rw (q, e) rest
+lines_from (x ∷ xs) (suc n) (suc k) (suc i) none low end from =
+    lines_from xs n k i (grind arith) (omega arith) end (omega arith)
+
+pub lines_up_to : (front xs : List ℕ) (k : ℕ) → front ≡ take (length front) xs → has_quote front ≡ false →
+    k < length front → Passes (is_byte2 line_feed carriage_return) front k → HasLinesUpTo k xs
+lines_up_to front xs k is none low passes =
+    let plain : has_quote (take (length front) xs) ≡ false = subst (λ (l : List ℕ). has_quote l ≡ false) is none in
+    let end : is_line_end (slice_index (take (length front) xs) k) ≡ true =
+    subst (λ (l : List ℕ). is_line_end (slice_index l k) ≡ true) is passes in
+    record { each = λ i less. lines_from xs (length front) k i plain low end (omega arith) }
+
+-- from an index on
+pub begins_at : (xs : List ℕ) (start n : ℕ) →
+    has_line false (take (length xs - start) (drop start xs)) ≡ has_line true (drop n (take (length xs - start) (drop start xs)))
+    → has_line false (drop start xs) ≡ has_line true (drop (start + n) xs)
+begins_at xs start n h =
+    subst (λ (l : List ℕ). has_line false l ≡ has_line true (drop n l)) (rest_is xs start) h
+    ∙ ap (has_line true) (drop-drop n start xs)

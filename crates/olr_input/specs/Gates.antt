@@ -17,7 +17,7 @@ use Rattle.std.specs.Prelude.{◌≡◌, ◌≢◌, ◌≤◌, ◌*◌, ◌-◌,
 use Rattle.std.specs.Prelude.{if◌then◌else◌, List, [], ◌++◌, take, length, is_some}
 use Rattle.std.specs.Prelude.{Result, Ok, Err, ◌⊎◌}
 use Rattle.std.specs.Io.KnownBytes.{Appends}
-use Rattle.olr_input.specs.Buffers.{held}
+use Rattle.olr_input.specs.Buffers.{pending}
 use Rattle.olr_input.specs.Journals.{IsFront, MayHaveKept, Only, is_empty, is_whole}
 use Rattle.olr_input.specs.KeptLines.{effect_of, is_compact, kept_line, settled}
 use Rattle.olr_input.specs.Sessions.{Known}
@@ -111,7 +111,7 @@ pub record Passes {J W : Type 0} (kept : J → List ℕ) (may_leave : J → List
   pub others : SameBatch g h
   pub due : compaction h ≡ compaction g
   pub device : Appends (contents o.device) (contents p.device) sent
-  pub bytes : held o ++ text ≡ sent ++ held p
+  pub bytes : pending o ++ text ≡ sent ++ pending p
 
 abbrev pub PassesSome : {J W : Type 0} → (J → List ℕ) → (J → List ℕ → Type 0) → (W → Known) → Gate J → Buffered W →
     Gate J → Buffered W → List ℕ → Result ℕ RunFault → Type 0

@@ -1,10 +1,11 @@
 pub mod Sessions
+pub mod Machine
 pub mod InMemory
 pub mod Statuses
 pub mod Buffers
 pub mod Lines
 pub mod Blocks
-pub mod SingleLines
+pub mod LineRecords
 pub mod Inputs
 pub mod Journals
 pub mod KeptLines

@@ -1,7 +1,7 @@
 -- The events of a session with a log.
---     is_fault text      an answer that begins so rejects its record
+--     Settles j g accepted h      the record whose line was taken last was accepted or rejected
 --     LogHappens      the events of a source, of a gate, and of an output
-use Rattle.std.specs.Prelude.{◌≡◌, ◌==◌, ℕ, Bool, true, false, not, List, [], ◌∷◌, ◌++◌}
+use Rattle.std.specs.Prelude.{◌≡◌, ℕ, Bool, true, false, List, []}
 use Rattle.olr_input.specs.Gates.{Passes, Untouched, SettledBy, TookLine, LostLine, Renews, PutsOff, asks, compaction}
 use Rattle.olr_input.specs.Gates.{put_off, settled_compaction}
 use Rattle.olr_input.specs.Sessions.{Known, Event, Took, Ended, Not_taken, Not_sent, Wrote, Cut, Renewed, Unasked}
@@ -11,15 +11,10 @@ use Rattle.olr_input.specs.declared.gate.Gate.{Gate}
 use Rattle.olr_input.specs.declared.journal.Journal as journal
 use Rattle.olr_input.specs.declared.logged.Logged.{Logged}
 
--- answers that accept a record begin with "ok" or "held", and others with "fault"
-abbrev pub is_fault : List ℕ → Bool
-is_fault [] = false
-is_fault (b ∷ bs) = b == 102
-
-pub record Settles {J : Type 0} (j : journal.Ghosts J) (g : Gate J) (text : List ℕ) (h : Gate J) : Type 0 where
+pub record Settles {J : Type 0} (j : journal.Ghosts J) (g : Gate J) (accepted : Bool) (h : Gate J) : Type 0 where
   pub untouched : Untouched g h
-  pub due : compaction h ≡ settled_compaction (j.size g.journal) (not (is_fault text)) g.unkept.effect (compaction g)
-  pub settled : SettledBy g.unkept (not (is_fault text)) h.unkept
+  pub due : compaction h ≡ settled_compaction (j.size g.journal) accepted g.unkept.effect (compaction g)
+  pub settled : SettledBy g.unkept accepted h.unkept
 
 module _ {S W J : Type 0} (left : S → List (List (List ℕ)) → Type 0) (contents : W → Known) (j : journal.Ghosts J) where
   abbrev pub LogHappens : Logged S J → Buffered W → Logged S J → Buffered W → Event → Type 0
@@ -32,12 +27,12 @@ module _ {S W J : Type 0} (left : S → List (List (List ℕ)) → Type 0) (cont
   LogHappens s o t p (Not_taken e) =
       (g : Gate J) × Passes j.kept j.may_leave contents s.gate o g p [] × LostLine g t.gate
   LogHappens s o t p Not_sent = (t.source ≡ s.source) × Passes j.kept j.may_leave contents s.gate o t.gate p []
-  LogHappens s o t p (Wrote text) =
+  LogHappens s o t p (Wrote answer) =
       (t.source ≡ s.source)
-      × ((g : Gate J) × Settles j s.gate text g × Passes j.kept j.may_leave contents g o t.gate p text)
-  LogHappens s o t p (Cut front rest) =
+      × ((g : Gate J) × Settles j s.gate answer.1 g × Passes j.kept j.may_leave contents g o t.gate p answer.0)
+  LogHappens s o t p (Cut front rest accepts) =
       (t.source ≡ s.source)
-      × ((g : Gate J) × Settles j s.gate (front ++ rest) g × Passes j.kept j.may_leave contents g o t.gate p front)
+      × ((g : Gate J) × Settles j s.gate accepts g × Passes j.kept j.may_leave contents g o t.gate p front)
   LogHappens s o t p (Renewed Unasked) = (t ≡ s) × (p ≡ o) × (asks s.gate ≡ false)
   LogHappens s o t p (Renewed (Given records)) =
       (t.source ≡ s.source) × (p ≡ o) × (asks s.gate ≡ true) × Renews j s.gate records t.gate

@@ -4,10 +4,12 @@
 --         kept in the place of a log
 --     Renewal      no records were asked for; these were, and they were given; or they could not be made, which was said
 --     History happens a es b      these events, in this order, lead from a to b; happens is the relation of one event
---     exchanges rs texts renewals      each record was taken, and then its text was written, and then records were given,
---         if they were asked for
+--     Answer      the text of an answer, and whether it accepts its record
+--     exchanges rs answers renewals      each record was taken, and then its answer was written, and then records were
+--         given, if they were asked for
 --     WritesAll before later bytes r      all of the bytes were written, or only the first of them
 --     TakesLeft old new failed r fields      what a call that takes a record says of the records that were left, and of those that are
+--     JoinedLeft      the records that are left of a source, if there is one, and then those of another
 --     PlainHappens      the events of a source and a writer whose bytes are known
 --     IsPlain r, csv_left remaining r rs      a reader with csv's defaults, and the records that are left of it
 use Rattle.std.specs.Prelude.{◌≡◌, ◌≢◌, ◌^◌, ℕ, Bool, true, false, List, [], ◌∷◌, ◌++◌, Option, Some, None, Result, Ok, Err, ⊤, ◌⊎◌, IfSome}
@@ -25,8 +27,8 @@ abbrev pub Known : Type 0
 Known = Option (List ℕ)
 
 -- the most bytes that an output holds back
-abbrev pub most_held : ℕ
-most_held = 2 ^ 16
+abbrev pub most_pending : ℕ
+most_pending = 2 ^ 16
 
 -- ---- events
 
@@ -35,25 +37,28 @@ pub data Renewal : Type 0 where
   Given : (records : List ℕ) → Renewal
   Lacking : Renewal
 
+abbrev pub Answer : Type 0
+Answer = List ℕ × Bool
+
 pub data Event : Type 0 where
   Took : (fields : List (List ℕ)) → Event
   Ended : Event
   Not_taken : (fault : RunFault) → Event
   Not_sent : Event
-  Wrote : (text : List ℕ) → Event
-  Cut : (front rest : List ℕ) → Event
+  Wrote : (answer : Answer) → Event
+  Cut : (front rest : List ℕ) (accepts : Bool) → Event
   Renewed : (renewal : Renewal) → Event
 
 abbrev pub History : {S : Type 0} → (S → Event → S → Type 0) → S → List Event → S → Type 0
 History happens a [] b = a ≡ b
 History {S} happens a (e ∷ es) b = (m : S) × happens a e m × History happens m es b
 
-abbrev pub exchanges : List (List (List ℕ)) → List (List ℕ) → List Renewal → List Event
-exchanges [] texts renewals = []
+abbrev pub exchanges : List (List (List ℕ)) → List Answer → List Renewal → List Event
+exchanges [] answers renewals = []
 exchanges (r ∷ rs) [] renewals = []
-exchanges (r ∷ rs) (text ∷ texts) [] = []
-exchanges (r ∷ rs) (text ∷ texts) (renewal ∷ renewals) =
-    Took r ∷ Wrote text ∷ Renewed renewal ∷ exchanges rs texts renewals
+exchanges (r ∷ rs) (answer ∷ answers) [] = []
+exchanges (r ∷ rs) (answer ∷ answers) (renewal ∷ renewals) =
+    Took r ∷ Wrote answer ∷ Renewed renewal ∷ exchanges rs answers renewals
 
 -- ---- calls
 
@@ -69,11 +74,12 @@ TakesNext happens old new (Ok false) fields = happens old Ended new
 TakesNext happens old new (Err e) fields =
     (happens old (Not_taken e) new × IsOfTaking e) ⊎ (happens old Not_sent new × (e ≡ fault.Write))
 
--- all of the text was written, or only its first bytes
-abbrev pub Writes : {S : Type 0} → (S → Event → S → Type 0) → S → List ℕ → S → Result (Unit {0}) RunFault → Type 0
-Writes happens old text new (Ok done) = happens old (Wrote text) new
-Writes happens old text new (Err e) =
-    (front rest : List ℕ) × (text ≡ front ++ rest) × (rest ≢ []) × happens old (Cut front rest) new × (e ≡ fault.Write)
+-- all of an answer's text was written, or only its first bytes
+abbrev pub Writes : {S : Type 0} → (S → Event → S → Type 0) → S → List ℕ → Bool → S → Result (Unit {0}) RunFault → Type 0
+Writes happens old text accepts new (Ok done) = happens old (Wrote (text, accepts)) new
+Writes happens old text accepts new (Err e) =
+    (front rest : List ℕ) × (text ≡ front ++ rest) × (rest ≢ []) × happens old (Cut front rest accepts) new
+    × (e ≡ fault.Write)
 
 abbrev pub WritesAll : Known → Known → List ℕ → Result (Unit {0}) RunFault → Type 0
 WritesAll before later bytes (Ok done) = Appends before later bytes
@@ -97,6 +103,17 @@ TakesLeft old new failed (Ok true) fields = TakesOne old new fields
 TakesLeft old new failed (Ok false) fields = HasNone old
 TakesLeft old new failed (Err e) fields = (failed ≡ true) × IsOfTaking e
 
+-- the records that are left of a source, if there is one
+abbrev pub FirstLeft : {A : Type 0} → (A → List (List (List ℕ)) → Type 0) → Option A → List (List (List ℕ)) → Type 0
+FirstLeft left None rs = rs ≡ []
+FirstLeft left (Some first) rs = left first rs
+
+-- and then those of another
+abbrev pub JoinedLeft : {A B : Type 0} → (A → List (List (List ℕ)) → Type 0) → (B → List (List (List ℕ)) → Type 0) →
+    Option A → B → List (List (List ℕ)) → Type 0
+JoinedLeft left_of_first left first second rs =
+    (ps qs : List (List (List ℕ))) × FirstLeft left_of_first first ps × left second qs × (rs ≡ ps ++ qs)
+
 -- the records of known bytes are left
 abbrev pub BeginsWith : (List ℕ → List (List (List ℕ))) → (List (List (List ℕ)) → Type 0) → Known → Type 0
 BeginsWith records_of left known = IfSome known (λ bytes. left (records_of bytes))
@@ -108,8 +125,8 @@ PlainHappens left failed old new before later (Took fields) = TakesOne (left old
 PlainHappens left failed old new before later Ended = HasNone (left old) × Keeps before later
 PlainHappens left failed old new before later (Not_taken e) = (failed new ≡ true) × Keeps before later
 PlainHappens left failed old new before later Not_sent = (new ≡ old) × Keeps before later
-PlainHappens left failed old new before later (Wrote text) = (new ≡ old) × Appends before later text
-PlainHappens left failed old new before later (Cut front rest) = (new ≡ old) × Appends before later front
+PlainHappens left failed old new before later (Wrote answer) = (new ≡ old) × Appends before later answer.0
+PlainHappens left failed old new before later (Cut front rest accepts) = (new ≡ old) × Appends before later front
 PlainHappens left failed old new before later (Renewed Unasked) = (new ≡ old) × Keeps before later
 PlainHappens left failed old new before later (Renewed renewal) = ⊥
 

@@ -2,23 +2,24 @@
 
 ghost use Rattle.std.specs.Prelude.{◌≡◌, ◌≤◌, [], length, take, drop, vec_len, IfOk, OnOk};
 ghost use Rattle.std.specs.Io.KnownBytes.{Appends, Keeps};
-ghost use Rattle.olr_input.specs.Sessions.{most_held};
+ghost use Rattle.olr_input.specs.Sessions.{most_pending};
 
+use crate::ends::RunFault;
 use std::alloc::{AllocError, Global};
 use std::io;
 use std::io::{ErrorKind, Write};
 
 /// The most bytes that are held back, 64 KB.
-const MOST_HELD: usize = 1 << 16;
+const MOST_PENDING: usize = 1 << 16;
 
 /// An output that holds back what is written, at most 64 KB of it, until it is flushed. It sends nothing by itself, not
 /// even when it is dropped, and nothing more once its device has failed.
 #[derive(Drop)]
 pub struct Buffered<W: Drop> {
     device: W,
-    held: Vec<u8>,
+    pending: Vec<u8>,
     failed: bool,
-    ghost bounded: { length held.items ≤ most_held },
+    ghost bounded: { length pending.items ≤ most_pending },
 }
 
 /// Sends bytes to a device until all are sent or it fails. Returns how many were sent.
@@ -49,16 +50,16 @@ pub(crate) fn remove_front(bytes: &mut Vec<u8>, count: usize)
 
 impl<W: Write + Drop> Buffered<W> {
     ghost use Rattle.std.specs.Prelude.{◌++◌, OnErr};
-    ghost use Rattle.olr_input.specs.Buffers.{held, Sends};
+    ghost use Rattle.olr_input.specs.Buffers.{pending, Sends};
 
     /// An output to this device. Every byte that it will hold has its place from the start.
     pub fn new(alloc: Global, device: W) -> Result<Buffered<W>, AllocError>
         ensures device { IfOk result (λ b. b.device ≡ device) }
-        ensures empty { IfOk result (λ b. held b ≡ []) }
+        ensures empty { IfOk result (λ b. pending b ≡ []) }
     {
         Ok(Buffered {
             device,
-            held: Vec::with_capacity(alloc, MOST_HELD)?,
+            pending: Vec::with_capacity(alloc, MOST_PENDING)?,
             failed: false,
         })
     }
@@ -67,33 +68,33 @@ impl<W: Write + Drop> Buffered<W> {
     /// texts leave whole if they are no longer than the room for all.
     pub(crate) fn hold(&mut self, bytes: &[u8]) -> Result<usize, AllocError>
         ensures bound { IfOk result (λ n. n ≤ length bytes.now) }
-        ensures held { IfOk result (λ n. held self.new ≡ held self.old ++ take n bytes.now) }
-        ensures nothing { OnErr result (held self.new ≡ held self.old) }
+        ensures pending { IfOk result (λ n. pending self.new ≡ pending self.old ++ take n bytes.now) }
+        ensures nothing { OnErr result (pending self.new ≡ pending self.old) }
         ensures device { self.new.device ≡ self.old.device }
     {
-        let room = MOST_HELD - self.held.len();
+        let room = MOST_PENDING - self.pending.len();
         let taken = if bytes.len() <= room {
             bytes.len()
-        } else if self.held.is_empty() {
+        } else if self.pending.is_empty() {
             room
         } else {
             0
         };
-        self.held.extend_from_slice(&bytes[..taken])?;
+        self.pending.extend_from_slice(&bytes[..taken])?;
         Ok(taken)
     }
 
-    /// Sends what is held, from its front on. After a failure the rest is still held, and nothing more is sent.
-    pub(crate) fn send_held(&mut self) -> io::Result<()>
-        ensures device { Sends (W.contents self.old.device) (held self.old) (W.contents self.new.device) (held self.new) }
-        ensures sent { OnOk result (held self.new ≡ []) }
+    /// Sends what is pending, from its front on. After a failure the rest is still pending, and nothing more is sent.
+    pub(crate) fn send_pending(&mut self) -> io::Result<()>
+        ensures device { Sends (W.contents self.old.device) (pending self.old) (W.contents self.new.device) (pending self.new) }
+        ensures sent { OnOk result (pending self.new ≡ []) }
     {
         if self.failed {
             return Err(io::Error::from(ErrorKind::BrokenPipe));
         }
-        let sent = send(&mut self.device, self.held.as_slice());
-        remove_front(&mut self.held, sent);
-        if !self.held.is_empty() {
+        let sent = send(&mut self.device, self.pending.as_slice());
+        remove_front(&mut self.pending, sent);
+        if !self.pending.is_empty() {
             self.failed = true;
             return Err(io::Error::from(ErrorKind::BrokenPipe));
         }
@@ -109,7 +110,7 @@ impl<W: Write + Drop> Buffered<W> {
 }
 
 impl<W: Write + Drop> Write for Buffered<W> {
-    ghost use Rattle.olr_input.specs.Buffers.{held, written};
+    ghost use Rattle.olr_input.specs.Buffers.{pending, written};
 
     ghost contents = { λ b. written W.contents b };
 
@@ -119,11 +120,28 @@ impl<W: Write + Drop> Write for Buffered<W> {
         Ok(self.hold(bytes)?)
     }
 
-    /// Sends what is held.
+    /// Sends what is pending.
     fn flush(&mut self) -> io::Result<()>
         ensures bytes { Keeps (written W.contents self.old) (written W.contents self.new) }
-        ensures sent { OnOk result (held self.new ≡ []) }
+        ensures sent { OnOk result (pending self.new ≡ []) }
     {
-        self.send_held()
+        self.send_pending()
+    }
+}
+
+impl<W: Write + Drop> Buffered<W> {
+    ghost use Rattle.std.specs.Prelude.{IfErr};
+    ghost use Rattle.olr_input.specs.Buffers.{pending, written};
+
+    /// Sends what is pending, as `flush` does. `Write` is the fault if it can't be sent.
+    pub fn send_all(&mut self) -> Result<(), RunFault>
+        ensures bytes { Keeps (written W.contents self.old) (written W.contents self.new) }
+        ensures sent { OnOk result (pending self.new ≡ []) }
+        ensures fault { IfErr result (λ e. e ≡ RunFault.Write) }
+    {
+        match self.flush() {
+            Ok(()) => Ok(()),
+            Err(_error) => Err(RunFault::Write),
+        }
     }
 }

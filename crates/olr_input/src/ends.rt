@@ -31,7 +31,7 @@ pub enum RunFault {
     /// Out of memory for the reader's buffer, a record or a reply's text.
     #[error("no memory")]
     Memory,
-    /// There were more than 2^40 records.
+    /// There were more than 2^41 records.
     #[error("too many records")]
     TooMany,
 }

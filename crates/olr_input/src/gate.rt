@@ -10,7 +10,7 @@ ghost use Rattle.olr_input.specs.Journals as journals;
 ghost use Rattle.olr_input.specs.declared.unkept.Effect.TheVariants as effect;
 ghost use Rattle.olr_input.specs.KeptLines.{effect_of, kept_line};
 ghost use Rattle.olr_input.specs.Unkept.{waiting, next_line};
-ghost use Rattle.olr_input.specs.Buffers.{held};
+ghost use Rattle.olr_input.specs.Buffers.{pending};
 
 use crate::buffered::Buffered;
 use crate::ends::RunFault;
@@ -254,14 +254,14 @@ impl<J: Journal + Drop> Gate<J> {
     /// sent once the log has failed.
     pub fn send<W: Write + Drop>(&mut self, output: &mut Buffered<W>) -> Result<(), RunFault>
         ensures passes { Passes J.kept J.may_leave W.contents self.old output.old self.new output.new [] }
-        ensures sent { OnOk result (held output.new ≡ []) }
+        ensures sent { OnOk result (pending output.new ≡ []) }
         ensures kept { OnOk result ((ready self.new ≡ []) × (is_closed self.new ≡ false)) }
         ensures fault { IfErr result (λ e. e ≡ RunFault.Write) }
     {
         if !self.keep() {
             return Err(RunFault::Write);
         }
-        match output.send_held() {
+        match output.send_pending() {
             Ok(()) => Ok(()),
             Err(_error) => Err(RunFault::Write),
         }
@@ -340,9 +340,9 @@ fn twice(len: usize, least: usize) -> usize
 /// Holds back as many bytes as there is room for. `Write` is the fault if an allocation fails.
 fn hold<W: Write + Drop>(output: &mut Buffered<W>, bytes: &[u8]) -> Result<usize, RunFault>
     ensures bound { IfOk result (λ n. n ≤ length bytes.now) }
-    ensures held { IfOk result (λ n. held output.new ≡ held output.old ++ take n bytes.now) }
+    ensures pending { IfOk result (λ n. pending output.new ≡ pending output.old ++ take n bytes.now) }
     ensures device { output.new.device ≡ output.old.device }
-    ensures nothing { OnErr result (held output.new ≡ held output.old) }
+    ensures nothing { OnErr result (pending output.new ≡ pending output.old) }
     ensures fault { IfErr result (λ e. e ≡ RunFault.Write) }
 {
     match output.hold(bytes) {

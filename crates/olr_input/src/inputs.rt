@@ -1,44 +1,56 @@
-//! An input that is read as it is, or one record a line.
+//! The records of an input: as `csv` reads them, or one for each line.
 
-ghost use Rattle.std.specs.Prelude.{◌≡◌, IfOk};
+ghost use Rattle.std.specs.Prelude.{IfOk, IfSome};
 
-use crate::single_lines::SingleLines;
+use crate::ends::RunFault;
+use crate::line_records::LineRecords;
+use crate::sources::{Records, Source};
+use csv::ByteRecord;
 use std::alloc::{AllocError, Global};
-use std::io;
 use std::io::Read;
 
-/// An input, read as it is or one record a line.
+/// The records of an input.
 #[derive(Drop)]
 pub enum Input<R: Drop> {
-    /// As it is.
-    Plain(R),
-    /// One record a line.
-    Single(SingleLines<R>),
+    /// As `csv` reads them.
+    Csv(Records<R>),
+    /// One for each line that isn't empty.
+    Lines(LineRecords<R>),
 }
 
 impl<R: Read + Drop> Input<R> {
-    ghost use Rattle.olr_input.specs.Inputs.{read_as, read_from};
+    ghost use Rattle.olr_input.specs.Inputs.{InputLeft, input_records};
 
-    /// An input, one record a line if that is asked for.
+    /// The records of an input, one for each line if that is asked for.
+    #[tactic(auto, using(crate::proofs::SessionLemmas::known_left))]
     pub fn new(alloc: Global, input: R, single: bool) -> Result<Input<R>, AllocError>
-        ensures { IfOk result (λ i. read_from R.remaining i ≡ read_as single (R.remaining input)) }
+        ensures { IfOk result (λ i. IfSome (input_records single (R.remaining input)) (InputLeft R.remaining i)) }
     {
-        if !single {
-            return Ok(Input::Plain(input));
+        if single {
+            return Ok(Input::Lines(LineRecords::new(alloc, input)?));
         }
-        Ok(Input::Single(SingleLines::new(alloc, input)?))
+        Ok(Input::Csv(Records::new(alloc, input)?))
     }
 }
 
-impl<R: Read + Drop> Read for Input<R> {
-    ghost use Rattle.olr_input.specs.Inputs.{read_from};
+impl<R: Read + Drop> Source for Input<R> {
+    ghost use Rattle.olr_input.specs.Inputs.{InputLeft, input_failed};
 
-    ghost remaining = { read_from R.remaining };
+    ghost left = { InputLeft R.remaining };
 
-    fn read(&mut self, bytes: &mut [u8]) -> io::Result<usize> {
+    ghost failed = { input_failed };
+
+    fn next(&mut self, row: &mut ByteRecord) -> Result<bool, RunFault> {
         match self {
-            Input::Plain(input) => input.read(bytes),
-            Input::Single(lines) => lines.read(bytes),
+            Input::Csv(records) => records.next(row),
+            Input::Lines(records) => records.next(row),
+        }
+    }
+
+    fn may_wait(&self) -> bool {
+        match self {
+            Input::Csv(records) => records.may_wait(),
+            Input::Lines(records) => records.may_wait(),
         }
     }
 }

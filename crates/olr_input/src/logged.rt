@@ -1,9 +1,8 @@
 //! A session whose accepted changes are kept in a log.
 
-ghost use Rattle.std.specs.Prelude.{◌≡◌, ◌==◌};
+ghost use Rattle.std.specs.Prelude.{◌≡◌};
 ghost use Rattle.olr_input.specs.Gates as gates;
 ghost use Rattle.olr_input.specs.LoggedRuns.{LogHappens};
-ghost use Rattle.olr_input.specs.LoggedRuns as runs;
 
 use crate::buffered::Buffered;
 use crate::ends::RunFault;
@@ -40,16 +39,6 @@ impl<S: Source + Drop, J: Journal + Drop> Logged<S, J> {
     }
 }
 
-/// Whether a text is that of a fault.
-fn is_fault(text: &[u8]) -> bool
-    ensures { result ≡ runs.is_fault text.now }
-{
-    match text.first() {
-        Some(byte) => *byte == b'f',
-        None => false,
-    }
-}
-
 impl<S: Source + Drop, W: Write + Drop, J: Journal + Drop> Session<Buffered<W>> for Logged<S, J> {
     ghost happens = { λ a e b. LogHappens S.left W.contents J.Journal a.0 a.1 b.0 b.1 e };
 
@@ -65,8 +54,13 @@ impl<S: Source + Drop, W: Write + Drop, J: Journal + Drop> Session<Buffered<W>> 
         self.gate.take_found(found, fields)
     }
 
-    fn answer(&mut self, output: &mut Buffered<W>, text: &[u8]) -> Result<(), RunFault> {
-        self.gate.settle(!is_fault(text));
+    fn answer(
+        &mut self,
+        output: &mut Buffered<W>,
+        text: &[u8],
+        accepted: bool,
+    ) -> Result<(), RunFault> {
+        self.gate.settle(accepted);
         self.gate.write(output, text)
     }
 

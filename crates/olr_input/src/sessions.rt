@@ -25,9 +25,9 @@ pub trait Session<W> {
     fn take(&mut self, output: &mut W, fields: &mut ByteRecord) -> Result<bool, RunFault>
         ensures { TakesNext happens (self.old, output.old) (self.new, output.new) result (fields_of fields.new) };
 
-    /// Writes a text.
-    fn answer(&mut self, output: &mut W, text: &[u8]) -> Result<(), RunFault>
-        ensures { Writes happens (self.old, output.old) text.now (self.new, output.new) result };
+    /// Writes the text of an answer, which accepts the record that was taken last or rejects it.
+    fn answer(&mut self, output: &mut W, text: &[u8], accepted: bool) -> Result<(), RunFault>
+        ensures { Writes happens (self.old, output.old) text.now accepted (self.new, output.new) result };
 
     /// Whether the records of all that is accepted so far are asked for, to be kept in the place of a log.
     fn wants_records(&self) -> bool
@@ -81,7 +81,7 @@ impl<S: Source + Drop, W: Write> Session<W> for Plain<S> {
         self.source.next(fields)
     }
 
-    fn answer(&mut self, output: &mut W, text: &[u8]) -> Result<(), RunFault> {
+    fn answer(&mut self, output: &mut W, text: &[u8], _accepted: bool) -> Result<(), RunFault> {
         write_all(output, text)
     }
 

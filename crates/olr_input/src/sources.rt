@@ -1,12 +1,12 @@
-//! Sources of records. A stream is read by `csv`.
+//! Sources of records, and the records of an input as `csv` reads them.
 
 ghost use Rattle.std.specs.Prelude.{Bool, ℕ, List, IfOk};
 ghost use Rattle.csv.specs.Reading.{has_failed};
 ghost use Rattle.csv.specs.Records.{fields_of};
 ghost use Rattle.olr_input.specs.Sessions.{StaysPlain, TakesLeft, csv_left};
 
+use crate::blocks::Blocks;
 use crate::ends::RunFault;
-use crate::lines::Lines;
 use csv::{ByteRecord, ErrorKind, Reader, ReaderBuilder};
 use std::alloc::{AllocError, Global};
 use std::io::Read;
@@ -52,31 +52,31 @@ fn read_record<R: Read + Drop>(
 /// of fields.
 #[derive(Drop)]
 pub struct Records<R: Drop> {
-    reader: Reader<Lines<R>>,
+    reader: Reader<Blocks<R>>,
     ghost plain: { StaysPlain reader },
 }
 
 impl<R: Read + Drop> Records<R> {
-    ghost use Rattle.olr_input.specs.Buffers.{unread};
+    ghost use Rattle.olr_input.specs.Blocks.{input_left};
     ghost use Rattle.olr_input.specs.Sessions.{BeginsWith, csv_records};
 
     /// The records of an input.
     pub fn new(alloc: Global, input: R) -> Result<Records<R>, AllocError>
-        ensures { IfOk result (λ s. BeginsWith csv_records (csv_left (unread R.remaining) s.reader) (R.remaining input)) }
+        ensures { IfOk result (λ s. BeginsWith csv_records (csv_left (input_left R.remaining) s.reader) (R.remaining input)) }
     {
-        let lines = Lines::new(alloc, input)?;
+        let blocks = Blocks::new(alloc, input)?;
         let reader = ReaderBuilder::new()
             .has_headers(false)
             .flexible(true)
-            .from_reader(alloc, lines);
+            .from_reader(alloc, blocks);
         Ok(Records { reader })
     }
 }
 
 impl<R: Read + Drop> Source for Records<R> {
-    ghost use Rattle.olr_input.specs.Buffers.{unread};
+    ghost use Rattle.olr_input.specs.Blocks.{input_left};
 
-    ghost left = { λ s. csv_left (unread R.remaining) s.reader };
+    ghost left = { λ s. csv_left (input_left R.remaining) s.reader };
 
     ghost failed = { λ s. has_failed s.reader };
 

@@ -2,7 +2,7 @@ use Rattle.std.proofs.Common.{◌≡◌, ◌<◌, ◌-◌, ℕ, List, [], length
 use Rattle.std.proofs.lemmas.List.{with_items_is, places}
 use Rattle.std.specs.Io.KnownBytes.{IsAtEnd, prepend_known}
 use Rattle.std.specs.Vec.{with_items}
-use Rattle.olr_input.proofs.LineLemmas.{block_end}
+use Rattle.olr_input.proofs.BlockLemmas.{block_end}
 use Rattle.olr_input.proofs.blocks.Blocks.fill.Goals as goal
 
 pub returns-clause-end : goal.returns-clause-end

@@ -3,7 +3,7 @@ use Rattle.std.proofs.Math.Seq.{take-length}
 use Rattle.csv.specs.Machine.{next_record}
 use Rattle.csv.specs.Reading.{default_config}
 use Rattle.csv.specs.Records.{fields_of}
-use Rattle.olr_input.specs.InMemory.{csv_state}
+use Rattle.olr_input.specs.Machine.{csv_state}
 use Rattle.olr_input.specs.Sessions.{TakesOne}
 use Rattle.olr_input.proofs.CsvRecords.{Are, none_taken, one_taken}
 use Rattle.olr_input.proofs.in_memory.InMemorySource.next.Goals as goal

@@ -1,12 +1,12 @@
 use Rattle.std.proofs.Common.{◌∙◌, ap}
 use Rattle.csv.specs.Reading.{strip_bom}
 use Rattle.std.specs.Prelude.{option_map}
-use Rattle.olr_input.specs.Buffers.{unread}
+use Rattle.olr_input.specs.Blocks.{input_left}
 use Rattle.olr_input.proofs.SessionLemmas.{begins}
 use Rattle.olr_input.proofs.sources.Records.new.Goals as goal
 
 pub returns : goal.returns
 returns g c =
     let r = c.from_reader-reader.ensures in
-    begins (unread g.R.Read.remaining) c.from_reader-reader.result c.from_reader-reader.result (g.R.Read.remaining c.args.input) r.fresh r.state
-    (r.source ∙ ap (option_map strip_bom) c.in_ok-lines.ensures.unread)
+    begins (input_left g.R.Read.remaining) c.from_reader-reader.result c.from_reader-reader.result (g.R.Read.remaining c.args.input) r.fresh r.state
+    (r.source ∙ ap (option_map strip_bom) c.in_ok-blocks.ensures.left)

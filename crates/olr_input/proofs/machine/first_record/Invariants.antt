@@ -2,8 +2,8 @@ use Rattle.std.proofs.Common.{◌≡◌, ◌≤◌, ◌-◌, ◌++◌, [], take,
 use Rattle.csv.specs.Machine.{next_record}
 use Rattle.csv.specs.Reading.{default_config}
 use Rattle.csv.specs.Records.{fields_of, partial_of}
-use Rattle.olr_input.specs.InMemory.{csv_state}
-use Rattle.olr_input.proofs.in_memory.first_record.Given as goal
+use Rattle.olr_input.specs.Machine.{csv_state}
+use Rattle.olr_input.proofs.machine.first_record.Given as goal
 
 -- the first record is the one that the fields so far, the bytes of the next field so far, and the remaining bytes make
 abbrev pub invariant-bytes : goal.invariant-bytes

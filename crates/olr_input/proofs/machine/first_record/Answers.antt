@@ -1,10 +1,10 @@
 -- After each byte, the part that was read and the rest still make the same record.
 use Rattle.std.proofs.Common.{◌∙◌, arith}
 use Rattle.olr_input.proofs.CsvBytes.{did, copied, skipped, field_ended, record_ended, text_ended, none_left}
-use Rattle.olr_input.proofs.in_memory.first_record.Goals.{in-Copy, in-Skip+in_ok-extend_from_slice-in-Skip}
-use Rattle.olr_input.proofs.in_memory.first_record.Goals.{in-EndField+in_ok-end_field-in-EndField}
-use Rattle.olr_input.specs.declared.in_memory.Action.TheVariants as act
-use Rattle.olr_input.proofs.in_memory.first_record.Goals as goal
+use Rattle.olr_input.proofs.machine.first_record.Goals.{in-Copy, in-Skip+in_ok-extend_from_slice-in-Skip}
+use Rattle.olr_input.proofs.machine.first_record.Goals.{in-EndField+in_ok-end_field-in-EndField}
+use Rattle.olr_input.specs.declared.machine.Action.TheVariants as act
+use Rattle.olr_input.proofs.machine.first_record.Goals as goal
 
 pub bytes-preserved : goal.bytes-preserved
 bytes-preserved c =

@@ -1,0 +1,87 @@
+-- The blocks of an input.
+use Rattle.std.proofs.Common.{◌≡◌, ◌∙◌, ◌+◌, ◌-◌, ◌≤◌, ◌<◌, ℕ, List, [], ◌∷◌, ◌++◌, length, take, drop, Some, None, length-append}
+use Rattle.std.proofs.Common.{refl, sym, ap, subst, arith, length-take-le, min}
+use Rattle.std.proofs.lemmas.List.{append_assoc, take-append-drop, drop-drop, drop-take, take_at}
+use Rattle.std.specs.Io.KnownBytes.{Keeps, Consumes, IsAtEnd, prepend_known}
+use Rattle.olr_input.specs.Sessions.{Known}
+
+pub consumes_kept : (a b c : Known) (out : List ℕ) → Keeps a b → Consumes b c out → Consumes a c out
+consumes_kept None b c out h k = tt
+consumes_kept (Some xs) None c out h k = absurd h
+consumes_kept (Some xs) (Some ys) None out h k = k
+consumes_kept (Some xs) (Some ys) (Some zs) out h k = sym h ∙ k
+
+pub nothing_at_hand : (k : Known) (bytes : List ℕ) → prepend_known (take (0 - 0) (drop 0 bytes)) k ≡ k
+nothing_at_hand None bytes = refl
+nothing_at_hand (Some xs) bytes = refl
+
+pub block_read : (k l : Known) (before block : List ℕ) → before ≡ [] → Consumes k l block →
+    Keeps (prepend_known before k) (prepend_known block l)
+block_read None l before block none h = tt
+block_read (Some xs) None before block none h = h
+block_read (Some xs) (Some ys) before block none h = sym h ∙ ap (λ (b : List ℕ). b ++ xs) (sym none)
+
+pub block_lost : (k l : Known) (before : List ℕ) → before ≡ [] → Keeps k l →
+    Keeps (prepend_known before k) (prepend_known [] l)
+block_lost None l before none h = tt
+block_lost (Some xs) None before none h = h
+block_lost (Some xs) (Some ys) before none h = h ∙ ap (λ (b : List ℕ). b ++ xs) (sym none)
+
+pub none_behind : (l : Known) (block : List ℕ) → block ≡ [] → IsAtEnd l → IsAtEnd (prepend_known block l)
+none_behind None block none h = tt
+none_behind (Some xs) block none h = (λ i. none i ++ h i)
+
+-- nothing was read
+pub block_end : (l : Known) (bytes : List ℕ) (n : ℕ) → n ≤ length bytes → 0 < length bytes →
+    (n ≡ 0 → 0 < length bytes → IsAtEnd l) → take (n - 0) (drop 0 bytes) ≡ [] →
+    IsAtEnd (prepend_known (take (n - 0) (drop 0 bytes)) l)
+block_end l bytes n bound some end empty =
+    let size : n - 0 ≡ n = omega arith in
+    let none : take n bytes ≡ [] = ap (λ (k : ℕ). take k bytes) (sym size) ∙ empty in
+    let nothing : n ≡ 0 = sym (length-take-le n bytes bound) ∙ ap length none in
+    none_behind l (take (n - 0) (drop 0 bytes)) empty (end nothing some)
+
+pub block_after : (bytes : List ℕ) (start end n : ℕ) → start ≤ end → n ≤ end - start →
+    take (end - (start + n)) (drop (start + n) bytes) ≡ drop n (take (end - start) (drop start bytes))
+block_after bytes start end n order within =
+    let size : end - start ≡ n + (end - (start + n)) = omega arith in
+    ap (take (end - (start + n))) (sym (drop-drop n start bytes))
+    ∙ sym (drop-take n (end - (start + n)) (drop start bytes))
+    ∙ ap (λ (k : ℕ). drop n (take k (drop start bytes))) (sym size)
+
+-- what was copied to the front of a buffer
+pub front_copied : (copied rest bytes : List ℕ) (n : ℕ) → copied ≡ take n bytes → n ≤ length bytes →
+    take n (copied ++ rest) ≡ take n bytes
+front_copied copied rest bytes n is within =
+    take_at copied rest n (ap length is ∙ length-take-le n bytes within) ∙ is
+
+pub keeps_self : (a : Known) → Keeps a a
+keeps_self None = tt
+keeps_self (Some xs) = refl
+
+pub given_front : (k l : Known) (block later out : List ℕ) (n : ℕ) → l ≡ k → later ≡ drop n block → out ≡ take n block →
+    Consumes (prepend_known block k) (prepend_known later l) out
+given_front k l block later out n same drops is =
+    subst (λ (x : Known). Consumes (prepend_known block k) (prepend_known later x) out) (sym same) (by_known k)
+  where
+    by_known : (k : Known) → Consumes (prepend_known block k) (prepend_known later k) out
+    by_known None = tt
+    by_known (Some xs) =
+        ap (λ (b : List ℕ). b ++ xs) (sym (take-append-drop n block)) ∙ append_assoc (take n block) (drop n block) xs
+        ∙ (λ i. sym is i ++ (sym drops i ++ xs))
+
+-- none are given
+pub none_given : (k l : Known) (block later : List ℕ) (n m : ℕ) → l ≡ k → later ≡ drop n block → n ≡ min (length block) m →
+    (block ≡ [] → IsAtEnd (prepend_known block k)) → n ≡ 0 → 0 < m → IsAtEnd (prepend_known later l)
+none_given k l [] later n m same drops size end none room =
+    let is : later ≡ [] = drops ∙ ap (λ (j : ℕ). drop j []) none in
+    subst (λ (x : Known). IsAtEnd (prepend_known later x)) (sym same)
+    (subst (λ (b : List ℕ). IsAtEnd (prepend_known b k)) (sym is) (end refl))
+none_given k l (b ∷ block) later n m same drops size end none room = absurd (omega arith)
+
+pub has_room : (copied bytes : List ℕ) (n : ℕ) → length copied ≡ n → n ≡ 0 → 0 < length (copied ++ drop n bytes) →
+    0 < length bytes
+has_room copied bytes n size none some =
+    let all : length (copied ++ drop n bytes) ≡ length copied + length (drop n bytes) = length-append copied (drop n bytes) in
+    let rest : length (drop n bytes) ≡ length bytes = ap (λ (j : ℕ). length (drop j bytes)) none in
+    omega (arith, all, rest, size, none, some)
