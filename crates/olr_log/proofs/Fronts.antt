@@ -1,7 +1,7 @@
 -- The longest front that counts.
 use Rattle.olr_input.proofs.KeptLines.{whole_join}
 use Rattle.std.proofs.Common.{◌≡◌, ◌⊎◌, inl, inr, ℕ, zero, suc, ◌+◌, ◌-◌, ◌≤◌, ◌<◌, Bool, true, false, List, [], ◌∷◌, ◌++◌, length, take, drop, get_or, refl, sym, ◌∙◌, ap, arith, length-append, append_assoc}
-use Rattle.std.specs.Prelude.{◌==◌, ◌&&◌, not}
+use Rattle.std.specs.Prelude.{◌==◌, ◌&&◌, not, if◌then◌else◌}
 use Rattle.std.specs.List.{ends_with}
 use Rattle.std.specs.Str.{bytes_eq}
 use Rattle.std.proofs.lemmas.List.{append-nil, take-append-le, take-append-drop}
@@ -10,7 +10,6 @@ use Rattle.std.proofs.lemmas.Bool.{cases_Bool, cases_eq, and_parts, and_left, co
 use Rattle.olr_input.specs.Journals.{is_whole, is_whole_from, stays_open, is_empty, IsFront}
 use Rattle.olr_log.specs.Texts.{ends_blank, ends_blank_behind, counts, longest_front, recovered}
 
--- behind whole records a text is read afresh
 -- no text with a carriage return is whole
 pub return_ends : (o : Bool) (l x y : List ℕ) → is_whole_from o l (x ++ 13 ∷ y) ≡ false
 return_ends o l [] y = refl
@@ -49,11 +48,8 @@ longest_no n x c = cond-false _ _ _ c
 pub longest_within : (n : ℕ) (x z : List ℕ) → n ≤ length x → longest_front n (x ++ z) ≡ longest_front n x
 longest_within zero x z h = refl
 longest_within (suc n) x z h =
-    let same = take-append-le (suc n) x z h in
-    elim (cases_Bool (counts (take (suc n) x))) [
-      | inl c ↦ longest_yes n (x ++ z) (ap counts same ∙ c) ∙ same ∙ sym (longest_yes n x c)
-      | inr c ↦ longest_no n (x ++ z) (ap counts same ∙ c) ∙ longest_within n x z (omega arith) ∙ sym (longest_no n x c)
-    ]
+    ap (λ (t : List ℕ). if counts t then t else longest_front n (x ++ z)) (take-append-le (suc n) x z h)
+    ∙ ap (λ (r : List ℕ). if counts (take (suc n) x) then take (suc n) x else r) (longest_within n x z (omega arith))
 
 longest_whole : (t y : List ℕ) → counts t ≡ true → longest_front (length t) (t ++ y) ≡ t
 longest_whole [] y c = refl
@@ -100,25 +96,6 @@ longest_rest (suc n) x = elim (cases_Bool (counts (take (suc n) x))) [
   | inr c ↦ let more = longest_rest n x in (more.0, more.1 ∙ ap (λ (z : List ℕ). z ++ more.0) (sym (longest_no n x c)))
 ]
 
-longest_of_none : (n : ℕ) → longest_front n [] ≡ []
-longest_of_none zero = refl
-longest_of_none (suc n) = refl
-
-longest_none : (n : ℕ) (r : List ℕ) → longest_front (suc n) r ≡ [] → longest_front n r ≡ []
-longest_none n [] none = longest_of_none n
-longest_none n (b ∷ r) none = elim (cases_Bool (counts (take (suc n) (b ∷ r)))) [
-  | inl c ↦ let never : b ∷ take n r ≡ [] = sym (longest_yes n (b ∷ r) c) ∙ none in absurd (cc never)
-  | inr c ↦ sym (longest_no n (b ∷ r) c) ∙ none
-]
-
-longest_none_below : (m d : ℕ) (r : List ℕ) → longest_front (m + d) r ≡ [] → longest_front m r ≡ []
-longest_none_below m zero r none =
-    let same : m ≡ m + 0 = omega arith in
-    ap (λ (n : ℕ). longest_front n r) same ∙ none
-longest_none_below m (suc d) r none =
-    let up : suc (m + d) ≡ m + suc d = omega arith in
-    longest_none_below m d r (longest_none (m + d) r (ap (λ (n : ℕ). longest_front n r) up ∙ none))
-
 pub recovered_append : (t y : List ℕ) → counts t ≡ true → recovered (t ++ y) ≡ t ++ recovered y
 unfolding recovered
 recovered_append t y c = ap (λ (n : ℕ). longest_front n (t ++ y)) (length-append t y) ∙ longest_append t y (length y) c
@@ -138,16 +115,6 @@ recovered_rest x = longest_rest (length x) x
 pub recovered_same : (x : List ℕ) → counts x ≡ true → recovered x ≡ x
 unfolding recovered
 recovered_same x c = ap (λ (z : List ℕ). longest_front (length x) z) (sym (append-nil x)) ∙ longest_whole x [] c
-
--- a front of a text with no whole record has none
-pub recovered_front_none : (k : ℕ) (r : List ℕ) → recovered r ≡ [] → recovered (take k r) ≡ []
-unfolding recovered
-recovered_front_none k r none =
-    let front = take k r in
-    let parts : front ++ drop k r ≡ r = take-append-drop k r in
-    let long : length r ≡ length front + length (drop k r) = ap length (sym parts) ∙ length-append front (drop k r) in
-    sym (longest_within (length front) front (drop k r) (omega arith)) ∙ ap (λ (z : List ℕ). longest_front (length front) z) parts
-    ∙ longest_none_below (length front) (length (drop k r)) r (ap (λ (n : ℕ). longest_front n r) (sym long) ∙ none)
 
 -- what is recovered of a front of records is a front of them
 pub front_recovered : (k : ℕ) (records : List ℕ) → IsFront records (recovered (take k records))
@@ -186,13 +153,20 @@ recovered_spotted t records s z c h =
       recovered_append t (s ++ 13 ∷ z) c ∙ ap (λ (x : List ℕ). t ++ x) (ap recovered cut.2 ∙ recovered_stop (take cut.0 records) cut.1),
     )
 
--- what has no whole record has none with spots
-pub spotted_none : (r s : List ℕ) → recovered r ≡ [] → Spotted r s → recovered s ≡ []
-spotted_none r s none h =
-    let cut = spots r s [] h in
-    sym (recovered_stop s []) ∙ ap recovered cut.2 ∙ recovered_stop (take cut.0 r) cut.1 ∙ recovered_front_none cut.0 r none
+-- one byte is no whole record
+pub short_none : (s : List ℕ) → length s ≤ 1 → recovered s ≡ []
+unfolding recovered
+short_none [] short = refl
+short_none (b ∷ []) short = cond-false _ _ _ (none b)
+  where
+    none : (b : ℕ) → counts (b ∷ []) ≡ false
+    none b = elim (cases_eq b 10) [
+      | inl is ↦ ap (λ (x : ℕ). counts (x ∷ [])) is
+      | inr other ↦ grind arith
+    ]
+short_none (a ∷ b ∷ s) short = absurd (omega arith)
 
--- the same, from each byte
+-- spots, from each byte
 pub spotted_from : (r s : List ℕ) → length s ≡ length r → ((i : ℕ) → i < length r → (get_or s i 0 ≡ get_or r i 0) ⊎ (get_or s i 0 ≡ 13)) → Spotted r s
 spotted_from [] [] size each = tt
 spotted_from [] (b ∷ s) size each = absurd (omega arith)

@@ -1,9 +1,7 @@
 pub mod Fronts
 pub mod Padding
-pub mod Keeping
-pub mod Replacing
+pub mod Behind
+pub mod OwnTexts
+pub mod Crashes
 pub mod Scans
 pub mod Reading
-pub mod Blanking
-pub mod Settled
-pub mod Behind

@@ -1,32 +1,24 @@
 -- One byte more of a text that is read for the end of its whole records.
-use Rattle.std.proofs.Common.{◌≡◌, ◌⊎◌, inl, inr, ℕ, suc, ◌+◌, ◌-◌, ◌≤◌, ◌<◌, Bool, true, false, List, [], ◌∷◌, ◌++◌, length, take, drop, get_or, refl, sym, ◌∙◌, ap, subst, arith, length-append, length-take, length-drop, append_assoc}
+use Rattle.std.proofs.Common.{◌≡◌, ℕ, suc, ◌+◌, ◌≤◌, ◌<◌, Bool, true, false, List, [], ◌∷◌, ◌++◌, length, take, refl, sym, ◌∙◌, ap, subst, arith, length-append, length-take, append_assoc}
 use Rattle.std.specs.Prelude.{◌==◌, ◌&&◌, ◌||◌, not, if◌then◌else◌, codes}
 use Rattle.std.specs.Str.{bytes_eq}
-use Rattle.std.proofs.lemmas.List.{take-append-le, take-take, take_all, get_or_append_left, get_or-append-add, get_or-drop}
-use Rattle.std.proofs.lemmas.Bool.{cases_Bool, cases_lt, and_left, and_right, and_parts, and_cases, not-true, not-false, cond-true, cond-false, ne_eqb}
+use Rattle.std.proofs.lemmas.List.{take-append-le, take-take, take_all}
+use Rattle.std.proofs.lemmas.Bool.{and_left, and_right, cond-true, cond-false, ne_eqb}
 use Rattle.olr_input.specs.Journals.{is_whole_from, stays_open, is_empty}
-use Rattle.olr_log.specs.Texts.{counts, is_own, ends_blank, ends_blank_behind, longest_front, recovered}
+use Rattle.olr_log.specs.Texts.{counts, ends_blank, ends_blank_behind, longest_front, recovered, unpadded}
 use Rattle.olr_log.specs.declared.scan.Scan.{Scan}
-use Rattle.olr_log.specs.Files.{IsFound}
 use Rattle.olr_log.specs.Scanning.{StandsAt, Scanned}
-use Rattle.olr_log.proofs.Fronts.{recovered_stop, longest_within, longest_yes, longest_no, empty_snoc}
+use Rattle.olr_log.proofs.Behind.{unpadded_return, unpadded_other}
+use Rattle.olr_log.proofs.Fronts.{recovered_stop, longest_within, empty_snoc}
 
 -- with one byte more, a text is recovered as a whole, or as before
-recovered_snoc : (x : List ℕ) (b : ℕ) → counts (x ++ b ∷ []) ≡ false → recovered (x ++ b ∷ []) ≡ recovered x
+recovered_snoc : (x : List ℕ) (b : ℕ) → recovered (x ++ b ∷ []) ≡ (if counts (x ++ b ∷ []) then x ++ b ∷ [] else recovered x)
 unfolding recovered
-recovered_snoc x b none =
+recovered_snoc x b =
     let all = x ++ b ∷ [] in
     let size : length all ≡ suc (length x) = omega (arith, length-append x (b ∷ [])) in
-    let whole : take (suc (length x)) all ≡ all = take_all (suc (length x)) all (omega (arith, size)) in
-    ap (λ (n : ℕ). longest_front n all) size ∙ longest_no (length x) all (ap counts whole ∙ none) ∙ longest_within (length x) x (b ∷ []) (omega arith)
-
-recovered_all : (x : List ℕ) (b : ℕ) → counts (x ++ b ∷ []) ≡ true → recovered (x ++ b ∷ []) ≡ x ++ b ∷ []
-unfolding recovered
-recovered_all x b all_counts =
-    let all = x ++ b ∷ [] in
-    let size : length all ≡ suc (length x) = omega (arith, length-append x (b ∷ [])) in
-    let whole : take (suc (length x)) all ≡ all = take_all (suc (length x)) all (omega (arith, size)) in
-    ap (λ (n : ℕ). longest_front n all) size ∙ longest_yes (length x) all (ap counts whole ∙ all_counts) ∙ whole
+    ap (λ (n : ℕ). longest_front n all) size ∙ ap (λ (t : List ℕ). if counts t then t else longest_front (length x) all) (take_all (suc (length x)) all (omega (arith, size)))
+    ∙ ap (λ (r : List ℕ). if counts all then all else r) (longest_within (length x) x (b ∷ []) (omega arith))
 
 -- the last two bytes decide
 blank_last : (before : ℕ) (x : List ℕ) (a b : ℕ) → ends_blank_behind before (x ++ a ∷ b ∷ []) ≡ (a == 10 && b == 10)
@@ -87,7 +79,7 @@ byte_counts o begun x b s no_feed =
     and_left _ _ (s.rest (b ∷ []) ∙ cond-false _ _ _ (ne_eqb b 10 no_feed) ∙ and_right (not (b == 13)) _ (and_right (not o) _ (empty_snoc s.line b)))
 
 pub byte_recovered : (o : Bool) (begun x : List ℕ) (b : ℕ) (s : StandsAt o begun x) → (b ≡ 10 → ⊥) → recovered (x ++ b ∷ []) ≡ recovered x
-byte_recovered o begun x b s no_feed = recovered_snoc x b (byte_counts o begun x b s no_feed)
+byte_recovered o begun x b s no_feed = recovered_snoc x b ∙ cond-false _ _ _ (byte_counts o begun x b s no_feed)
 
 -- a line ends
 pub line_stands : (o : Bool) (begun x : List ℕ) (s : StandsAt o begun x) → StandsAt (stays_open o s.line) [] (x ++ 10 ∷ [])
@@ -107,48 +99,19 @@ line_counts o begun x s =
     whole true = refl
     whole false = refl
 
-pub line_recovered : (o : Bool) (begun x : List ℕ) (s : StandsAt o begun x) → stays_open o s.line ≡ false → is_empty begun ≡ false → recovered (x ++ 10 ∷ []) ≡ x ++ 10 ∷ []
-line_recovered o begun x s closed some =
-    let any : is_empty s.line ≡ false = sym (empty_front s.line) ∙ ap is_empty s.front ∙ some in
-    recovered_all x 10 (line_counts o begun x s ∙ ap (λ (p : Bool). not p && not (is_empty s.line)) closed ∙ ap (λ (q : Bool). not q) any)
-
-pub line_open : (o : Bool) (begun x : List ℕ) (s : StandsAt o begun x) → stays_open o s.line ≡ true → recovered (x ++ 10 ∷ []) ≡ recovered x
-line_open o begun x s opened = recovered_snoc x 10 (line_counts o begun x s ∙ ap (λ (p : Bool). not p && not (is_empty s.line)) opened)
-
-pub line_blank : (o : Bool) (begun x : List ℕ) (s : StandsAt o begun x) → is_empty begun ≡ true → recovered (x ++ 10 ∷ []) ≡ recovered x
-line_blank o begun x s none =
-    let nothing : is_empty s.line ≡ true = sym (empty_front s.line) ∙ ap is_empty s.front ∙ none in
-    recovered_snoc x 10 (line_counts o begun x s ∙ ap (λ (q : Bool). not (stays_open o s.line) && not q) nothing ∙ and_right (not (stays_open o s.line)) false refl)
-
 pub found_more : (n : ℕ) (x more : List ℕ) → n ≤ length x → take n x ≡ recovered x → recovered (x ++ more) ≡ recovered x → take n (x ++ more) ≡ recovered (x ++ more)
 found_more n x more within found same = take-append-le n x more within ∙ found ∙ sym same
 
-pub returns_more : (last : ℕ) (x : List ℕ) → ((i : ℕ) → last ≤ i → i < length x → get_or x i 0 ≡ 13) → (i : ℕ) → last ≤ i → i < length (x ++ 13 ∷ []) → get_or (x ++ 13 ∷ []) i 0 ≡ 13
-returns_more last x returns i low within = elim (cases_lt i (length x)) [
-  | inl inside ↦ get_or_append_left x (13 ∷ []) 0 i inside ∙ returns i low inside
-  | inr past ↦ let end : i ≡ length x + 0 = omega (arith, length-append x (13 ∷ [])) in ap (λ (j : ℕ). get_or (x ++ 13 ∷ []) j 0) end ∙ get_or-append-add x (13 ∷ []) 0 0
-]
-
-last_more : (last : ℕ) (x : List ℕ) (b : ℕ) → last ≤ length x → (0 < last → get_or x (last - 1) 0 ≡ 13 → ⊥) → 0 < last → get_or (x ++ b ∷ []) (last - 1) 0 ≡ 13 → ⊥
-last_more last x b within exact some is = exact some (sym (get_or_append_left x (b ∷ []) 0 (last - 1) (omega arith)) ∙ is)
-
 -- where whole records end, behind a line that ends
-line_found : (o : Bool) (begun x : List ℕ) (s : StandsAt o begun x) (later : Bool) → later ≡ stays_open o s.line → (at found new : ℕ) → at ≡ length x → found ≤ length x → take found x ≡ recovered x
-    → (((not later && not (is_empty begun)) ≡ true) × (new ≡ at + 1)) ⊎ (((not later && not (is_empty begun)) ≡ false) × (new ≡ found)) → (take new (x ++ 10 ∷ []) ≡ recovered (x ++ 10 ∷ [])) × (new ≤ length (x ++ 10 ∷ []))
-line_found o begun x s later is at found new here within so_far (inl ends) =
-    let parts = and_parts (not later) (not (is_empty begun)) ends.0 in
-    let long : new ≡ length (x ++ 10 ∷ []) = omega (arith, ends.1, here, length-append x (10 ∷ [])) in (
-      take_all new (x ++ 10 ∷ []) (omega (arith, long)) ∙ sym (line_recovered o begun x s (sym is ∙ not-true later parts.0) (not-true (is_empty begun) parts.1)),
-      omega (arith, long),
-    )
-line_found o begun x s later is at found new here within so_far (inr goes) =
-    let same : recovered (x ++ 10 ∷ []) ≡ recovered x = elim (and_cases (not later) (not (is_empty begun)) goes.0) [
-      | inl opened ↦ line_open o begun x s (sym is ∙ not-false later opened)
-      | inr none ↦ line_blank o begun x s (not-false (is_empty begun) none)
-    ] in (
-      ap (λ (n : ℕ). take n (x ++ 10 ∷ [])) goes.1 ∙ found_more found x (10 ∷ []) within so_far same,
-      omega (arith, goes.1, within, length-append x (10 ∷ [])),
-    )
+line_found : (x : List ℕ) (ends : Bool) → ends ≡ counts (x ++ 10 ∷ []) → (at found new : ℕ) → at ≡ length x → found ≤ length x → take found x ≡ recovered x
+    → new ≡ (if ends then at + 1 else found) → (take new (x ++ 10 ∷ []) ≡ recovered (x ++ 10 ∷ [])) × (new ≤ length (x ++ 10 ∷ []))
+line_found x true is at found new here within so_far new_is =
+    let long : new ≡ length (x ++ 10 ∷ []) = omega (arith, new_is, here, length-append x (10 ∷ [])) in
+    (take_all new (x ++ 10 ∷ []) (omega (arith, long)) ∙ sym (recovered_snoc x 10 ∙ cond-true _ _ _ (sym is)), omega (arith, long))
+line_found x false is at found new here within so_far new_is = (
+  ap (λ (n : ℕ). take n (x ++ 10 ∷ [])) new_is ∙ found_more found x (10 ∷ []) within so_far (recovered_snoc x 10 ∙ cond-false _ _ _ (sym is)),
+  omega (arith, new_is, within, length-append x (10 ∷ [])),
+)
 
 -- the state behind one byte more
 module _ (s new : Scan) (x : List ℕ) (known : Scanned s x) (at : new.at ≡ s.at + 1) where
@@ -161,20 +124,14 @@ module _ (s new : Scan) (x : List ℕ) (known : Scanned s x) (at : new.at ≡ s.
     found = ap (λ (n : ℕ). take n (x ++ 13 ∷ [])) found ∙ found_more s.found x (13 ∷ []) known.within known.found (recovered_stop x []);
     within = omega (arith, found, known.within, size 13);
     reach = omega (arith, last, known.reach, size 13);
-    returns = λ i low within. returns_more s.last x known.returns i (omega (arith, last, low)) within;
-    exact = subst (λ (n : ℕ). 0 < n → get_or (x ++ 13 ∷ []) (n - 1) 0 ≡ 13 → ⊥) (sym last) (last_more s.last x 13 known.reach known.exact);
+    rest = unpadded_return x ∙ known.rest ∙ sym (take-append-le s.last x (13 ∷ []) known.reach) ∙ ap (λ (n : ℕ). take n (x ++ 13 ∷ [])) (sym last);
     over = λ _ more. ap recovered (append_assoc x (13 ∷ []) more) ∙ recovered_stop x more ∙ sym (recovered_stop x []);
     stands = λ not_over. absurd (cc (over, not_over));
   })
 
-  no_returns : (b : ℕ) → new.last ≡ s.at + 1 → (i : ℕ) → new.last ≤ i → i < length (x ++ b ∷ []) → get_or (x ++ b ∷ []) i 0 ≡ 13
-  no_returns b last i low within = absurd (omega (arith, last, low, within, size b, known.at))
-
-  ends_here : (b : ℕ) → new.last ≡ s.at + 1 → (b ≡ 13 → ⊥) → 0 < new.last → get_or (x ++ b ∷ []) (new.last - 1) 0 ≡ 13 → ⊥
-  ends_here b last no_return some is =
-      let place : new.last - 1 ≡ length x + 0 = omega (arith, last, known.at) in
-      let here : get_or (x ++ b ∷ []) (new.last - 1) 0 ≡ b = ap (λ (j : ℕ). get_or (x ++ b ∷ []) j 0) place ∙ get_or-append-add x (b ∷ []) 0 0 in
-      no_return (sym here ∙ is)
+  -- it is no carriage return
+  all_left : (b : ℕ) → new.last ≡ s.at + 1 → (b ≡ 13 → ⊥) → unpadded (x ++ b ∷ []) ≡ take new.last (x ++ b ∷ [])
+  all_left b last other = unpadded_other x b other ∙ sym (take_all new.last (x ++ b ∷ []) (omega (arith, last, known.at, size b)))
 
   -- behind a carriage return nothing counts
   pub scanned_over : (b : ℕ) → new.found ≡ s.found → new.last ≡ s.at + 1 → new.is_over ≡ s.is_over → s.is_over ≡ true → (b ≡ 13 → ⊥) → Scanned new (x ++ b ∷ [])
@@ -183,8 +140,7 @@ module _ (s new : Scan) (x : List ℕ) (known : Scanned s x) (at : new.at ≡ s.
     found = ap (λ (n : ℕ). take n (x ++ b ∷ [])) found ∙ found_more s.found x (b ∷ []) known.within known.found (known.over over (b ∷ []));
     within = omega (arith, found, known.within, size b);
     reach = omega (arith, last, known.at, size b);
-    returns = no_returns b last;
-    exact = ends_here b last no_return;
+    rest = all_left b last no_return;
     over = λ _ more. ap recovered (append_assoc x (b ∷ []) more) ∙ known.over over (b ∷ more) ∙ sym (known.over over (b ∷ []));
     stands = λ not_over. absurd (cc (over, same, not_over));
   }
@@ -198,8 +154,7 @@ module _ (s new : Scan) (x : List ℕ) (known : Scanned s x) (at : new.at ≡ s.
         found = ap (λ (n : ℕ). take n (x ++ b ∷ [])) found ∙ found_more s.found x (b ∷ []) known.within known.found (byte_recovered s.is_open s.begun.items x b stands no_feed);
         within = omega (arith, found, known.within, size b);
         reach = omega (arith, last, known.at, size b);
-        returns = no_returns b last;
-        exact = ends_here b last no_return;
+        rest = all_left b last no_return;
         over = λ over. absurd (cc (goes, same, over));
         stands = λ _. subst (λ (o : Bool). StandsAt o new.begun.items (x ++ b ∷ [])) (sym opened) (byte_stands s.is_open s.begun.items new.begun.items x b stands no_feed no_return (front stands.line stands.front));
       }
@@ -212,35 +167,17 @@ module _ (s new : Scan) (x : List ℕ) (known : Scanned s x) (at : new.at ≡ s.
   scanned_line b is last same goes opened begun found =
       let stands = known.stands goes in
       let open_is : new.is_open ≡ stays_open s.is_open stands.line = opened ∙ stays_front s.is_open stands.line s.begun.items stands.front in
-      let whole : (((not new.is_open && not (is_empty s.begun.items)) ≡ true) × (new.found ≡ s.at + 1)) ⊎ (((not new.is_open && not (is_empty s.begun.items)) ≡ false) × (new.found ≡ s.found)) =
-      elim (cases_Bool (not new.is_open && not (is_empty s.begun.items))) [
-        | inl ends ↦ inl (ends, found ∙ cond-true _ _ _ ends)
-        | inr none ↦ inr (none, found ∙ cond-false _ _ _ none)
-      ] in
-      let ends = line_found s.is_open s.begun.items x stands new.is_open open_is s.at s.found new.found known.at known.within known.found whole in
+      let empty : is_empty s.begun.items ≡ is_empty stands.line = sym (ap is_empty stands.front) ∙ empty_front stands.line in
+      let counted : (not new.is_open && not (is_empty s.begun.items)) ≡ counts (x ++ 10 ∷ []) =
+      ap (λ (p : Bool). not p && not (is_empty s.begun.items)) open_is ∙ ap (λ (q : Bool). not (stays_open s.is_open stands.line) && not q) empty ∙ sym (line_counts s.is_open s.begun.items x stands) in
+      let ends = line_found x (not new.is_open && not (is_empty s.begun.items)) counted s.at s.found new.found known.at known.within known.found found in
       subst (λ (n : ℕ). Scanned new (x ++ n ∷ [])) (sym is) (record {
         at = at ∙ ap (λ (n : ℕ). n + 1) known.at ∙ sym (size 10);
         found = ends.0;
         within = ends.1;
         reach = omega (arith, last, known.at, size 10);
-        returns = no_returns 10 last;
-        exact = ends_here 10 last (λ never. omega (arith, never));
+        rest = all_left 10 last (λ never. omega (arith, never));
         over = λ over. absurd (cc (goes, same, over));
         stands = λ _. subst (λ (o : Bool). StandsAt o new.begun.items (x ++ 10 ∷ [])) (sym open_is)
             (subst (λ (begun : List ℕ). StandsAt (stays_open s.is_open stands.line) begun (x ++ 10 ∷ [])) (sym begun) (line_stands s.is_open s.begun.items x stands));
       })
-
--- a file whose bytes behind the first line were all taken
-pub found_from_scan : (s : Scan) (file : List ℕ) → Scanned s (drop 1 file) → is_own file ≡ true → 0 < length file → IsFound s.found s.last file
-found_from_scan s file known own some = record {
-  own = own;
-  text = sym known.found;
-  within = omega (arith, known.within, length-drop 1 file);
-  reach = omega (arith, known.reach, length-drop 1 file);
-  returns = λ i low within.
-      let place : 1 + (i - 1) ≡ i = omega (arith, low) in
-      ap (λ (j : ℕ). get_or file j 0) (sym place) ∙ sym (get_or-drop 1 file (i - 1) 0) ∙ known.returns (i - 1) (omega (arith, low)) (omega (arith, low, within, length-drop 1 file));
-  exact = λ above is.
-      let place : 1 + (s.last - 1) ≡ s.last = omega (arith, above) in
-      known.exact above (get_or-drop 1 file (s.last - 1) 0 ∙ ap (λ (j : ℕ). get_or file j 0) place ∙ is);
-}

@@ -1,5 +1,6 @@
 pub mod Texts
 pub mod Files
+pub mod States
 pub mod Scanning
 pub mod Reads
 pub mod Noting

@@ -1,19 +1,28 @@
 -- What a log keeps, and the texts with which the next run may begin.
-use Rattle.std.specs.Prelude.{ℕ, ◌+◌, ◌-◌, Bool, not, ◌||◌, if◌then◌else◌, Option, List, [], take, drop}
+use Rattle.std.specs.Prelude.{ℕ, ◌+◌, ◌-◌, Bool, Option, List, [], take, drop}
 use Rattle.std.specs.declared.io.Error.{Error}
 use Rattle.sqlite_disk.specs.declared.Disk as disk
 use Rattle.olr_log.specs.declared.folder.Folder as folder
 use Rattle.olr_log.specs.declared.log_file.LogFile.{LogFile}
-use Rattle.olr_log.specs.Files.{kept_in}
+use Rattle.olr_log.specs.declared.state.State.{State}
+use Rattle.olr_log.specs.declared.state.State.TheVariants.{Foreign, Opened, Ready, Broken}
+use Rattle.olr_log.specs.States.{kept_in, size_in, is_own_in, is_ready_in, is_broken_in}
 use Rattle.olr_log.specs.Outcomes.{MayLeave}
+
+-- what stands behind the text of an opened log, up to the last byte that isn't a carriage return
+abbrev pub left_over_in : State → List ℕ → List ℕ
+left_over_in (Foreign len) file = []
+left_over_in (Opened n last len) file = take (last - n) (drop (n + 1) file)
+left_over_in (Ready n len) file = []
+left_over_in Broken file = []
 
 module _ {D F : Type 0} {d : disk.Ghosts D} {f : folder.Ghosts F D} where
   abbrev pub kept_of : LogFile D F d f → List ℕ
-  kept_of log = kept_in log.is_own log.text_len (d.seen log.disk)
+  kept_of log = kept_in log.state (d.seen log.disk)
 
   -- how many bytes the log counts in its text
   abbrev pub size_of : LogFile D F d f → ℕ
-  size_of log = log.text_len
+  size_of log = size_in log.state
 
   abbrev pub left_of : LogFile D F d f → List ℕ → Type 0
   left_of log = MayLeave d.is_clean d.may_leave (f.may_lead log.folder) log.number log.disk log.rival
@@ -28,21 +37,21 @@ module _ {D F : Type 0} {d : disk.Ghosts D} {f : folder.Ghosts F D} where
   abbrev pub refusal_of : LogFile D F d f → Option Error
   refusal_of log = log.refusal
 
+  -- the file begins with an empty line, unless a call failed
   abbrev pub is_own_of : LogFile D F d f → Bool
-  is_own_of log = log.is_own
+  is_own_of log = is_own_in log.state
 
   -- records can be written behind the text
   abbrev pub is_ready : LogFile D F d f → Bool
-  is_ready log = log.is_settled
+  is_ready log = is_ready_in log.state
 
   -- a call failed, and nothing more can be kept
   abbrev pub is_broken_of : LogFile D F d f → Bool
-  is_broken_of log = log.is_broken
+  is_broken_of log = is_broken_in log.state
 
   -- the disk has done what it reported
   abbrev pub is_clean : LogFile D F d f → Bool
   is_clean log = d.is_clean log.disk
 
-  -- what stands behind the text of an opened log, up to the last byte that isn't a carriage return
   abbrev pub left_over_of : LogFile D F d f → List ℕ
-  left_over_of log = if log.is_settled || log.is_broken || not log.is_own then [] else take (log.last + 1 - (log.text_len + 1)) (drop (log.text_len + 1) (d.seen log.disk))
+  left_over_of log = left_over_in log.state (d.seen log.disk)

@@ -1,7 +1,7 @@
 -- What is known of a text while it is read for the end of its whole records.
-use Rattle.std.specs.Prelude.{◌≡◌, ℕ, ◌-◌, ◌<◌, ◌≤◌, Bool, true, false, List, [], ◌∷◌, ◌++◌, length, take, slice_index}
+use Rattle.std.specs.Prelude.{◌≡◌, ℕ, ◌≤◌, Bool, true, false, List, [], ◌∷◌, ◌++◌, length, take}
 use Rattle.olr_input.specs.Journals.{is_whole_from, is_empty}
-use Rattle.olr_log.specs.Texts.{ends_blank, recovered}
+use Rattle.olr_log.specs.Texts.{ends_blank, recovered, unpadded}
 use Rattle.olr_log.specs.declared.scan.Scan.{Scan}
 
 -- how the next record is read behind a text: whether a batch is open, and the first 8 bytes of the line that has begun
@@ -16,7 +16,6 @@ pub record Scanned (s : Scan) (text : List ℕ) : Type 0 where
   pub found : take s.found text ≡ recovered text
   pub within : s.found ≤ length text
   pub reach : s.last ≤ length text
-  pub returns : (i : ℕ) → s.last ≤ i → i < length text → slice_index text i ≡ 13
-  pub exact : 0 < s.last → slice_index text (s.last - 1) ≡ 13 → ⊥
+  pub rest : unpadded text ≡ take s.last text
   pub over : s.is_over ≡ true → (more : List ℕ) → recovered (text ++ more) ≡ recovered text
   pub stands : s.is_over ≡ false → StandsAt s.is_open s.begun.items text

@@ -4,9 +4,9 @@
 ghost use Rattle.std.specs.Prelude.{◌≡◌, ◌<◌, ◌≤◌, ◌^◌, [], ◌∷◌, length, IfOk};
 ghost use Rattle.sqlite_disk.specs.Events.{settled};
 
-use crate::noted::Noted;
+use crate::noted::{Call, Noted};
 use crate::writes::BLOCK;
-use sqlite_disk::{Calls, is_no_room};
+use sqlite_disk::Calls;
 use std::os::unix::fs::FileExt;
 use std::{fs, io};
 
@@ -30,7 +30,7 @@ impl HostFile {
         file.sync_all()?;
         folder.sync_all()?;
         let mut calls = Noted::none();
-        calls.add(&[0, 0, 0, 1], &[]);
+        calls.add(&Call::Settled);
         Ok(HostFile { file, calls })
     }
 }
@@ -83,63 +83,54 @@ impl Calls for HostFile {
 
     fn len(&mut self) -> io::Result<usize> {
         let answer = size(&self.file);
-        match answer {
-            Ok(n) => self.calls.add(&[1, n as u64, 0, 1], &[]),
-            Err(_) => self.calls.add(&[1, 0, 0, 0], &[]),
-        }
+        self.calls.add(&Call::Measured(&answer));
         answer
     }
 
     fn read_some(&mut self, at: usize, buf: &mut [u8]) -> io::Result<usize> {
-        let (place, asked) = (at as u64, buf.len() as u64);
         let answer = read(&self.file, at, buf);
-        match answer {
-            Ok(n) => self.calls.add(&[2, place, asked, 1], &buf[..n]),
-            Err(_) => self.calls.add(&[2, place, asked, 0], &[]),
-        }
+        self.calls.add(&Call::Read {
+            at,
+            bytes: buf,
+            answer: &answer,
+        });
         answer
     }
 
     fn read_under(&mut self, key: u64, want: u64, at: usize, buf: &mut [u8]) -> io::Result<usize> {
-        let (place, asked) = (at as u64, buf.len() as u64);
         let answer = read(&self.file, at, buf);
-        match answer {
-            Ok(n) => self.calls.add(&[6, place, asked, 1, key, want], &buf[..n]),
-            Err(_) => self.calls.add(&[6, place, asked, 0, key, want], &[]),
-        }
+        self.calls.add(&Call::ReadUnder {
+            key,
+            want,
+            at,
+            bytes: buf,
+            answer: &answer,
+        });
         answer
     }
 
     fn write_some(&mut self, at: usize, bytes: &[u8]) -> io::Result<usize> {
         let answer = write(&self.file, at, bytes);
-        match answer {
-            Ok(n) => self.calls.add(&[3, at as u64, n as u64, 1], bytes),
-            Err(error) => self
-                .calls
-                .add(&[3, at as u64, u64::from(is_no_room(&error)), 0], bytes),
-        }
+        self.calls.add(&Call::Written {
+            at,
+            bytes,
+            answer: &answer,
+        });
         answer
     }
 
     fn resize(&mut self, len: usize) -> io::Result<()> {
         let answer = self.file.set_len(len as u64);
-        match answer {
-            Ok(()) => self.calls.add(&[4, len as u64, 0, 1], &[]),
-            Err(error) => self
-                .calls
-                .add(&[4, len as u64, u64::from(is_no_room(&error)), 0], &[]),
-        }
+        self.calls.add(&Call::Resized {
+            len,
+            answer: &answer,
+        });
         answer
     }
 
     fn sync(&mut self) -> io::Result<()> {
         let answer = self.file.sync_data();
-        match answer {
-            Ok(()) => self.calls.add(&[5, 0, 0, 1], &[]),
-            Err(error) => self
-                .calls
-                .add(&[5, 0, u64::from(is_no_room(&error)), 0], &[]),
-        }
+        self.calls.add(&Call::Synced(&answer));
         answer
     }
 }

@@ -1,6 +1,7 @@
 //! The log of a run, in a file: a `Journal` over any disk.
 #![tactic(auto)]
 
+mod changes;
 mod folder;
 mod host;
 mod log_file;
@@ -10,6 +11,7 @@ mod opening;
 mod place;
 mod reads;
 mod scan;
+mod state;
 mod writes;
 
 pub use folder::Folder;

@@ -1,14 +1,16 @@
 //! A log in a file: text, and carriage returns behind it.
 
-ghost use Rattle.std.specs.Prelude.{◌≡◌, ◌⊎◌, ◌+◌, ◌-◌, ◌<◌, ◌≤◌, ℕ, List, ◌++◌, length, replicate, true, false, if◌then◌else◌, IsTrue, IfOk, OnOk, OnErr, IsErr, IsNone, IsSome, ⊤, MatchOption, Option};
+ghost use Rattle.std.specs.Prelude.{◌≡◌, ◌⊎◌, ◌+◌, ◌<◌, ℕ, List, ◌++◌, length, replicate, true, false, if◌then◌else◌, IsTrue, IfOk, OnOk, OnErr, IsErr, IsNone, IsSome, Option};
 ghost use Rattle.sqlite_disk.specs.Disk.{Only};
 ghost use Rattle.olr_input.specs.Journals.{MayHaveKept, is_whole};
-ghost use Rattle.olr_log.specs.Texts.{ends_blank, padded};
-ghost use Rattle.olr_log.specs.Files.{IsOpened, IsPadded, kept_in};
+ghost use Rattle.olr_log.specs.Files.{text_in};
+ghost use Rattle.olr_log.specs.States.{Stands, Stands-prop, is_broken_in, kept_in, size_in};
 ghost use Rattle.olr_log.specs.Outcomes.{MayLeave, LeavesText};
 
+use crate::changes::append;
 use crate::folder::Folder;
-use crate::writes::{extend, fill, put};
+use crate::state::State;
+use crate::writes::{fill, is_blank_at_end};
 use olr_input::Journal;
 use sqlite_disk::Disk;
 use std::io;
@@ -23,37 +25,15 @@ pub struct LogFile<D: Disk, F: Folder<D>> {
     pub(crate) number: u64,
     /// The next file, if it isn't known to which the name of the log leads.
     pub(crate) rival: Option<D>,
-    /// The file begins with an empty line.
-    pub(crate) is_own: bool,
-    /// Nothing more can be kept.
-    pub(crate) is_broken: bool,
-    /// Records can be written behind the text.
-    pub(crate) is_settled: bool,
-    pub(crate) text_len: usize,
-    /// From this byte behind the first line on, an opened file has none but carriage returns.
-    pub(crate) last: usize,
-    pub(crate) file_len: usize,
+    pub(crate) state: State,
     /// Why it was not replaced, the last time.
     pub(crate) refusal: Option<io::Error>,
     /// Carriage returns.
     pub(crate) returns: Vec<u8>,
     ghost any_returns: { 0 < length returns.items },
     ghost all_returns: { returns.items ≡ replicate (length returns.items) 13 },
-    ghost usable: { is_broken ≡ false → IsTrue (D.Disk.is_usable disk) },
-    ghost durable: { is_broken ≡ false → Only (D.Disk.seen disk) (D.Disk.may_leave disk) },
-    ghost led: { is_broken ≡ false → (n : ℕ) → F.Folder.may_lead folder n → n ≡ number },
-    ghost opened: { is_broken ≡ false → is_settled ≡ false → IsOpened is_own text_len last file_len (D.Disk.is_clean disk) (D.Disk.seen disk) },
-    ghost own: { is_settled ≡ true → (is_broken ≡ false) × (is_own ≡ true) },
-    ghost room: { is_settled ≡ true → (text_len + 1 < file_len) × (text_len + 1 ≤ length (D.Disk.seen disk)) },
-    ghost padded: { is_settled ≡ true → D.Disk.is_clean disk ≡ true → (length (D.Disk.seen disk) ≡ file_len) × IsPadded text_len (D.Disk.seen disk) },
-}
-
-/// Whether a text ends in an empty line.
-#[tactic(auto, using(crate::proofs::Fronts::blank_by))]
-fn is_blank_at_end(text: &[u8]) -> bool
-    ensures { result ≡ ends_blank text.now }
-{
-    text == b"\n".as_slice() || text.ends_with(b"\n\n")
+    ghost stands: { Stands D.Disk disk state } by { Stands-prop D.Disk disk state },
+    ghost led: { is_broken_in state ≡ false → (n : ℕ) → F.Folder.may_lead folder n → n ≡ number },
 }
 
 /// A file that was written beside the log and put in its place.
@@ -73,13 +53,11 @@ fn write_in_place<D: Disk + Drop, F: Folder<D>>(
     records: &[u8],
     returns: &[u8],
 ) -> io::Result<Made<D>>
+    requires whole { IsTrue (is_whole records.now) }
     requires some { 0 < length returns.now }
     requires returns { returns.now ≡ replicate (length returns.now) 13 }
-    ensures usable { IfOk result (λ made. IsTrue (D.Disk.is_usable made.disk)) }
-    ensures file { IfOk result (λ made. D.Disk.seen made.disk ≡ padded records.now (made.len - (length records.now + 1))) }
-    ensures len { IfOk result (λ made. length records.now + 1 < made.len) }
-    ensures durable { IfOk result (λ made. Only (D.Disk.seen made.disk) (D.Disk.may_leave made.disk)) }
-    ensures counts { IfOk result (λ made. ends_blank records.now ≡ false) }
+    ensures stands { IfOk result (λ made. Stands D.Disk made.disk (State.Ready (length records.now) made.len)) }
+    ensures kept { IfOk result (λ made. text_in (length records.now) (D.Disk.seen made.disk) ≡ records.now) }
     ensures number { IfOk result (λ made. made.number ≡ old + 1) }
     ensures refused { OnErr result ((n : ℕ) → F.Folder.may_lead folder.new n → F.Folder.may_lead folder.old n) }
     ensures placed { IfOk result (λ made. IsNone made.doubt → (n : ℕ) → F.Folder.may_lead folder.new n → n ≡ old + 1) }
@@ -121,9 +99,9 @@ impl<D: Disk + Drop, F: Folder<D>> Journal for LogFile<D, F> {
     ghost use Rattle.olr_log.specs.Logs.{kept_of, size_of, left_of, refusal_of, is_own_of, is_ready, is_broken_of};
     ghost use Rattle.olr_log.specs.Logs.{is_clean};
 
-    ghost kept = { λ j. kept_in j.is_own j.text_len (D.Disk.seen j.disk) };
+    ghost kept = { λ j. kept_in j.state (D.Disk.seen j.disk) };
 
-    ghost size = { λ j. j.text_len };
+    ghost size = { λ j. size_in j.state };
 
     ghost refuses = { λ _ _ j. IsSome (refusal_of j) };
 
@@ -139,25 +117,17 @@ impl<D: Disk + Drop, F: Folder<D>> Journal for LogFile<D, F> {
         ensures broken { OnErr result (is_broken_of self.new ≡ true) }
         ensures unready { is_ready self.old ≡ false → IsErr result }
     {
-        let is_settled = self.is_settled;
-        self.is_settled = false;
-        self.is_broken = true;
-        if !is_settled {
+        let state = self.state;
+        self.state = State::Broken;
+        let State::Ready { text_len, len } = state else {
             return Err(io::ErrorKind::InvalidInput.into());
-        }
-        if is_blank_at_end(records) {
-            return Err(io::ErrorKind::InvalidInput.into());
-        }
-        let at = self.text_len + 1;
-        let end = at
-            .checked_add(records.len())
-            .ok_or(io::ErrorKind::FileTooLarge)?;
-        self.file_len = extend(&mut self.disk, self.file_len, end, &self.returns)?;
-        put(&mut self.disk, at, records)?;
-        self.text_len += records.len();
+        };
+        let len = append(&mut self.disk, text_len, len, records, &self.returns)?;
         self.folder.note_written();
-        self.is_broken = false;
-        self.is_settled = true;
+        self.state = State::Ready {
+            text_len: text_len + records.len(),
+            len,
+        };
         Ok(())
     }
 
@@ -174,7 +144,7 @@ impl<D: Disk + Drop, F: Folder<D>> Journal for LogFile<D, F> {
         ensures broken { OnErr result (is_broken_of self.new ≡ true) }
         ensures again { is_broken_of self.old ≡ true → IsErr result }
     {
-        if self.is_broken {
+        if self.state.is_broken() {
             return Err(io::ErrorKind::InvalidInput.into());
         }
         let made = match write_in_place(&mut self.folder, self.number, records, &self.returns) {
@@ -185,8 +155,7 @@ impl<D: Disk + Drop, F: Folder<D>> Journal for LogFile<D, F> {
             }
         };
         if let Some(error) = made.doubt {
-            self.is_settled = false;
-            self.is_broken = true;
+            self.state = State::Broken;
             self.rival = Some(made.disk);
             return Err(error);
         }
@@ -194,10 +163,10 @@ impl<D: Disk + Drop, F: Folder<D>> Journal for LogFile<D, F> {
         self.disk = made.disk;
         self.number = made.number;
         self.rival = None;
-        self.is_own = true;
-        self.is_settled = true;
-        self.text_len = records.len();
-        self.file_len = made.len;
+        self.state = State::Ready {
+            text_len: records.len(),
+            len: made.len,
+        };
         Ok(true)
     }
 
@@ -211,10 +180,13 @@ impl<D: Disk + Drop, F: Folder<D>> Journal for LogFile<D, F> {
         ensures ready { is_ready self.now ≡ true → result ≡ length (kept_of self.now) }
         ensures opened { is_broken_of self.now ≡ false → is_clean self.now ≡ true → result ≡ length (kept_of self.now) }
     {
-        self.text_len
+        self.state.text_len()
     }
 
     fn is_in_place(&self) -> bool {
-        self.folder.is_in_place(self.file_len)
+        match self.state.file_len() {
+            Some(len) => self.folder.is_in_place(len),
+            None => false,
+        }
     }
 }

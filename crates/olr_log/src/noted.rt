@@ -5,7 +5,41 @@ ghost use Rattle.std.specs.Borrow.{ftrue};
 ghost use Rattle.sqlite_disk.specs.Events.{Event};
 ghost use Rattle.olr_log.specs.Noting.{event_of};
 
+use std::io;
 use std::marker::{Model, PhantomData};
+
+/// A call of the system on a file, with its answer.
+#[derive(Clone, Copy)]
+pub enum Call<'a> {
+    /// It was synced as it was opened.
+    Settled,
+    Measured(&'a io::Result<usize>),
+    /// So many of these bytes were read.
+    Read {
+        at: usize,
+        bytes: &'a [u8],
+        answer: &'a io::Result<usize>,
+    },
+    /// The same, of bytes that will be tested against a digest under a key.
+    ReadUnder {
+        key: u64,
+        want: u64,
+        at: usize,
+        bytes: &'a [u8],
+        answer: &'a io::Result<usize>,
+    },
+    /// So many of these bytes were written.
+    Written {
+        at: usize,
+        bytes: &'a [u8],
+        answer: &'a io::Result<usize>,
+    },
+    Resized {
+        len: usize,
+        answer: &'a io::Result<()>,
+    },
+    Synced(&'a io::Result<()>),
+}
 
 #[derive(Drop)]
 pub struct Noted {
@@ -26,8 +60,8 @@ impl Noted {
         }
     }
 
-    /// One call more, by the numbers of an event and the bytes that went with it.
-    pub(crate) fn add(&mut self, _numbers: &[u64], _bytes: &[u8])
-        ensures { self.new.events ≡ event_of _numbers.now _bytes.now ∷ self.old.events }
+    /// One call more.
+    pub(crate) fn add(&mut self, _call: &Call<'_>)
+        ensures { self.new.events ≡ event_of _call.now ∷ self.old.events }
     {}
 }

@@ -6,10 +6,12 @@ ghost use Rattle.olr_input.specs.Journals.{Only};
 ghost use Rattle.olr_log.specs.Texts.{text_of, is_own, left_behind};
 ghost use Rattle.olr_log.specs.Files.{IsPaddedText};
 
+use crate::changes::{cut_off, wipe};
 use crate::folder::Folder;
 use crate::log_file::LogFile;
 use crate::reads::{copy_range, examine, read_exact};
-use crate::writes::{BLOCK, blank, carriage_returns, cut};
+use crate::state::State;
+use crate::writes::{BLOCK, carriage_returns};
 use sqlite_disk::Disk;
 use std::alloc::Global;
 use std::io;
@@ -33,19 +35,14 @@ impl<D: Disk + Drop, F: Folder<D>> LogFile<D, F> {
         ensures durable { IfOk result (λ log. Only (kept_of log) (left_of log)) }
     {
         let mut disk = disk;
-        let ends = examine(alloc, &mut disk)?;
+        let state = examine(alloc, &mut disk)?;
         let returns = carriage_returns(alloc, BLOCK)?;
         Ok(LogFile {
             disk,
             folder,
             number: 0,
             rival: None,
-            is_own: ends.own,
-            is_broken: false,
-            is_settled: false,
-            text_len: ends.text_len,
-            last: ends.last,
-            file_len: ends.file_len,
+            state,
             refusal: None,
             returns,
         })
@@ -63,22 +60,25 @@ impl<D: Disk + Drop, F: Folder<D>> LogFile<D, F> {
     pub fn is_own(&self) -> bool
         ensures { result ≡ is_own_of self.now }
     {
-        self.is_own
+        self.state.is_own()
     }
 
     /// Whether an opened file has padding behind its text: the run before was cut off.
     pub fn is_padded(&self) -> bool {
-        self.is_own && !self.is_settled && self.file_len > self.text_len.saturating_add(1)
+        match self.state {
+            State::Opened { text_len, len, .. } => len > text_len.saturating_add(1),
+            _ => false,
+        }
     }
 
     /// How many bytes stand behind the text, up to the last that isn't a carriage return. They were never answered.
     pub fn left_over(&self) -> usize
         ensures { is_clean self.now ≡ true → result ≡ length (left_over_of self.now) }
     {
-        if self.is_settled || self.is_broken || !self.is_own {
-            return 0;
+        match self.state {
+            State::Opened { text_len, last, .. } => last.saturating_sub(text_len),
+            _ => 0,
         }
-        self.last.saturating_sub(self.text_len)
     }
 
     /// Writes these bytes.
@@ -91,13 +91,15 @@ impl<D: Disk + Drop, F: Folder<D>> LogFile<D, F> {
         ensures ready { is_ready self.new ≡ is_ready self.old }
         ensures less { (c : List ℕ) → left_of self.new c → left_of self.old c }
     {
-        if self.is_settled || !self.is_own {
-            return Ok(());
+        match self.state {
+            State::Opened { text_len, last, .. } => {
+                let at = text_len.checked_add(1).ok_or(io::ErrorKind::FileTooLarge)?;
+                let n = last.saturating_sub(text_len);
+                copy_range(alloc, &mut self.disk, at, n, to)
+            }
+            State::Broken => Err(io::ErrorKind::InvalidInput.into()),
+            _ => Ok(()),
         }
-        if self.is_broken {
-            return Err(io::ErrorKind::InvalidInput.into());
-        }
-        copy_range(alloc, &mut self.disk, self.text_len + 1, self.last + 1, to)
     }
 
     /// Why the text was not replaced, the last time.
@@ -118,26 +120,21 @@ impl<D: Disk + Drop, F: Folder<D>> LogFile<D, F> {
         ensures durable { OnOk result (Only (kept_of self.new) (left_of self.new)) }
         ensures cut { (c : List ℕ) → left_of self.new c → left_of self.old c ⊎ (c ≡ kept_of self.old) }
     {
-        if self.is_settled {
+        if let State::Ready { .. } = self.state {
             return Ok(());
         }
-        if self.is_broken {
+        let State::Opened {
+            text_len,
+            last,
+            len,
+        } = self.state
+        else {
             return Err(io::ErrorKind::InvalidInput.into());
-        }
-        if !self.is_own {
-            return Err(io::ErrorKind::InvalidInput.into());
-        }
-        self.is_broken = true;
-        let from = self.text_len + 1;
-        let to = from
-            .max(self.last)
-            .checked_add(1)
-            .ok_or(io::ErrorKind::FileTooLarge)?;
-        blank(&mut self.disk, from, to, &self.returns)?;
-        self.file_len = self.file_len.max(to);
+        };
+        self.state = State::Broken;
+        let len = wipe(&mut self.disk, text_len, last, len, &self.returns)?;
         self.folder.note_written();
-        self.is_broken = false;
-        self.is_settled = true;
+        self.state = State::Ready { text_len, len };
         Ok(())
     }
 
@@ -150,11 +147,12 @@ impl<D: Disk + Drop, F: Folder<D>> LogFile<D, F> {
         ensures ready { is_ready self.new ≡ is_ready self.old }
         ensures less { (c : List ℕ) → left_of self.new c → left_of self.old c }
     {
-        if self.is_broken {
+        if self.state.is_broken() {
             return Err(io::ErrorKind::InvalidInput.into());
         }
-        let mut text = vec![in alloc; 0u8; self.text_len]?;
-        read_exact(&mut self.disk, usize::from(self.is_own), &mut text)?;
+        let mut text = vec![in alloc; 0u8; self.state.text_len()]?;
+        let at = usize::from(self.state.is_own());
+        read_exact(&mut self.disk, at, &mut text)?;
         Ok(text)
     }
 
@@ -168,14 +166,10 @@ impl<D: Disk + Drop, F: Folder<D>> LogFile<D, F> {
         ensures broken { OnErr result (is_broken_of self.new ≡ true) }
         ensures cut { (c : List ℕ) → left_of self.new c → left_of self.old c ⊎ (c ≡ kept_of self.old) }
     {
-        if !self.is_settled {
+        let State::Ready { text_len, len } = self.state else {
             return Ok(());
-        }
-        self.is_settled = false;
-        self.is_broken = true;
-        let end = self.text_len + 1;
-        cut(&mut self.disk, end + 1)?;
-        cut(&mut self.disk, end)?;
-        Ok(())
+        };
+        self.state = State::Broken;
+        cut_off(&mut self.disk, text_len, len)
     }
 }

@@ -1,14 +1,14 @@
 //! Reads of a log that was opened.
 
-ghost use Rattle.std.specs.Prelude.{◌≡◌, ◌+◌, ◌-◌, ◌^◌, ◌<◌, ◌≤◌, true, ℕ, List, length, take, drop, IsTrue, IfOk, OnOk};
+ghost use Rattle.std.specs.Prelude.{◌≡◌, ◌+◌, ◌^◌, ◌<◌, true, false, length, take, drop, IsTrue, IfOk, OnOk, ⊤};
 ghost use Rattle.std.specs.Io.KnownBytes.{Appends};
-ghost use Rattle.sqlite_disk.specs.Disk.{Only};
 ghost use Rattle.olr_log.specs.Texts.{is_own};
-ghost use Rattle.olr_log.specs.Files.{IsOpened};
+ghost use Rattle.olr_log.specs.States.{HasFile, Stands, is_broken_in, is_ready_in};
 ghost use Rattle.olr_log.specs.Reads.{OnlyReads};
 ghost use Rattle.olr_log.specs.Scanning.{Scanned};
 
 use crate::scan::Scan;
+use crate::state::State;
 use crate::writes::BLOCK;
 use sqlite_disk::Disk;
 use std::alloc::Global;
@@ -86,58 +86,36 @@ pub fn find_end<D: Disk>(alloc: Global, disk: &mut D, len: usize) -> io::Result<
     Ok(scan)
 }
 
-/// Finds the end of the text of a file of so many bytes, and the end of what isn't a carriage return. Of a file that the program
-/// didn't write, all of it is text.
-#[tactic(auto, using(crate::proofs::Scans::found_from_scan))]
-pub fn find_text<D: Disk>(
-    alloc: Global,
-    disk: &mut D,
-    len: usize,
-    begins: bool,
-) -> io::Result<(usize, usize)>
-    requires usable { IsTrue (D.Disk.is_usable disk.old) }
-    requires some { begins ≡ true → 0 < len }
-    requires file { D.Disk.is_clean disk.old ≡ true → (length (D.Disk.seen disk.old) ≡ len) × (begins ≡ is_own (D.Disk.seen disk.old)) }
-    ensures reads { OnlyReads D.Disk disk.old disk.new }
-    ensures opened { IfOk result (λ ends. IsOpened begins ends.0 ends.1 len (D.Disk.is_clean disk.new) (D.Disk.seen disk.old)) }
+/// Finds the end of the text of a file of so many bytes.
+fn find_text<D: Disk>(alloc: Global, disk: &mut D, len: usize) -> io::Result<State>
+    requires stands { HasFile D.Disk disk.old len (λ _. ⊤) }
+    ensures seen { D.Disk.seen disk.new ≡ D.Disk.seen disk.old }
+    ensures stands { IfOk result (λ state. Stands D.Disk disk.new state) }
+    ensures unready { IfOk result (λ state. is_ready_in state ≡ false) }
+    ensures unbroken { IfOk result (λ state. is_broken_in state ≡ false) }
 {
-    if !begins {
-        return Ok((len, 0));
+    if !begins_own(disk, len)? {
+        return Ok(State::Foreign { len });
     }
     let scan = find_end(alloc, disk, len)?;
-    Ok((scan.found, scan.last))
-}
-
-/// How a file stands that was opened.
-#[derive(Clone, Copy)]
-pub struct Ends {
-    /// It begins with an empty line.
-    pub own: bool,
-    /// The length of its text.
-    pub text_len: usize,
-    /// Where the last byte ends that isn't a carriage return, behind the first line.
-    pub last: usize,
-    pub file_len: usize,
+    Ok(State::Opened {
+        text_len: scan.found,
+        last: scan.last,
+        len,
+    })
 }
 
 /// Syncs a file, and finds the end of its text.
-pub fn examine<D: Disk>(alloc: Global, disk: &mut D) -> io::Result<Ends>
+pub fn examine<D: Disk>(alloc: Global, disk: &mut D) -> io::Result<State>
     requires { IsTrue (D.Disk.is_usable disk.old) }
-    ensures usable { OnOk result (IsTrue (D.Disk.is_usable disk.new)) }
     ensures seen { D.Disk.seen disk.new ≡ D.Disk.seen disk.old }
-    ensures durable { OnOk result (Only (D.Disk.seen disk.new) (D.Disk.may_leave disk.new)) }
-    ensures opened { IfOk result (λ ends. IsOpened ends.own ends.text_len ends.last ends.file_len (D.Disk.is_clean disk.new) (D.Disk.seen disk.new)) }
+    ensures stands { IfOk result (λ state. Stands D.Disk disk.new state) }
+    ensures unready { IfOk result (λ state. is_ready_in state ≡ false) }
+    ensures unbroken { IfOk result (λ state. is_broken_in state ≡ false) }
 {
     disk.sync()?;
-    let file_len = disk.len()?;
-    let own = begins_own(disk, file_len)?;
-    let (text_len, last) = find_text(alloc, disk, file_len, own)?;
-    Ok(Ends {
-        own,
-        text_len,
-        last,
-        file_len,
-    })
+    let len = disk.len()?;
+    find_text(alloc, disk, len)
 }
 
 /// Reads bytes. Of none, the disk isn't asked.
@@ -152,8 +130,8 @@ pub fn read_exact<D: Disk>(disk: &mut D, at: usize, bytes: &mut [u8]) -> io::Res
     disk.read_at(at, bytes)
 }
 
-/// Writes the next `n` bytes of a file.
-fn copy_next<D: Disk, W: Write>(
+/// Copies `n` bytes of a file.
+pub fn copy_range<D: Disk, W: Write>(
     alloc: Global,
     disk: &mut D,
     at: usize,
@@ -167,25 +145,4 @@ fn copy_next<D: Disk, W: Write>(
     let mut block = vec![in alloc; 0u8; n]?;
     read_exact(disk, at, &mut block)?;
     to.write_all(&block)
-}
-
-/// Writes a range of a file.
-pub fn copy_range<D: Disk, W: Write>(
-    alloc: Global,
-    disk: &mut D,
-    from: usize,
-    end: usize,
-    to: &mut W,
-) -> io::Result<()>
-    requires { IsTrue (D.Disk.is_usable disk.old) }
-    ensures reads { OnlyReads D.Disk disk.old disk.new }
-    ensures copied { OnOk result (D.Disk.is_clean disk.new ≡ true → Appends (W.contents to.old) (W.contents to.new) (take (end - from) (drop from (D.Disk.seen disk.old)))) }
-{
-    let mut at = from;
-    while at < end {
-        let n = BLOCK.min(end - at);
-        copy_next(alloc, disk, at, n, to)?;
-        at += n;
-    }
-    Ok(())
 }

@@ -1,10 +1,12 @@
 //! Writes that are synced.
 
-ghost use Rattle.std.specs.Prelude.{◌≡◌, ◌⊎◌, false, ◌+◌, ◌-◌, ◌^◌, ◌<◌, ◌≤◌, ℕ, List, ◌++◌, length, replicate, IsTrue, IfOk, OnOk};
+ghost use Rattle.std.specs.Prelude.{◌≡◌, ◌+◌, ◌-◌, ◌^◌, ◌<◌, ◌≤◌, true, false, length, replicate, IsTrue, IfOk, OnOk};
 ghost use Rattle.sqlite_disk.specs.Disk.{Holds, Torn, Mixed, Cut, Follows, Only};
-ghost use Rattle.olr_log.specs.Texts.{padded};
-ghost use Rattle.olr_log.specs.Files.{KeepsFirst, Blanked, IsBlank};
+ghost use Rattle.olr_log.specs.Texts.{counts, ends_blank};
+ghost use Rattle.olr_log.specs.Files.{KeepsFirst, IsBlank, text_in};
+ghost use Rattle.olr_log.specs.States.{Stands};
 
+use crate::state::State;
 use sqlite_disk::Disk;
 use std::alloc::{AllocError, Global};
 use std::io;
@@ -24,7 +26,15 @@ pub fn carriage_returns(alloc: Global, n: usize) -> Result<Vec<u8>, AllocError>
     vec![in alloc; b'\r'; n]
 }
 
-/// Writes bytes and syncs. The disk has to leave each byte old or new after a crash.
+/// Whether a text ends in an empty line.
+#[tactic(auto, using(crate::proofs::Fronts::blank_by))]
+pub fn is_blank_at_end(text: &[u8]) -> bool
+    ensures { result ≡ ends_blank text.now }
+{
+    text == b"\n".as_slice() || text.ends_with(b"\n\n")
+}
+
+/// Writes bytes and syncs. The disk has to leave each byte old or new after a crash (`is_mixing`).
 pub fn put<D: Disk>(disk: &mut D, at: usize, bytes: &[u8]) -> io::Result<()>
     requires usable { IsTrue (D.Disk.is_usable disk.old) }
     requires fits { at + length bytes.now < 2 ^ 64 }
@@ -33,8 +43,7 @@ pub fn put<D: Disk>(disk: &mut D, at: usize, bytes: &[u8]) -> io::Result<()>
     ensures held { OnOk result (0 < length bytes.now → Holds (D.Disk.seen disk.new) at bytes.now) }
     ensures others { Torn at (length bytes.now) (D.Disk.seen disk.old) (D.Disk.seen disk.new) }
     ensures durable { OnOk result (Only (D.Disk.seen disk.new) (D.Disk.may_leave disk.new)) }
-    ensures crash { (c : List ℕ) → D.Disk.may_leave disk.new c → D.Disk.may_leave disk.old c
-        ⊎ ((d : List ℕ) × D.Disk.may_leave disk.old d × Mixed at bytes.now d c) }
+    ensures crash { Follows (Mixed at bytes.now) (D.Disk.may_leave disk.old) (D.Disk.may_leave disk.new) }
 {
     if !disk.mixes() {
         return Err(io::ErrorKind::Unsupported.into());
@@ -43,74 +52,61 @@ pub fn put<D: Disk>(disk: &mut D, at: usize, bytes: &[u8]) -> io::Result<()>
     disk.sync()
 }
 
-/// By how much a file of `len` bytes is extended: by as much as it has, within bounds.
-fn extension(len: usize) -> usize {
-    len.clamp(BLOCK, MOST_ADDED).max(len / 10)
+/// The length that a file of `len` bytes gets to have room for records behind so many bytes, and for a carriage return behind them:
+/// its own, or else more by as much as it has, within bounds. The records may not end in an empty line.
+pub fn length_for(len: usize, at: usize, records: &[u8]) -> io::Result<usize>
+    ensures fits { IfOk result (λ n. (at + length records.now < n) × (len ≤ n)) }
+    ensures counts { OnOk result (ends_blank records.now ≡ false) }
+{
+    if is_blank_at_end(records) {
+        return Err(io::ErrorKind::InvalidInput.into());
+    }
+    let needed = at
+        .checked_add(records.len())
+        .ok_or(io::ErrorKind::FileTooLarge)?;
+    if needed < len {
+        return Ok(len);
+    }
+    let added = len.clamp(BLOCK, MOST_ADDED).max(len / 10);
+    match needed.checked_add(added) {
+        Some(n) => Ok(n),
+        None => Err(io::ErrorKind::FileTooLarge.into()),
+    }
 }
 
-/// Extends a file of `len` bytes by carriage returns until it has more than `needed` bytes, and syncs. Returns its length.
-pub fn extend<D: Disk>(disk: &mut D, len: usize, needed: usize, returns: &[u8]) -> io::Result<usize>
+/// Overwrites a range by carriage returns, and syncs, unless it is empty.
+pub fn blank<D: Disk>(disk: &mut D, from: usize, to: usize, returns: &[u8]) -> io::Result<()>
     requires usable { IsTrue (D.Disk.is_usable disk.old) }
+    requires durable { Only (D.Disk.seen disk.old) (D.Disk.may_leave disk.old) }
     requires some { 0 < length returns.now }
     requires returns { returns.now ≡ replicate (length returns.now) 13 }
     ensures usable { OnOk result (IsTrue (D.Disk.is_usable disk.new)) }
     ensures calm { D.Disk.is_clean disk.new ≡ D.Disk.is_clean disk.old }
-    ensures needed { IfOk result (λ n. (needed < n) × (len ≤ n)) }
-    ensures padded { IfOk result (λ n. length (D.Disk.seen disk.old) ≡ len
-        → D.Disk.seen disk.new ≡ D.Disk.seen disk.old ++ replicate (n - len) 13) }
-    ensures keeps { KeepsFirst len (D.Disk.seen disk.old) (D.Disk.seen disk.new) }
-    ensures durable { Only (D.Disk.seen disk.old) (D.Disk.may_leave disk.old)
-        → OnOk result (Only (D.Disk.seen disk.new) (D.Disk.may_leave disk.new)) }
-    ensures crash { (c : List ℕ) → D.Disk.may_leave disk.new c → (d : List ℕ) × D.Disk.may_leave disk.old d × KeepsFirst len d c }
+    ensures blank { OnOk result (from < to → IsBlank from to (D.Disk.seen disk.new)) }
+    ensures others { Torn from (to - from) (D.Disk.seen disk.old) (D.Disk.seen disk.new) }
+    ensures durable { OnOk result (Only (D.Disk.seen disk.new) (D.Disk.may_leave disk.new)) }
+    ensures crash { Follows (KeepsFirst from) (D.Disk.may_leave disk.old) (D.Disk.may_leave disk.new) }
 {
-    if needed < len {
-        return Ok(len);
+    if to <= from {
+        return Ok(());
     }
-    let Some(wanted) = needed.checked_add(extension(len)) else {
-        return Err(io::ErrorKind::FileTooLarge.into());
-    };
-    let end = append_returns(disk, len, wanted, returns)?;
-    disk.sync()?;
-    Ok(end)
-}
-
-/// Writes carriage returns behind a file of `len` bytes until it has more than `wanted` bytes. Returns its length.
-fn append_returns<D: Disk>(
-    disk: &mut D,
-    len: usize,
-    wanted: usize,
-    returns: &[u8],
-) -> io::Result<usize>
-    requires usable { IsTrue (D.Disk.is_usable disk.old) }
-    requires some { 0 < length returns.now }
-    requires returns { returns.now ≡ replicate (length returns.now) 13 }
-    ensures usable { IsTrue (D.Disk.is_usable disk.new) }
-    ensures calm { D.Disk.is_clean disk.new ≡ D.Disk.is_clean disk.old }
-    ensures wanted { IfOk result (λ n. (wanted < n) × (len ≤ n)) }
-    ensures padded { IfOk result (λ n. length (D.Disk.seen disk.old) ≡ len
-        → D.Disk.seen disk.new ≡ D.Disk.seen disk.old ++ replicate (n - len) 13) }
-    ensures keeps { KeepsFirst len (D.Disk.seen disk.old) (D.Disk.seen disk.new) }
-    ensures crash { (c : List ℕ) → D.Disk.may_leave disk.new c → (d : List ℕ) × D.Disk.may_leave disk.old d × KeepsFirst len d c }
-{
-    let mut end = len;
-    while end <= wanted {
-        disk.write_at(end, returns)?;
-        end = end
-            .checked_add(returns.len())
-            .ok_or(io::ErrorKind::FileTooLarge)?;
+    let mut at = from;
+    while at < to {
+        let n = returns.len().min(to - at);
+        disk.write_at(at, &returns[..n])?;
+        at += n;
     }
-    Ok(end)
+    disk.sync()
 }
 
 /// Writes the program's own file with this text, whatever the file held, and syncs. Returns its length.
 pub fn fill<D: Disk>(disk: &mut D, text: &[u8], returns: &[u8]) -> io::Result<usize>
     requires usable { IsTrue (D.Disk.is_usable disk.old) }
+    requires counts { counts text.now ≡ true }
     requires some { 0 < length returns.now }
     requires returns { returns.now ≡ replicate (length returns.now) 13 }
-    ensures usable { OnOk result (IsTrue (D.Disk.is_usable disk.new)) }
-    ensures file { IfOk result (λ n. D.Disk.seen disk.new ≡ padded text.now (n - (length text.now + 1))) }
-    ensures len { IfOk result (λ n. length text.now + 1 < n) }
-    ensures durable { OnOk result (Only (D.Disk.seen disk.new) (D.Disk.may_leave disk.new)) }
+    ensures stands { IfOk result (λ n. Stands D.Disk disk.new (State.Ready (length text.now) n)) }
+    ensures kept { OnOk result (text_in (length text.now) (D.Disk.seen disk.new) ≡ text.now) }
 {
     let Some(end) = text.len().checked_add(1) else {
         return Err(io::ErrorKind::FileTooLarge.into());
@@ -124,31 +120,6 @@ pub fn fill<D: Disk>(disk: &mut D, text: &[u8], returns: &[u8]) -> io::Result<us
     disk.write_at(end, returns)?;
     disk.sync()?;
     Ok(len)
-}
-
-/// Overwrites a range by carriage returns, and syncs. The disk has to leave each byte old or new after a crash.
-pub fn blank<D: Disk>(disk: &mut D, from: usize, to: usize, returns: &[u8]) -> io::Result<()>
-    requires usable { IsTrue (D.Disk.is_usable disk.old) }
-    requires some { 0 < length returns.now }
-    requires returns { returns.now ≡ replicate (length returns.now) 13 }
-    requires range { from ≤ to }
-    ensures usable { OnOk result (IsTrue (D.Disk.is_usable disk.new)) }
-    ensures calm { D.Disk.is_clean disk.new ≡ D.Disk.is_clean disk.old }
-    ensures blank { OnOk result (from < to → IsBlank from to (D.Disk.seen disk.new)) }
-    ensures others { OnOk result (Blanked from to (D.Disk.seen disk.old) (D.Disk.seen disk.new)) }
-    ensures durable { OnOk result (Only (D.Disk.seen disk.new) (D.Disk.may_leave disk.new)) }
-    ensures crash { (c : List ℕ) → D.Disk.may_leave disk.new c → (d : List ℕ) × D.Disk.may_leave disk.old d × Blanked from to d c }
-{
-    if !disk.mixes() {
-        return Err(io::ErrorKind::Unsupported.into());
-    }
-    let mut at = from;
-    while at < to {
-        let n = returns.len().min(to - at);
-        disk.write_at(at, &returns[..n])?;
-        at += n;
-    }
-    disk.sync()
 }
 
 /// Changes the length of a file, and syncs.

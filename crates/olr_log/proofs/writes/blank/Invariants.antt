@@ -1,5 +1,6 @@
-use Rattle.std.proofs.Common.{◌≡◌, ◌-◌, ◌≤◌, ◌<◌, ℕ, List, IsTrue}
-use Rattle.olr_log.specs.Files.{Blanked, IsBlank}
+use Rattle.std.proofs.Common.{◌≡◌, ◌-◌, ◌≤◌, ◌<◌, IsTrue}
+use Rattle.sqlite_disk.specs.Disk.{Torn, Follows}
+use Rattle.olr_log.specs.Files.{IsBlank, KeepsFirst}
 use Rattle.olr_log.proofs.writes.blank.Given as goal
 
 -- what is ensured, of the range so far
@@ -8,13 +9,12 @@ invariant-loop-at g l =
     let disk = g.D.Disk in
     record {
       usable : IsTrue (disk.is_usable l.disk);
-      mixing : IsTrue (disk.is_mixing l.disk);
       calm : disk.is_clean l.disk ≡ disk.is_clean l.fn.disk;
       low : l.from ≤ l.at;
       within : l.at ≤ l.to;
       blank : l.from < l.at → IsBlank l.from l.at (disk.seen l.disk);
-      others : Blanked l.from l.to (disk.seen l.fn.disk) (disk.seen l.disk);
-      crash : (c : List ℕ) → disk.may_leave l.disk c → (d : List ℕ) × disk.may_leave l.fn.disk d × Blanked l.from l.to d c;
+      others : Torn l.from (l.to - l.from) (disk.seen l.fn.disk) (disk.seen l.disk);
+      crash : Follows (KeepsFirst l.from) (disk.may_leave l.fn.disk) (disk.may_leave l.disk);
     }
 
 abbrev pub decreases-loop-at : goal.decreases-loop-at

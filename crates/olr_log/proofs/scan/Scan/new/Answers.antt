@@ -9,8 +9,7 @@ returns c = record {
   found = refl;
   within = omega arith;
   reach = omega arith;
-  returns = λ i low within. absurd (omega arith);
-  exact = λ above. absurd (omega (arith, above));
+  rest = refl;
   over = λ over. absurd (cc over);
   stands = λ _. record { line = []; front = sym c.in_ok-with_capacity.ensures.items; rest = λ more. refl; blank = refl };
 }

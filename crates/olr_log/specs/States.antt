@@ -1,0 +1,65 @@
+-- The states of a log.
+--     kept_in state file      the text that it keeps
+--     size_in state      how many bytes it counts in its text
+--     Stands d disk state      a disk in this state
+use Rattle.std.specs.Prelude.{◌≡◌, ℕ, ◌+◌, ◌<◌, ◌≤◌, Bool, true, false, List, [], length, IsTrue, ⊤}
+use Rattle.std.specs.Coded.{Unit-prop}
+use Rattle.std.proofs.Props.{props}
+use Rattle.sqlite_disk.specs.Disk.{Only}
+use Rattle.sqlite_disk.specs.declared.Disk.{Ghosts}
+use Rattle.olr_log.specs.Texts.{is_own}
+use Rattle.olr_log.specs.Files.{text_in, IsFound, IsPadded}
+use Rattle.olr_log.specs.declared.state.State.{State}
+use Rattle.olr_log.specs.declared.state.State.TheVariants.{Foreign, Opened, Ready, Broken}
+
+-- of the program's own file the text, and of another file all of it
+abbrev pub kept_in : State → List ℕ → List ℕ
+kept_in (Foreign len) file = file
+kept_in (Opened n last len) file = text_in n file
+kept_in (Ready n len) file = text_in n file
+kept_in Broken file = []
+
+abbrev pub size_in : State → ℕ
+size_in (Foreign len) = len
+size_in (Opened n last len) = n
+size_in (Ready n len) = n
+size_in Broken = 0
+
+abbrev pub is_own_in : State → Bool
+is_own_in (Foreign len) = false
+is_own_in (Opened n last len) = true
+is_own_in (Ready n len) = true
+is_own_in Broken = true
+
+abbrev pub is_ready_in : State → Bool
+is_ready_in (Foreign len) = false
+is_ready_in (Opened n last len) = false
+is_ready_in (Ready n len) = true
+is_ready_in Broken = false
+
+abbrev pub is_broken_in : State → Bool
+is_broken_in (Foreign len) = false
+is_broken_in (Opened n last len) = false
+is_broken_in (Ready n len) = false
+is_broken_in Broken = true
+
+module _ {D : Type 0} (d : Ghosts D) (disk : D) where
+  -- The disk can be used, and has what was written. If it has done what it reported, its file has so many bytes, and is such a
+  -- file.
+  pub record HasFile (len : ℕ) (IsFile : List ℕ → Type 0) : Type 0 where
+    pub usable : IsTrue (d.is_usable disk)
+    pub durable : Only (d.seen disk) (d.may_leave disk)
+    pub size : d.is_clean disk ≡ true → length (d.seen disk) ≡ len
+    pub is : d.is_clean disk ≡ true → IsFile (d.seen disk)
+
+  abbrev pub Stands : State → Type 0
+  Stands (Foreign len) = HasFile len (λ file. is_own file ≡ false)
+  Stands (Opened n last len) = HasFile len (IsFound n last) × (n + 1 ≤ len) × (last + 1 ≤ len)
+  Stands (Ready n len) = HasFile len (IsPadded n) × (n + 1 < len) × (n + 1 ≤ length (d.seen disk))
+  Stands Broken = ⊤
+
+  pub Stands-prop : (state : State) → IsProp (Stands state)
+  Stands-prop (Foreign len) = hlevel props
+  Stands-prop (Opened n last len) = hlevel props
+  Stands-prop (Ready n len) = hlevel props
+  Stands-prop Broken = Unit-prop
