@@ -17,5 +17,5 @@ pub mod NamedObstacles
 pub mod PartnerReceivers
 pub mod DependLemmas
 pub mod ShownLemmas
-mod FurtherFields
+pub mod LineLemmas
 pub mod LogLemmas

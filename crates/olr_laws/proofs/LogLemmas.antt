@@ -22,9 +22,12 @@ use Rattle.olr_records.specs.ReplyText.{outcome_text}
 use Rattle.olr_commands.specs.State.{Abort}
 use Rattle.olr_commands.specs.History.{Run}
 use Rattle.std.proofs.lemmas.List.Concat.{flat_map-append}
-use Rattle.olr_run.specs.ProgramEnds.{FromLog, Not_begun, Ran, Cut_off}
+use Rattle.olr_run.proofs.Common.{Registered, Represents}
+use Rattle.olr_run.specs.Ends.{FromLog, Not_begun, Begun}
+use Rattle.olr_run.specs.Runs.{EndedOn}
+use Rattle.olr_input.specs.declared.ends.Status.{Status}
 use Rattle.olr_run.proofs.RunLemmas.{claims_of, sound_after}
-use Rattle.olr_input.specs.Buffers.{held, written}
+use Rattle.olr_input.specs.Buffers.{pending, written}
 use Rattle.olr_input.specs.Journals.{Only}
 use Rattle.olr_input.specs.Sessions.{Known}
 use Rattle.olr_input.specs.declared.buffered.Buffered.{Buffered}
@@ -117,6 +120,46 @@ cut_front stop os w e (In_last write before last front back are text some is) = 
 )
 cut_front stop os w e (Not_sent write is) = ([], whole os w is)
 
+-- of a run, whole or cut off: its outcomes, and what was written of their texts
+record Outcomes (Each : State → List (List Field) → List Outcome → State → Type 0) (s : State) (rs : List (List Field))
+    (before later : Known) : Type 0 where
+  state : State
+  outcomes : List Outcome
+  each : Each s rs outcomes state
+  wrote : List ℕ
+  rest : List ℕ
+  written_is : Appends before later wrote
+  texts_are : texts outcomes ≡ wrote ++ rest
+
+outcomes_of : (Each Then : State → List (List Field) → List Outcome → State → Type 0) (stop : Bool) (old : Registered)
+    (rs : List (List Field)) (before : Known) (new : Registered) (later : Known) (end : Result Status RunFault) →
+    ((s : State) (os : List Outcome) (t : State) → Each s rs os t → Then s rs os t)
+    → EndedOn Each Each stop old (Some rs) before new later end → (s : State) → Represents old.kept s →
+    Outcomes Then s rs before later
+outcomes_of Each Then stop old rs before new later (Ok end) f run s represents =
+    let r = run s represents in
+    record {
+      state = r.0;
+      outcomes = r.4.outcomes;
+      each = f s r.4.outcomes r.0 r.4.each;
+      wrote = r.2;
+      rest = [];
+      written_is = r.3;
+      texts_are = whole r.4.outcomes r.2 r.4.wrote;
+    }
+outcomes_of Each Then stop old rs before new later (Err e) f run s represents =
+    let r = run s represents in
+    let front = cut_front stop r.4.outcomes r.2 e r.4.wrote in
+    record {
+      state = r.0;
+      outcomes = r.4.outcomes;
+      each = f s r.4.outcomes r.0 r.4.each;
+      wrote = r.2;
+      rest = front.0;
+      written_is = r.3;
+      texts_are = front.1;
+    }
+
 -- ---- two runs
 
 module _ {D F : Type 0} (d : disk.Ghosts D) (f : folder.Ghosts F D) {W : Type 0} (contents : W → Known) where
@@ -130,75 +173,45 @@ module _ {D F : Type 0} (d : disk.Ghosts D) (f : folder.Ghosts F D) {W : Type 0}
 
   left_by_run : (start last : LogFile D F d f) (o p : Buffered W) (c : Content) (rs : List (List Field)) (os : List Outcome)
       (t : State) (text : List ℕ) → LastsOn contents start o last p (closed c) rs os t → Leads (kept_of start) c →
-      Only (kept_of start) (left_of start) → held o ≡ [] → left_of last text → LeftBy c rs o p text
+      Only (kept_of start) (left_of start) → pending o ≡ [] → left_of last text → LeftBy c rs o p text
   left_by_run start last o p c rs os t text lasts leads only none left =
-      let l = lasts.1 (record { closed_batch = refl; only = only; leads = leads; none_held = none }) in
+      let l = lasts.1 (record { closed_batch = refl; only = only; leads = leads; none_pending = none }) in
       let s = l.2 text left in
       record { sent = l.0; device = l.1; later = s.0; leads = s.1; outcomes = os; up_to = s.2 }
 
-  left_by : (log last : LogFile D F d f) (stop : Bool) (rs : List (List Field)) (o p : Buffered W) (code : ℕ)
-      (one : FromLog contents log last stop (Some rs) o p code) → HasBegun one → IsHonest one → (c : Content) →
-      BeginsWith (is_own_of log) (kept_of log) c → Only (kept_of log) (left_of log) → held o ≡ [] → (text : List ℕ) →
+  left_by : (log last : LogFile D F d f) (least : ℕ) (stop : Bool) (rs : List (List Field)) (o p : Buffered W) (code : ℕ)
+      (one : FromLog contents log last least stop (Some rs) o p code) → HasBegun one → IsHonest one → (c : Content) →
+      BeginsWith (is_own_of log) (kept_of log) c → Only (kept_of log) (left_of log) → pending o ≡ [] → (text : List ℕ) →
       left_of last text → LeftBy c rs o p text
-  left_by log last stop rs o p code (Not_begun same least most gone) began honest c says only none text left = absurd began
-  left_by log last stop rs o p code (Ran read start old new begins end run status) began honest c says only none text left =
+  left_by log last least stop rs o p code (Not_begun same rejected status gone) began honest c says only none text left = absurd began
+  left_by log last least stop rs o p code (Begun read start old new begins end run many g length after status) began honest c says only none text left =
       let b = begins.leads honest.0 honest.1 c says in
-      let r = run (closed c) b.0 in
-      left_by_run start last o p c rs r.4.outcomes r.0 text r.4.each b.1 (begins.only only) none left
-  left_by log last stop rs o p code (Cut_off read start old new begins e run status) began honest c says only none text left =
-      let b = begins.leads honest.0 honest.1 c says in
-      let r = run (closed c) b.0 in
-      left_by_run start last o p c rs r.4.outcomes r.0 text r.4.each b.1 (begins.only only) none left
+      let r =
+      outcomes_of (LastsOn contents start o last p) (LastsOn contents start o last p) stop old rs (written contents o) new
+      (written contents p) end (λ s os t lasts. lasts) run (closed c) b.0 in
+      left_by_run start last o p c rs r.outcomes r.state text r.each b.1 (begins.only only) none left
 
-  record Answers (c : Content) (qs : List (List Field)) (u v : Buffered W) : Type 0 where
-    outcomes : List Outcome
-    state : State
-    claims : Claims (closed c) qs outcomes state
-    wrote : List ℕ
-    rest : List ℕ
-    written_is : Appends (written contents u) (written contents v) wrote
-    texts_are : texts outcomes ≡ wrote ++ rest
-
-  answers : (log last : LogFile D F d f) (stop : Bool) (qs : List (List Field)) (u v : Buffered W) (code : ℕ)
-      (two : FromLog contents log last stop (Some qs) u v code) → HasBegun two → IsHonest two → (c : Content) →
-      BeginsWith (is_own_of log) (kept_of log) c → Answers c qs u v
-  answers log last stop qs u v code (Not_begun same least most gone) began honest c says = absurd began
-  answers log last stop qs u v code (Ran read start old new begins end run status) began honest c says =
-      let r = run (closed c) (begins.leads honest.0 honest.1 c says).0 in
-      record {
-        outcomes = r.4.outcomes;
-        state = r.0;
-        claims = r.4.each.0;
-        wrote = r.2;
-        rest = [];
-        written_is = r.3;
-        texts_are = whole r.4.outcomes r.2 r.4.wrote;
-      }
-  answers log last stop qs u v code (Cut_off read start old new begins e run status) began honest c says =
-      let r = run (closed c) (begins.leads honest.0 honest.1 c says).0 in
-      let front = cut_front stop r.4.outcomes r.2 e r.4.wrote in
-      record {
-        outcomes = r.4.outcomes;
-        state = r.0;
-        claims = r.4.each.0;
-        wrote = r.2;
-        rest = front.0;
-        written_is = r.3;
-        texts_are = front.1;
-      }
+  answers : (log last : LogFile D F d f) (least : ℕ) (stop : Bool) (qs : List (List Field)) (u v : Buffered W) (code : ℕ)
+      (two : FromLog contents log last least stop (Some qs) u v code) → HasBegun two → IsHonest two → (c : Content) →
+      BeginsWith (is_own_of log) (kept_of log) c
+      → Outcomes Claims (closed c) qs (written contents u) (written contents v)
+  answers log last least stop qs u v code (Not_begun same rejected status gone) began honest c says = absurd began
+  answers log last least stop qs u v code (Begun read start old new begins end run many g length after status) began honest c says =
+      outcomes_of (LastsOn contents start u last v) Claims stop old qs (written contents u) new (written contents v) end
+      (λ s os t lasts. lasts.0) run (closed c) (begins.leads honest.0 honest.1 c says).0
 
   pub two_runs : TwoRuns d f contents
-  two_runs log last stop rs o p code one began honest c says only none next end again qs u v status two begun true_too own left =
-      let l = left_by log last stop rs o p code one began honest c says only none (kept_of next) left in
+  two_runs log last least stop rs o p code one began honest c says only none next end most again qs u v status two begun true_too own left =
+      let l = left_by log last least stop rs o p code one began honest c says only none (kept_of next) left in
       let next_says : BeginsWith (is_own_of next) (kept_of next) l.later =
       subst (λ (b : Bool). BeginsWith b (kept_of next) l.later) (sym own) l.leads in
-      let a = answers next end again qs u v status two begun true_too l.later next_says in (
+      let a = answers next end most again qs u v status two begun true_too l.later next_says in (
         l.sent,
         l.device,
         a.outcomes,
         a.state,
         next_continues (closed c) a.state rs qs l.outcomes a.outcomes l.later l.sent
-            (begins_sound (is_own_of log) (kept_of log) c says) l.up_to a.claims,
+            (begins_sound (is_own_of log) (kept_of log) c says) l.up_to a.each,
         a.wrote,
         a.rest,
         a.written_is,

@@ -13,8 +13,8 @@ use Rattle.olr_records.specs.Records.{Field}
 use Rattle.olr_run.specs.LogEnds.{BeginsWith}
 use Rattle.olr_run.specs.Logged.{closed, UpTo}
 use Rattle.olr_run.specs.Output.{Claims, SoundOutcomes, texts}
-use Rattle.olr_run.specs.ProgramEnds.{FromLog, Not_begun, Ran, Cut_off}
-use Rattle.olr_input.specs.Buffers.{held, written}
+use Rattle.olr_run.specs.Ends.{FromLog, Not_begun, Begun}
+use Rattle.olr_input.specs.Buffers.{pending, written}
 use Rattle.olr_input.specs.Journals.{Only}
 use Rattle.olr_input.specs.Sessions.{Known}
 use Rattle.olr_input.specs.declared.buffered.Buffered.{Buffered}
@@ -46,17 +46,16 @@ NextContinues =
     IsContent s.content → UpTo s rs os c sent → Claims (closed c) qs next t → ContinuedBy s rs sent qs next t
 
 module _ {D F : Type 0} {d : disk.Ghosts D} {f : folder.Ghosts F D} {W : Type 0} {contents : W → Known}
-    {log last : LogFile D F d f} {stop : Bool} {records : Option (List (List Field))} {o p : Buffered W} {code : ℕ} where
-  abbrev pub HasBegun : FromLog contents log last stop records o p code → Type 0
-  HasBegun (Not_begun same least most left) = ⊥
-  HasBegun (Ran read start old new begins end run status) = ⊤
-  HasBegun (Cut_off read start old new begins e run status) = ⊤
+    {log last : LogFile D F d f} {least : ℕ} {stop : Bool} {records : Option (List (List Field))} {o p : Buffered W} {code : ℕ} where
+  abbrev pub HasBegun : FromLog contents log last least stop records o p code → Type 0
+  HasBegun (Not_begun same rejected status left) = ⊥
+  HasBegun (Begun read start old new begins end run many g length after status) = ⊤
 
   -- the disk did what it reported
-  abbrev pub IsHonest : FromLog contents log last stop records o p code → Type 0
-  IsHonest (Not_begun same least most left) = ⊤
-  IsHonest (Ran read start old new begins end run status) = (is_clean read ≡ true) × (is_clean start ≡ true)
-  IsHonest (Cut_off read start old new begins e run status) = (is_clean read ≡ true) × (is_clean start ≡ true)
+  abbrev pub IsHonest : FromLog contents log last least stop records o p code → Type 0
+  IsHonest (Not_begun same rejected status left) = ⊤
+  IsHonest (Begun read start old new begins end run many g length after status) =
+      (is_clean read ≡ true) × (is_clean start ≡ true)
 
 module _ {D F : Type 0} (d : disk.Ghosts D) (f : folder.Ghosts F D) {W : Type 0} (contents : W → Known) where
   -- A run from a log that led to a content, which may be cut off at any moment; and a run from a log whose text is one that may
@@ -64,11 +63,11 @@ module _ {D F : Type 0} (d : disk.Ghosts D) (f : folder.Ghosts F D) {W : Type 0}
   -- one wrote those of its own.
   abbrev pub TwoRuns : Type 0
   TwoRuns =
-      (log last : LogFile D F d f) (stop : Bool) (rs : List (List Field)) (o p : Buffered W) (code : ℕ)
-      (one : FromLog contents log last stop (Some rs) o p code) → HasBegun one → IsHonest one → (c : Content) →
-      BeginsWith (is_own_of log) (kept_of log) c → Only (kept_of log) (left_of log) → held o ≡ [] →
-      (next end : LogFile D F d f) (again : Bool) (qs : List (List Field)) (u v : Buffered W) (status : ℕ)
-      (two : FromLog contents next end again (Some qs) u v status) → HasBegun two → IsHonest two →
+      (log last : LogFile D F d f) (least : ℕ) (stop : Bool) (rs : List (List Field)) (o p : Buffered W) (code : ℕ)
+      (one : FromLog contents log last least stop (Some rs) o p code) → HasBegun one → IsHonest one → (c : Content) →
+      BeginsWith (is_own_of log) (kept_of log) c → Only (kept_of log) (left_of log) → pending o ≡ [] →
+      (next end : LogFile D F d f) (most : ℕ) (again : Bool) (qs : List (List Field)) (u v : Buffered W) (status : ℕ)
+      (two : FromLog contents next end most again (Some qs) u v status) → HasBegun two → IsHonest two →
       is_own_of next ≡ true → left_of last (kept_of next) →
       (sent : List ℕ) × Appends (contents o.device) (contents p.device) sent
       × (outcomes : List Outcome) × (t : State) × ContinuedBy (closed c) rs sent qs outcomes t

@@ -4,8 +4,8 @@ unfoldable pub use Rattle.csv.proofs.OnLiterals.{csv_on_literals}
 pub use Rattle.csv.specs.Machine.{ends_at_end, field_after, fields_after, is_end}
 unfoldable pub use Rattle.csv.specs.Machine.{next_record}
 pub use Rattle.csv.specs.Records.{fields_of}
-pub use Rattle.olr_arguments.specs.Opens.{IsFile, Opens, OpensFile}
-pub use Rattle.olr_arguments.specs.Options.{Options, keep_app, options, options_of}
+pub use Rattle.olr_run.specs.Opens.{IsFile, Opens, OpensFile}
+pub use Rattle.olr_run.specs.Options.{Options, keep_app, options, options_of}
 pub use Rattle.olr_commands.proofs.HistoryLemmas.{Claimed, Leads, headline_of, is_dumped, is_named, is_refused}
 pub use Rattle.olr_commands.proofs.HistoryLemmas.{outcome_leads, run_join, run_longer, run_more}
 pub use Rattle.olr_commands.specs.Reply.{ByState, IsOutcome, IsRefusal, IsReply, Outcome, Paths, lacks_memory, may_lack}
@@ -15,12 +15,11 @@ pub use Rattle.olr_records.specs.Records.{Field, read}
 pub use Rattle.olr_records.specs.ReplyText.{count_line, fault_text, outcome_text, reply_text}
 pub use Rattle.olr_register.specs.RegisterState.{Represents}
 pub use Rattle.olr_register.specs.Registered.{Registered}
-pub use Rattle.olr_run.specs.Ends.{Cut_off, Ends, Explained, Not_opened}
 pub use Rattle.olr_run.specs.Output.{AllHadMemory, AreAnswered, Claims, CommandOutcome, In_last, Outcomes}
 pub use Rattle.olr_run.specs.Output.{RecordOutcome, SoundOutcome, SoundOutcomes, most_records, records_of, texts}
-pub use Rattle.olr_run.specs.Runs.{AnsweredOn, AnswersRecord, CarriedOut, CutIn, FaultedOn, HasTooMany, In_text}
+pub use Rattle.olr_run.specs.Runs.{AnsweredOn, AnswersRecord, CarriedOut, CutIn, FaultedOn, In_text}
 pub use Rattle.olr_run.specs.Runs.{IsAnswer, LeadsOn, Past_the_most, RanIn, RanOn, Records, answer_text}
-pub use Rattle.olr_run.specs.Runs.{EndedOn, both_records, file_bytes, input_records, joined_records, last_events}
+pub use Rattle.olr_run.specs.Runs.{EndedOn, file_bytes, joined_records, last_events}
 pub use Rattle.olr_run.specs.Runs.{records_read, status_of}
 pub use Rattle.olr_input.specs.Sessions.{Cut, Ended, Event, History, IsOfTaking, Known}
 pub use Rattle.olr_input.specs.Sessions.{Not_sent, Not_taken, Took, Wrote, exchanges}

@@ -1,8 +1,8 @@
 -- A run from a log in a file, from the contracts of its parts.
-use Rattle.olr_run.proofs.Common.{IfErr, Outcome, Field, Known, Records, RunFault, Registered}
-use Rattle.olr_run.proofs.Common.{Represents, exit_code, is_ok, EndedOn}
+use Rattle.olr_run.proofs.Common.{Outcome, Field, Known, Records, RunFault, Registered}
+use Rattle.olr_run.proofs.Common.{Represents, is_ok, EndedOn}
 use Rattle.std.proofs.Common.{◌≡◌, ◌∙◌, ◌⊎◌, ℕ, Bool, true, false, List, inl, inr, refl, sym, subst}
-use Rattle.std.specs.Prelude.{IfOk, OnOk, Result, Ok, Err, IsTrue, is_some}
+use Rattle.std.specs.Prelude.{OnOk, Result, Ok, Err, IsTrue}
 use Rattle.sqlite_disk.specs.declared.Disk as disk
 use Rattle.olr_commands.specs.State.{Content, IsContent, State}
 use Rattle.olr_log.specs.Logs.{kept_of, left_of, is_own_of, is_clean}
@@ -13,12 +13,12 @@ use Rattle.olr_commands.specs.Dump.{dump_lines}
 use Rattle.olr_run.proofs.Dumped.{content_dump_leads, dump_leads}
 use Rattle.olr_run.proofs.LogRecords.{same_content}
 use Rattle.olr_run.proofs.Running.{represented}
-use Rattle.olr_run.proofs.Sending.{faulted_sent, ran_sent}
+use Rattle.olr_run.proofs.Sending.{Then, faulted_sent, ran_sent}
 use Rattle.std.proofs.KnownBytes.{Keeps-refl}
 use Rattle.olr_run.specs.LogEnds.{AreRecordsOf, Begins, BeginsWith, LastsOn, Unbegun}
 use Rattle.olr_run.specs.Logged.{closed, Leads, Survives, UpTo}
 use Rattle.olr_run.specs.Logs.{LastsWhole, LastsCut}
-use Rattle.olr_run.specs.ProgramEnds.{FromLog, Ran, Cut_off, ended_code}
+use Rattle.olr_run.specs.Ends.{LeftAfter}
 use Rattle.olr_run.specs.Restored.{IsContentOf}
 use Rattle.olr_input.specs.Buffers.{written}
 use Rattle.olr_input.specs.Journals.{Only}
@@ -98,44 +98,38 @@ module _ {D F : Type 0} {d : disk.Ghosts D} {f : folder.Ghosts F D} where
   -- ---- the end
 
   module _ {W : Type 0} (contents : W → Known) (start last : LogFile D F d f) (o p : Buffered W)
-      (g : Gate (LogFile D F d f)) (r : Result Status RunFault)
-      (cut : (t : List ℕ) → left_of last t → left_of g.journal t ⊎ (IsTrue (is_ok r) × (t ≡ kept_of g.journal))) where
+      (g : Gate (LogFile D F d f)) (r : Result Status RunFault) (after : LeftAfter g r last) where
     -- what is left of the log at the end was left before, or it is all that is kept, if the run was not cut off
     closed_survives : (s : State) (rs : List (List Field)) (os : List Outcome) (sent : List ℕ) →
         Survives s rs os (left_of g.journal) sent
         → (IsTrue (is_ok r) → (c : Content) × Leads (kept_of g.journal) c × UpTo s rs os c sent)
         → Survives s rs os (left_of last) sent
-    closed_survives s rs os sent before whole text left = elim (cut text left) [
+    closed_survives s rs os sent before whole text left = elim (after text left) [
       | inl still ↦ before text still
       | inr all ↦ subst (λ (x : List ℕ). (c : Content) × Leads x c × UpTo s rs os c sent) (sym all.1) (whole all.0)
     ]
 
-    whole_closed : (s : State) (rs : List (List Field)) (os : List Outcome) (t : State) →
-        LastsWhole kept_of left_of contents start o g p s rs os t → LastsOn contents start o last p s rs os t
+    whole_closed : Then (LastsWhole kept_of left_of contents start o g p) (LastsOn contents start o last p)
     whole_closed s rs os t a =
         (a.0, λ k. let b = a.1 k in (b.0, b.1, closed_survives s rs os b.0 b.2 (λ _. (t.content, b.4, b.3))))
 
-    cut_closed : (e : RunFault) → r ≡ Err e → (s : State) (rs : List (List Field)) (os : List Outcome) (t : State) →
-        LastsCut kept_of left_of contents start o g p s rs os t → LastsOn contents start o last p s rs os t
+    cut_closed : (e : RunFault) → r ≡ Err e → Then (LastsCut kept_of left_of contents start o g p) (LastsOn contents start o last p)
     cut_closed e is s rs os t a = (
       a.0,
       λ k. let b = a.1 k in
           (b.0, b.1, closed_survives s rs os b.0 b.2 (λ ok. absurd (let never = rw is at ok in cc))),
     )
 
-  pub ended_from : {W : Type 0} (contents : W → Known) (log read start last : LogFile D F d f) (o p : Buffered W)
-      (g : Gate (LogFile D F d f)) (r : Result Status RunFault)
-      (cut : (t : List ℕ) → left_of last t → left_of g.journal t ⊎ (IsTrue (is_ok r) × (t ≡ kept_of g.journal)))
-      (stop : Bool) (old new : Registered) (records : Records) (code : ℕ) → Begins log read start old
-      → EndedOn (LastsWhole kept_of left_of contents start o g p) (LastsCut kept_of left_of contents start o g p) stop old
+  pub closed_run : {W : Type 0} (contents : W → Known) (start last : LogFile D F d f) (o p : Buffered W)
+      (g : Gate (LogFile D F d f)) (r : Result Status RunFault) → LeftAfter g r last →
+      (stop : Bool) (old new : Registered) (records : Records) →
+      EndedOn (LastsWhole kept_of left_of contents start o g p) (LastsCut kept_of left_of contents start o g p) stop old
       records (written contents o) new (written contents p) r
-      → IfOk r (λ status. code ≡ ended_code status (is_some new.kept.batch))
-      → IfErr r (λ e. code ≡ exit_code (Err e)) → FromLog contents log last stop records o p code
-  ended_from contents log read start last o p g (Ok end) cut stop old new records code begins run status fault =
-      Ran read start old new begins end
-      (ran_sent _ _ (whole_closed contents start last o p g (Ok end) cut) stop old (written contents o) new
-      (written contents p) (written contents p) (Keeps-refl (written contents p)) records end run) status
-  ended_from contents log read start last o p g (Err e) cut stop old new records code begins run status fault =
-      Cut_off read start old new begins e
-      (faulted_sent _ _ (cut_closed contents start last o p g (Err e) cut e refl) stop old (written contents o) new
-      (written contents p) (written contents p) (Keeps-refl (written contents p)) records e run) fault
+      → EndedOn (LastsOn contents start o last p) (LastsOn contents start o last p) stop old records (written contents o)
+      new (written contents p) r
+  closed_run contents start last o p g (Ok end) after stop old new records run =
+      ran_sent _ _ (whole_closed contents start last o p g (Ok end) after) stop old (written contents o) new
+      (written contents p) (written contents p) (Keeps-refl (written contents p)) records end run
+  closed_run contents start last o p g (Err e) after stop old new records run =
+      faulted_sent _ _ (cut_closed contents start last o p g (Err e) after e refl) stop old (written contents o) new
+      (written contents p) (written contents p) (Keeps-refl (written contents p)) records e run

@@ -1,51 +1,53 @@
 -- Runs over an input whose records are known, from the history of their session.
-use Rattle.olr_run.proofs.Common.{◌&&◌, IsFalse, IfErr, append-nil, append_assoc, length-map, Appends, Outcome}
-use Rattle.olr_run.proofs.Common.{run_longer, Field, outcome_text, Registered, SoundOutcome, Claims, texts, Records}
+use Rattle.olr_run.proofs.Common.{IfErr, append-nil, append_assoc, length-map, Appends, Outcome}
+use Rattle.olr_run.proofs.Common.{run_longer, Field, Registered, SoundOutcome, Claims, texts, Records}
 use Rattle.olr_run.proofs.Common.{Known, Event, Took, Ended, Not_taken, Not_sent, Wrote, Cut, History, exchanges}
 use Rattle.olr_run.proofs.Common.{Keeps, IfSome, Represents, EndedOn}
 use Rattle.olr_run.specs.Output.{StopsAtFault}
 use Rattle.olr_commands.specs.State.{State}
-use Rattle.olr_run.proofs.Common.{IsOfTaking, input_records, RanOn, FaultedOn, HasTooMany, RanIn, CutIn}
+use Rattle.olr_run.proofs.Common.{IsOfTaking, RanOn, FaultedOn, RanIn, CutIn}
 use Rattle.olr_run.proofs.Common.{Past_the_most, In_text, AnsweredOn, status_of, RunFault, flat_map-map}
 use Rattle.std.proofs.Common.{◌≡◌, ◌≢◌, ◌∙◌, ◌+◌, ℕ, Bool, List, [], ◌∷◌, ◌++◌, length, map, None, Some, inl, inr, refl}
-use Rattle.std.proofs.Common.{sym, ap, subst, arith, length-append}
+use Rattle.std.proofs.Common.{sym, ap, subst, arith, length-append, true, false}
 use Rattle.std.proofs.KnownBytes.{Appends-kept, Appends-nil, Appends-trans, Keeps-refl}
 use Rattle.olr_commands.specs.State.{IsContent}
-use Rattle.olr_run.specs.Runs.{In_taking, No_text, OutcomesRenewed}
-use Rattle.olr_input.specs.Sessions.{BeginsWith, HasNone, PlainHappens, Renewal, Renewed, Unasked, TakesOne}
-use Rattle.olr_input.specs.Sessions.{csv_records}
+use Rattle.olr_run.specs.Runs.{Exchanged, HadTooMany, In_taking, No_text, OutcomesRenewed, answer_of, GoesOn}
+use Rattle.olr_input.specs.Sessions.{Answer, HasNone, PlainHappens, Renewal, Renewed, Unasked, TakesOne}
+use Rattle.olr_input.specs.Inputs.{input_records}
+use Rattle.olr_input.specs.LineRecords.{lines_from}
+use Rattle.olr_input.specs.Sessions.{FirstLeft, JoinedLeft}
+use Rattle.olr_run.proofs.Common.{csv_on_literals, joined_records}
 use Rattle.olr_run.specs.Runs as runs
 use Rattle.olr_input.specs.declared.ends.Status.{Status}
 use Rattle.olr_input.specs.declared.sessions.Plain.{Plain}
-use Rattle.std.specs.Prelude.{IfOk, Result, Ok, Err}
+use Rattle.std.specs.Prelude.{IfOk, Option, Result, Ok, Err}
 use Rattle.olr_run.proofs.RunLemmas.{claims_of}
-use Rattle.olr_run.proofs.Running.{represented}
-use Rattle.olr_run.proofs.Joining.{stopped_is}
+use Rattle.olr_run.proofs.Running.{represented, stopped_is}
 use Rattle.std.proofs.Math.Bool.{and-false}
 use Rattle.std.specs.List.{flat_map}
 use Rattle.olr_run.specs.Output as output
 use Rattle.olr_input.specs.declared.ends.Status.TheVariants as ended
 use Rattle.olr_input.specs.declared.ends.RunFault.TheVariants as fault
 
--- ---- texts
+-- ---- answers
 
--- the outcome of the last text
-pub last_of : (os : List Outcome) (ws : List (List ℕ)) (w : List ℕ) → map outcome_text os ≡ ws ++ w ∷ [] →
-    (before : List Outcome) × (last : Outcome) × (os ≡ before ++ last ∷ []) × (map outcome_text before ≡ ws)
-    × (outcome_text last ≡ w)
+-- the outcome of the last answer
+pub last_of : (os : List Outcome) (ws : List Answer) (w : Answer) → map answer_of os ≡ ws ++ w ∷ [] →
+    (before : List Outcome) × (last : Outcome) × (os ≡ before ++ last ∷ []) × (map answer_of before ≡ ws)
+    × (answer_of last ≡ w)
 last_of [] [] w e = absurd cc
 last_of [] (x ∷ ws) w e = absurd cc
 last_of (o ∷ []) [] w e = ([], o, refl, refl, cc)
 last_of (o ∷ p ∷ os) [] w e = absurd cc
 last_of (o ∷ os) (x ∷ ws) w e =
     let r = last_of os ws w cc in
-    (o ∷ r.0, r.1, (λ i. o ∷ r.2 i), (let h : outcome_text o ≡ x = cc in λ i. h i ∷ r.3 i), r.4)
+    (o ∷ r.0, r.1, (λ i. o ∷ r.2 i), (let h : answer_of o ≡ x = cc in λ i. h i ∷ r.3 i), r.4)
 
-abbrev joined : List (List ℕ) → List ℕ
-joined ws = flat_map (λ w. w) ws
+abbrev joined : List Answer → List ℕ
+joined ws = flat_map (λ (w : Answer). w.0) ws
 
-written_as : (os : List Outcome) (ws : List (List ℕ)) → map outcome_text os ≡ ws → joined ws ≡ texts os
-written_as os ws e = ap joined (sym e) ∙ flat_map-map (λ w. w) outcome_text os
+written_as : (os : List Outcome) (ws : List Answer) → map answer_of os ≡ ws → joined ws ≡ texts os
+written_as os ws e = ap joined (sym e) ∙ flat_map-map (λ (w : Answer). w.0) answer_of os
 
 -- ---- records of the input
 
@@ -58,9 +60,9 @@ Sees old new before later (Took fields) = TakesOne old new fields × Keeps befor
 Sees old new before later Ended = HasNone old × Keeps before later
 Sees old new before later (Not_taken e) = Keeps before later
 Sees old new before later Not_sent = Keeps before later
-Sees old new before later (Wrote text) =
-    ((rs : List (List Field)) → old rs → new rs) × Appends before later text
-Sees old new before later (Cut front rest) = Appends before later front
+Sees old new before later (Wrote answer) =
+    ((rs : List (List Field)) → old rs → new rs) × Appends before later answer.0
+Sees old new before later (Cut front rest accepts) = Appends before later front
 Sees old new before later (Renewed renewal) = ((rs : List (List Field)) → old rs → new rs) × Keeps before later
 
 pub same_left : {S : Type 0} (left : S → List (List Field) → Type 0) (s t : S) → t ≡ s → (rs : List (List Field)) →
@@ -80,34 +82,34 @@ module _ {S W : Type 0} (left : S → List (List Field) → Type 0) (failed : S 
   plain_sees a b Ended h = h
   plain_sees a b (Not_taken e) h = h.1
   plain_sees a b Not_sent h = h.1
-  plain_sees a b (Wrote text) h = (same_left left a.0.source b.0.source h.0, h.1)
-  plain_sees a b (Cut front rest) h = h.1
+  plain_sees a b (Wrote answer) h = (same_left left a.0.source b.0.source h.0, h.1)
+  plain_sees a b (Cut front rest accepts) h = h.1
   plain_sees a b (Renewed Unasked) h = (same_left left a.0.source b.0.source h.0, h.1)
   plain_sees a b (Renewed renewal) h = absurd h
 
 -- what each state that the register represented leads to, where the outcomes are related by Each
 abbrev AnsweredBy : (State → List (List Field) → List Outcome → State → Type 0) → Bool → (List Outcome → Type 0) →
-    Registered → List (List Field) → List (List ℕ) → Registered → Type 0
-AnsweredBy Each stop And old rs texts new =
+    Registered → List (List Field) → List Answer → Registered → Type 0
+AnsweredBy Each stop And old rs answers new =
     (s : State) → Represents old.kept s → (t : State) × Represents new.kept t × (os : List Outcome) × Each s rs os t
-    × (map outcome_text os ≡ texts) × StopsAtFault stop os × And os
+    × (map answer_of os ≡ answers) × StopsAtFault stop os × And os
 
--- the records of a run that was cut off, the texts of their answers, and the records that were given after them
+-- the records of a run that was cut off, their answers, and the records that were given after them
 abbrev pub cut_parts : {S : Type 0} {happens : S → Event → S → Type 0} {stop : Bool} {old new : Registered} {a b : S}
-    {e : RunFault} → CutIn happens stop old a new b e → List (List Field) × List (List ℕ) × List Renewal
-cut_parts (In_taking of rs ws ds l k history answered) = (rs, ws, ds)
-cut_parts (runs.Not_sent is rs ws ds l k history answered) = (rs, ws, ds)
-cut_parts (Past_the_most is rs ws ds l k most r history answered) = (rs, ws, ds)
-cut_parts (No_text is rs ws ds l k r w history answered) = (rs ++ r ∷ [], ws ++ w ∷ [], ds ++ Unasked ∷ [])
-cut_parts (In_text is rs ws ds l k r front rest some history answered) =
-    (rs ++ r ∷ [], ws ++ (front ++ rest) ∷ [], ds ++ Unasked ∷ [])
+    {e : RunFault} → CutIn happens stop old a new b e → List (List Field) × List Answer × List Renewal
+cut_parts (In_taking of x answered) = (x.records, x.answers, x.renewals)
+cut_parts (runs.Not_sent is x answered) = (x.records, x.answers, x.renewals)
+cut_parts (Past_the_most is r x most answered) = (x.records, x.answers, x.renewals)
+cut_parts (No_text is r w x answered) = (x.records ++ r ∷ [], x.answers ++ w ∷ [], x.renewals ++ Unasked ∷ [])
+cut_parts (In_text is r front rest accepts some x answered) =
+    (x.records ++ r ∷ [], x.answers ++ (front ++ rest, accepts) ∷ [], x.renewals ++ Unasked ∷ [])
 
--- from outcomes of the first records, with these texts, what is wanted of those of all records
+-- from outcomes of the first records, with these answers, what is wanted of those of all records
 abbrev pub Gives : (State → List (List Field) → List Outcome → State → Type 0) → List (List Field) → List (List Field) →
-    List (List ℕ) → List Renewal → Type 0
+    List Answer → List Renewal → Type 0
 Gives Each all rs ws ds =
     (s t : State) (rest : List (List Field)) (os : List Outcome) → all ≡ rs ++ rest → Claims s all os t →
-    OutcomesRenewed s rs os ds t → map outcome_text os ≡ ws → Each s all os t
+    OutcomesRenewed s rs os ds t → map answer_of os ≡ ws → Each s all os t
 
 -- these records of all were read, and these bytes written
 record Through (before : Known) (all rs : List (List Field)) (w : List ℕ) (left : List (List Field) → Type 0)
@@ -144,7 +146,7 @@ module _ {S : Type 0} (left : S → List (List Field) → Type 0) (contents : S 
         wrote = Appends-kept (contents a) (contents m) (contents n) w at.wrote took.1;
       }
 
-  exchanged : (done rs : List (List Field)) (w : List ℕ) (ws : List (List ℕ)) (ds : List Renewal)
+  exchanged : (done rs : List (List Field)) (w : List ℕ) (ws : List Answer) (ds : List Renewal)
       (es : List Event) (m b : S) → length ws ≡ length rs → length ds ≡ length rs → At done w m →
       History happens m (exchanges rs ws ds ++ es) b →
       (n : S) × At (done ++ rs) (w ++ joined ws) n × History happens n es b
@@ -152,23 +154,23 @@ module _ {S : Type 0} (left : S → List (List Field) → Type 0) (contents : S 
   exchanged done (r ∷ rs) w (t ∷ ws) (d ∷ ds) es m b l k at h =
       let took = taken done r w m h.0 at h.1 in
       let wrote = seen h.0 h.2.0 (Wrote t) h.2.1 in
-      let next : At (done ++ r ∷ []) (w ++ t) h.2.0 =
+      let next : At (done ++ r ∷ []) (w ++ t.0) h.2.0 =
       record {
         rest = took.rest;
         splits = took.splits;
         are_left = wrote.0 took.rest took.are_left;
-        wrote = Appends-trans (contents a) (contents h.0) (contents h.2.0) w t took.wrote wrote.1;
+        wrote = Appends-trans (contents a) (contents h.0) (contents h.2.0) w t.0 took.wrote wrote.1;
       } in
       let same = seen h.2.0 h.2.2.0 (Renewed d) h.2.2.1 in
-      let on : At (done ++ r ∷ []) (w ++ t) h.2.2.0 =
+      let on : At (done ++ r ∷ []) (w ++ t.0) h.2.2.0 =
       record {
         rest = next.rest;
         splits = next.splits;
         are_left = same.0 next.rest next.are_left;
-        wrote = Appends-kept (contents a) (contents h.2.0) (contents h.2.2.0) (w ++ t) next.wrote same.1;
+        wrote = Appends-kept (contents a) (contents h.2.0) (contents h.2.2.0) (w ++ t.0) next.wrote same.1;
       } in
-      rw (← append_assoc done (r ∷ []) rs, ← append_assoc w t (joined ws))
-      (exchanged (done ++ r ∷ []) rs (w ++ t) ws ds es h.2.2.0 b (omega arith) (omega arith) on h.2.2.2)
+      rw (← append_assoc done (r ∷ []) rs, ← append_assoc w t.0 (joined ws))
+      (exchanged (done ++ r ∷ []) rs (w ++ t.0) ws ds es h.2.2.0 b (omega arith) (omega arith) on h.2.2.2)
   exchanged done rs w ws ds es m b l k at h = absurd (omega arith)
 
   -- all records were answered
@@ -180,7 +182,7 @@ module _ {S : Type 0} (left : S → List (List Field) → Type 0) (contents : S 
   module _ (stop : Bool) (old new : Registered) (b : S) (base : IsContent old.kept.content)
       (start : At [] [] a) (Each : State → List (List Field) → List Outcome → State → Type 0) where
     -- the claims are those of all records
-    of_all : (And : List Outcome → Type 0) (rs : List (List Field)) (ws : List (List ℕ)) (ds : List Renewal)
+    of_all : (And : List Outcome → Type 0) (rs : List (List Field)) (ws : List Answer) (ds : List Renewal)
         (w : List ℕ) (m : S) → At rs w m → Gives Each all rs ws ds → AnsweredOn stop And old rs ws ds new
         → AnsweredBy Each stop And old all ws new
     of_all And rs ws ds w m at give answered s represents =
@@ -190,10 +192,10 @@ module _ {S : Type 0} (left : S → List (List Field) → Type 0) (contents : S 
         (h.0, h.1, h.2, give s h.0 at.rest h.2 at.splits claims h.7 h.4, h.4, h.5, h.6)
 
     -- the end of a run that was not cut off
-    ended_in : (end : Status) (rs : List (List Field)) (ws : List (List ℕ)) (ds : List Renewal) (m : S) →
+    ended_in : (end : Status) (rs : List (List Field)) (ws : List Answer) (ds : List Renewal) (m : S) →
         At rs (joined ws) m →
         Keeps (contents m) (contents b)
-        → ((os : List Outcome) → map outcome_text os ≡ ws → status_of end ≡ output.run_status stop os →
+        → ((os : List Outcome) → map answer_of os ≡ ws → status_of end ≡ output.run_status stop os →
         output.AreAnswered stop all os)
         → Gives Each all rs ws ds
         → AnsweredOn stop (λ os. status_of end ≡ output.run_status stop os) old rs ws ds new
@@ -215,10 +217,10 @@ module _ {S : Type 0} (left : S → List (List Field) → Type 0) (contents : S 
         )
 
     -- the end of one that was, after these bytes
-    cut_in : (e : RunFault) (And : List Outcome → Type 0) (rs : List (List Field)) (ws : List (List ℕ))
+    cut_in : (e : RunFault) (And : List Outcome → Type 0) (rs : List (List Field)) (ws : List Answer)
         (ds : List Renewal) (w front : List ℕ) (m : S) → At rs w m → Appends (contents m) (contents b) front →
         Gives Each all rs ws ds → AnsweredOn stop And old rs ws ds new
-        → ((os : List Outcome) → map outcome_text os ≡ ws → And os → output.CutOff stop os (w ++ front) e)
+        → ((os : List Outcome) → map answer_of os ≡ ws → And os → output.CutOff stop os (w ++ front) e)
         → FaultedOn Each stop old (Some all) (contents a) new (contents b) e
     cut_in e And rs ws ds w front m at more give answered cut s represents =
         let h = of_all And rs ws ds w m at give answered s represents in (
@@ -233,78 +235,84 @@ module _ {S : Type 0} (left : S → List (List Field) → Type 0) (contents : S 
     nothing_more m later =
         Appends-kept (contents m) (contents m) (contents b) [] (Appends-nil (contents m)) later
 
-    cut_before : (e : RunFault) (rs : List (List Field)) (ws : List (List ℕ)) (ds : List Renewal) (m : S) →
+    cut_before : (e : RunFault) (rs : List (List Field)) (ws : List Answer) (ds : List Renewal) (m : S) →
         e ≢ fault.Write → At rs (joined ws) m → Keeps (contents m) (contents b) → Gives Each all rs ws ds →
-        AnsweredOn stop (λ os. IsFalse (stop && output.any_refused os)) old rs ws ds new
+        AnsweredOn stop (GoesOn stop) old rs ws ds new
         → FaultedOn Each stop old (Some all) (contents a) new (contents b) e
     cut_before e rs ws ds m no_write at later give answered =
         cut_in e _ rs ws ds (joined ws) [] m at (nothing_more m later) give answered
         (λ os are going. output.Before_next no_write going (append-nil (joined ws) ∙ written_as os ws are))
 
-    cut_unsent : (e : RunFault) (rs : List (List Field)) (ws : List (List ℕ)) (ds : List Renewal) (m : S) →
+    cut_unsent : (e : RunFault) (rs : List (List Field)) (ws : List Answer) (ds : List Renewal) (m : S) →
         e ≡ fault.Write → At rs (joined ws) m → Keeps (contents m) (contents b) → Gives Each all rs ws ds →
-        AnsweredOn stop (λ os. IsFalse (stop && output.any_refused os)) old rs ws ds new
+        AnsweredOn stop (GoesOn stop) old rs ws ds new
         → FaultedOn Each stop old (Some all) (contents a) new (contents b) e
     cut_unsent e rs ws ds m write at later give answered =
         cut_in e _ rs ws ds (joined ws) [] m at (nothing_more m later) give answered
         (λ os are going. output.Not_sent write (append-nil (joined ws) ∙ written_as os ws are))
 
-    ran_on : (end : Status) (h : RanIn happens stop old a new b end) → Gives Each all h.records h.texts h.renewals →
+    -- the records were taken, and answered, up to the last events
+    reached : (es : List Event) (x : Exchanged happens a b es) →
+        (n : S) × At x.records (joined x.answers) n × History happens n es b
+    reached es x = exchanged [] x.records [] x.answers x.renewals es a b x.each x.each_renewal start x.history
+
+    ran_on : (end : Status) (h : RanIn happens stop old a new b end) → Gives Each all h.x.records h.x.answers h.x.renewals →
         RanOn Each stop old (Some all) (contents a) new (contents b) end
     ran_on ended.Stopped h give =
-        let x = exchanged [] h.records [] h.texts h.renewals [] a b h.each h.each_renewal start h.history in
-        ended_in ended.Stopped h.records h.texts h.renewals x.0 x.1 (subst (λ (p : S). Keeps (contents x.0) (contents p)) x.2 (Keeps-refl (contents x.0)))
+        let n = reached [] h.x in
+        ended_in ended.Stopped h.x.records h.x.answers h.x.renewals n.0 n.1 (subst (λ (p : S). Keeps (contents n.0) (contents p)) n.2 (Keeps-refl (contents n.0)))
         (λ os are is. inr (stopped_is stop (output.any_refused os) is)) give h.answered
     ran_on end h give =
-        let x = exchanged [] h.records [] h.texts h.renewals (Ended ∷ []) a b h.each h.each_renewal start h.history in
-        let all = whole h.records (joined h.texts) x.0 x.2.0 x.1 x.2.1 in
-        ended_in end h.records h.texts h.renewals x.0 x.1 (subst (λ (p : S). Keeps (contents x.0) (contents p)) x.2.2 (seen x.0 x.2.0 Ended x.2.1).1)
-        (λ os are is. inl (sym (length-map os outcome_text) ∙ ap length are ∙ h.each ∙ sym all)) give h.answered
+        let n = reached (Ended ∷ []) h.x in
+        let all = whole h.x.records (joined h.x.answers) n.0 n.2.0 n.1 n.2.1 in
+        ended_in end h.x.records h.x.answers h.x.renewals n.0 n.1 (subst (λ (p : S). Keeps (contents n.0) (contents p)) n.2.2 (seen n.0 n.2.0 Ended n.2.1).1)
+        (λ os are is. inl (sym (length-map os answer_of) ∙ ap length are ∙ h.x.each ∙ sym all)) give h.answered
 
     cut_on : (e : RunFault) (h : CutIn happens stop old a new b e) →
         Gives Each all (cut_parts h).0 (cut_parts h).1 (cut_parts h).2 →
         FaultedOn Each stop old (Some all) (contents a) new (contents b) e
-    cut_on e (In_taking of rs ws ds l k history answered) give =
-        let x = exchanged [] rs [] ws ds (Not_taken e ∷ []) a b l k start history in
-        cut_before e rs ws ds x.0 (not_writing e of) x.1
-        (subst (λ (p : S). Keeps (contents x.0) (contents p)) x.2.2 (seen x.0 x.2.0 (Not_taken e) x.2.1)) give answered
-    cut_on e (runs.Not_sent is rs ws ds l k history answered) give =
-        let x = exchanged [] rs [] ws ds (Not_sent ∷ []) a b l k start history in
-        cut_unsent e rs ws ds x.0 is x.1
-        (subst (λ (p : S). Keeps (contents x.0) (contents p)) x.2.2 (seen x.0 x.2.0 Not_sent x.2.1)) give answered
-    cut_on e (Past_the_most is rs ws ds l k most r history answered) give =
-        let x = exchanged [] rs [] ws ds (Took r ∷ []) a b l k start history in
-        cut_before e rs ws ds x.0
-        (λ write. let never : fault.TooMany ≡ fault.Write = sym is ∙ write in cc) x.1
-        (subst (λ (p : S). Keeps (contents x.0) (contents p)) x.2.2 (seen x.0 x.2.0 (Took r) x.2.1).1) give answered
-    cut_on e (No_text is rs ws ds l k r w history answered) give =
-        let x = exchanged [] rs [] ws ds (Took r ∷ []) a b l k start history in
-        let t = taken rs r (joined ws) x.0 x.2.0 x.1 x.2.1 in
-        cut_in e _ (rs ++ r ∷ []) (ws ++ w ∷ []) (ds ++ Unasked ∷ []) (joined ws) [] x.2.0 t
-        (subst (λ (p : S). Appends (contents x.2.0) (contents p) []) x.2.2 (Appends-nil (contents x.2.0))) give answered
-        (λ os are _. let o = last_of os ws w are in
-        output.No_text is o.0 o.1 o.2 (append-nil (joined ws) ∙ written_as o.0 ws o.3))
-    cut_on e (In_text is rs ws ds l k r front rest some history answered) give =
-        let x = exchanged [] rs [] ws ds (Took r ∷ Cut front rest ∷ []) a b l k start history in
-        let t = taken rs r (joined ws) x.0 x.2.0 x.1 x.2.1 in
-        cut_in e _ (rs ++ r ∷ []) (ws ++ (front ++ rest) ∷ []) (ds ++ Unasked ∷ []) (joined ws) front x.2.0 t
-        (subst (λ (p : S). Appends (contents x.2.0) (contents p) front) x.2.2.2
-        (seen x.2.0 x.2.2.0 (Cut front rest) x.2.2.1)) give answered
-        (λ os are _. let o = last_of os ws (front ++ rest) are in
-        output.In_last is o.0 o.1 front rest o.2 o.4 some
-        (ap (λ (v : List ℕ). v ++ front) (written_as o.0 ws o.3)))
+    cut_on e (In_taking of x answered) give =
+        let n = reached (Not_taken e ∷ []) x in
+        cut_before e x.records x.answers x.renewals n.0 (not_writing e of) n.1
+        (subst (λ (p : S). Keeps (contents n.0) (contents p)) n.2.2 (seen n.0 n.2.0 (Not_taken e) n.2.1)) give answered
+    cut_on e (runs.Not_sent is x answered) give =
+        let n = reached (Not_sent ∷ []) x in
+        cut_unsent e x.records x.answers x.renewals n.0 is n.1
+        (subst (λ (p : S). Keeps (contents n.0) (contents p)) n.2.2 (seen n.0 n.2.0 Not_sent n.2.1)) give answered
+    cut_on e (Past_the_most is r x most answered) give =
+        let n = reached (Took r ∷ []) x in
+        cut_before e x.records x.answers x.renewals n.0
+        (λ write. let never : fault.TooMany ≡ fault.Write = sym is ∙ write in cc) n.1
+        (subst (λ (p : S). Keeps (contents n.0) (contents p)) n.2.2 (seen n.0 n.2.0 (Took r) n.2.1).1) give answered
+    cut_on e (No_text is r w x answered) give =
+        let n = reached (Took r ∷ []) x in
+        let t = taken x.records r (joined x.answers) n.0 n.2.0 n.1 n.2.1 in
+        cut_in e _ (x.records ++ r ∷ []) (x.answers ++ w ∷ []) (x.renewals ++ Unasked ∷ []) (joined x.answers) [] n.2.0 t
+        (subst (λ (p : S). Appends (contents n.2.0) (contents p) []) n.2.2 (Appends-nil (contents n.2.0))) give answered
+        (λ os are _. let o = last_of os x.answers w are in
+        output.No_text is o.0 o.1 o.2 (append-nil (joined x.answers) ∙ written_as o.0 x.answers o.3))
+    cut_on e (In_text is r front rest accepts some x answered) give =
+        let n = reached (Took r ∷ Cut front rest accepts ∷ []) x in
+        let t = taken x.records r (joined x.answers) n.0 n.2.0 n.1 n.2.1 in
+        cut_in e _ (x.records ++ r ∷ []) (x.answers ++ (front ++ rest, accepts) ∷ []) (x.renewals ++ Unasked ∷ [])
+        (joined x.answers) front n.2.0 t
+        (subst (λ (p : S). Appends (contents n.2.0) (contents p) front) n.2.2.2
+        (seen n.2.0 n.2.2.0 (Cut front rest accepts) n.2.2.1)) give answered
+        (λ os are _. let o = last_of os x.answers (front ++ rest, accepts) are in
+        output.In_last is o.0 o.1 front rest o.2 (ap (λ (w : Answer). w.0) o.4) some
+        (ap (λ (v : List ℕ). v ++ front) (written_as o.0 x.answers o.3)))
 
-    too_many : (e : RunFault) → CutIn happens stop old a new b e → e ≡ fault.TooMany → HasTooMany (Some all)
-    too_many e (In_taking of rs ws ds l k history answered) is = absurd (subst IsOfTaking is of)
-    too_many e (runs.Not_sent write rs ws ds l k history answered) is = absurd cc
-    too_many e (Past_the_most _ rs ws ds l k most r history answered) is =
-        let x = exchanged [] rs [] ws ds (Took r ∷ []) a b l k start history in
-        let t = taken rs r (joined ws) x.0 x.2.0 x.1 x.2.1 in
-        let size : length all ≡ length (rs ++ r ∷ []) + length t.rest =
-        ap length t.splits ∙ length-append (rs ++ r ∷ []) t.rest in
+    too_many : (e : RunFault) → CutIn happens stop old a new b e → HadTooMany (Err e) (Some all)
+    too_many e (In_taking of x answered) is = absurd (subst IsOfTaking is of)
+    too_many e (runs.Not_sent write x answered) is = absurd cc
+    too_many e (Past_the_most _ r x most answered) is =
+        let n = reached (Took r ∷ []) x in
+        let t = taken x.records r (joined x.answers) n.0 n.2.0 n.1 n.2.1 in
+        let size : length all ≡ length (x.records ++ r ∷ []) + length t.rest =
+        ap length t.splits ∙ length-append (x.records ++ r ∷ []) t.rest in
         grind (arith, length-append)
-    too_many e (No_text memory rs ws ds l k r w history answered) is = absurd cc
-    too_many e (In_text write rs ws ds l k r front rest some history answered) is = absurd cc
+    too_many e (No_text memory r w x answered) is = absurd cc
+    too_many e (In_text write r front rest accepts some x answered) is = absurd cc
 
 -- what a run says of the records of its input, if they are known
 module _ {S : Type 0} (left : S → List (List Field) → Type 0) (contents : S → Known)
@@ -313,13 +321,13 @@ module _ {S : Type 0} (left : S → List (List Field) → Type 0) (contents : S 
     (stop : Bool) (old new : Registered) (a b : S) where
   pub on_records_as : (Whole Part : State → List (List Field) → List Outcome → State → Type 0)
       (whole : (all : List (List Field)) (end : Status) (h : RanIn happens stop old a new b end) →
-      Gives Whole all h.records h.texts h.renewals)
+      Gives Whole all h.x.records h.x.answers h.x.renewals)
       (part : (all : List (List Field)) (e : RunFault) (h : CutIn happens stop old a new b e) →
       Gives Part all (cut_parts h).0 (cut_parts h).1 (cut_parts h).2)
       (records : Records) (r : Result Status RunFault) → IsContent old.kept.content → IfSome records (left a)
       → IfOk r (RanIn happens stop old a new b) → IfErr r (CutIn happens stop old a new b)
       → EndedOn Whole Part stop old records (contents a) new (contents b) r
-      × IfErr r (λ e. e ≡ fault.TooMany → HasTooMany records)
+      × HadTooMany r records
   on_records_as Whole Part whole part (Some all) (Ok end) base begins h k =
       let start = started left contents happens seen a all begins in
       (ran_on left contents happens seen a all stop old new b base start Whole end h (whole all end h), tt)
@@ -334,16 +342,36 @@ module _ {S : Type 0} (left : S → List (List Field) → Type 0) (contents : S 
   pub on_records : (records : Records) (r : Result Status RunFault) → IsContent old.kept.content → IfSome records (left a)
       → IfOk r (RanIn happens stop old a new b) → IfErr r (CutIn happens stop old a new b)
       → EndedOn Claims Claims stop old records (contents a) new (contents b) r
-      × IfErr r (λ e. e ≡ fault.TooMany → HasTooMany records)
+      × HadTooMany r records
   on_records =
       on_records_as Claims Claims (λ all end h s t rest os is claims run texts. claims)
       (λ all e h s t rest os is claims run texts. claims)
 
--- the records of known bytes are left
-pub known_left : (left : List (List Field) → Type 0) (known : Known) → BeginsWith csv_records left known →
-    IfSome (input_records known) left
-known_left left None h = tt
-known_left left (Some bytes) h = h
+-- a run over a source
+module _ {S W : Type 0} (left : S → List (List Field) → Type 0) (failed : S → Bool) (contents : W → Known) (stop : Bool)
+    (old new : Registered) (source : S) (a b : Plain S × W) (is : a.0.source ≡ source) where
+  pub plain_on : (r : Result Status RunFault) → IsContent old.kept.content →
+      IfOk r (RanIn (OfPlain left failed contents) stop old a new b)
+      → IfErr r (CutIn (OfPlain left failed contents) stop old a new b) → (records : Records) → IfSome records (left source)
+      → EndedOn Claims Claims stop old records (contents a.1) new (contents b.1) r × HadTooMany r records
+  plain_on r base ran cut records begins =
+      on_records (left_at left failed contents) (written_at contents) (OfPlain left failed contents)
+      (plain_sees left failed contents) stop old new a b records r base
+      (subst (λ (s : S). IfSome records (left s)) (sym is) begins) ran cut
+
+-- a file that isn't there has no records, however it would be read
+pub none_left : (single : Bool) → IfSome (input_records single (Some [])) (λ rs. rs ≡ [])
+unfolding csv_on_literals lines_from
+none_left true = refl
+none_left false = refl
+
+-- the records of a file, if there is one, and those of an input are left
+pub both_left : {A B : Type 0} (left_of_first : A → List (List Field) → Type 0) (left : B → List (List Field) → Type 0)
+    (first : Option A) (second : B) (rs qs : Records) → IfSome rs (FirstLeft left_of_first first) → IfSome qs (left second) →
+    IfSome (joined_records rs qs) (JoinedLeft left_of_first left first second)
+both_left left_of_first left first second (Some rs) (Some qs) h k = (rs, qs, h, k, refl)
+both_left left_of_first left first second (Some rs) None h k = tt
+both_left left_of_first left first second None qs h k = tt
 
 -- a run that lacked memory before it began
 pub cut_at_first : (Each : State → List (List Field) → List Outcome → State → Type 0) →

@@ -3,7 +3,6 @@ pub mod RunLemmas
 pub mod Answering
 pub mod Reports
 pub mod Running
-pub mod Joining
 pub mod InputRuns
 pub mod Sending
 pub mod Ending
@@ -17,4 +16,4 @@ pub mod Restoring
 pub mod Refusing
 pub mod LogRecords
 pub mod FromLogs
-pub mod ReadInputs
+mod LastLetters

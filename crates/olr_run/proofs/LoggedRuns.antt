@@ -1,23 +1,23 @@
 -- The log of a run, from the history of its session.
-use Rattle.olr_run.proofs.Common.{IfErr, IfSome, Outcome, Field, outcome_text, SoundOutcome, append-nil, append_assoc}
+use Rattle.olr_run.proofs.Common.{IfErr, IfSome, Outcome, Field, SoundOutcome, append-nil, append_assoc}
 use Rattle.olr_run.proofs.Common.{length-map, Known, Event, Took, Ended, Not_taken, Not_sent, Wrote, Cut, History}
 use Rattle.olr_run.proofs.Common.{exchanges, RanIn, CutIn, Keeps, Past_the_most, In_text, Appends, Registered, RunFault}
-use Rattle.std.proofs.Common.{◌≡◌, ◌≢◌, ◌∙◌, ℕ, Bool, false, List, [], ◌∷◌, ◌++◌, length, map, Some, None, refl, sym}
+use Rattle.olr_run.proofs.Common.{Claims, EndedOn, Records}
+use Rattle.std.proofs.Common.{◌≡◌, ◌∙◌, ℕ, Bool, false, List, [], ◌∷◌, ◌++◌, length, map, Some, None, refl, sym}
 use Rattle.std.proofs.Common.{ap, subst, arith, length-append}
-use Rattle.olr_commands.specs.State.{Content, State}
+use Rattle.std.specs.Prelude.{IfOk, OnOk, Ok, Err, Option, Result}
+use Rattle.olr_commands.specs.State.{Change, Content, IsContent, State}
 use Rattle.std.specs.Io.KnownBytes.{append_known}
-use Rattle.olr_run.specs.Runs.{In_taking, No_text, OutcomesRenewed, IsRenewal, once_sent}
-use Rattle.olr_input.specs.Sessions.{Renewal, Renewed, Unasked, Given, Lacking}
+use Rattle.olr_run.specs.Runs.{Exchanged, HadTooMany, In_taking, No_text, OutcomesRenewed, IsRenewal, answer_of, once_sent}
+use Rattle.olr_input.specs.Sessions.{Answer, Renewal, Renewed, Unasked, Given, Lacking}
 use Rattle.olr_run.specs.Runs as runs
-use Rattle.olr_run.specs.Logged.{UpTo}
-use Rattle.olr_run.specs.Logs.{Going, HoldsBatch, Logs, LogsSome, GoesOn, EndsIn, Began, LastsWhole, LastsCut}
-use Rattle.olr_run.specs.Logged.{Leads}
-use Rattle.olr_run.proofs.InputRuns.{Sees, cut_at_first, cut_parts, Gives, last_of, on_records_as, same_left}
-use Rattle.olr_run.proofs.Common.{HasTooMany}
-use Rattle.olr_run.proofs.Sending.{faulted_sent, ran_sent, ran_unsent}
-use Rattle.std.specs.Prelude.{IfOk, OnOk, Ok, Err}
-use Rattle.olr_run.proofs.Logging.{logs_pass, logs_same, logs_settle, logs_longer, logs_renew, no_front, up_later, up_to_all}
-use Rattle.olr_input.specs.Buffers.{held, written}
+use Rattle.olr_run.specs.Logged.{Leads, UpTo}
+use Rattle.olr_run.specs.Logs.{Began, LastsWhole, LastsCut}
+use Rattle.olr_run.proofs.InputRuns.{Sees, cut_parts, Gives, last_of, on_records_as, same_left}
+use Rattle.olr_run.proofs.Sending.{Then, ended_sent, many_sent}
+use Rattle.olr_run.proofs.Logging.{Going, HoldsBatch, Logs, LogsSome, logs_pass, logs_same, logs_settle, logs_longer, logs_renew}
+use Rattle.olr_run.proofs.Logging.{no_front, up_later, up_to_all}
+use Rattle.olr_input.specs.Buffers.{pending, written}
 use Rattle.olr_input.specs.Gates.{Compaction, Passes, ready, is_closed}
 use Rattle.olr_input.specs.KeptLines.{Waiting}
 use Rattle.olr_input.specs.Unkept.{waiting}
@@ -28,19 +28,9 @@ use Rattle.olr_input.specs.declared.journal.Journal as journal
 use Rattle.olr_input.specs.declared.logged.Logged.{Logged}
 use Rattle.olr_input.specs.declared.ends.Status.{Status}
 use Rattle.olr_input.specs.declared.ends.Status.TheVariants as ended
+use Rattle.olr_input.specs.declared.ends.RunFault.TheVariants as fault
 use Rattle.olr_input.proofs.Writing.{took_nothing}
 use Rattle.std.proofs.KnownBytes.{Appends-nil, Keeps-refl}
-use Rattle.olr_commands.specs.State.{Change, IsContent}
-use Rattle.std.specs.Prelude.{Option, Result}
-use Rattle.olr_run.proofs.Common.{Records}
-use Rattle.olr_run.proofs.Common.{input_records}
-use Rattle.olr_run.specs.Logs.{Continues, LoggedOn, LogsOn, LogsUpTo}
-use Rattle.olr_run.specs.Output as output
-use Rattle.olr_run.proofs.Joining.{Longer, Joins, longer, joined_claims, none_on, both_stopped_as, both_ran_as}
-use Rattle.olr_run.proofs.Joining.{both_faulted_first_as, both_faulted_second_as}
-use Rattle.olr_run.proofs.Common.{EndedOn, joined_records, status_of}
-use Rattle.olr_run.proofs.RunLemmas.{none_claimed}
-use Rattle.olr_input.specs.declared.ends.RunFault.TheVariants as fault
 
 -- the last step of a run, after which no records were given
 renewed_split : (s t : State) (rs : List (List Field)) (r : List Field) (os : List Outcome) (o : Outcome)
@@ -69,17 +59,11 @@ known_writes (Some d) (Some e) sent o p text a b =
 module _ {J W : Type 0} {kept : J → List ℕ} {may_leave : J → List ℕ → Type 0} {contents : W → Known} where
   passes_writes : (g h : Gate J) (o p : Buffered W) (text : List ℕ) → Passes kept may_leave contents g o h p text →
       Appends (written contents o) (written contents p) text
-  passes_writes g h o p text a = known_writes (contents o.device) (contents p.device) a.sent (held o) (held p) text a.device a.bytes
+  passes_writes g h o p text a = known_writes (contents o.device) (contents p.device) a.sent (pending o) (pending p) text a.device a.bytes
 
   passes_keeps : (g h : Gate J) (o p : Buffered W) → Passes kept may_leave contents g o h p [] →
       Keeps (written contents o) (written contents p)
   passes_keeps g h o p a = took_nothing (written contents o) (written contents p) (passes_writes g h o p [] a)
-
-  some_of : {base : Known} {s : State} {rs : List (List Field)} {os : List Outcome} {g : Gate J} {o : Buffered W}
-      (first later : List Outcome) → os ≡ first ++ later → (u : State) (unwritten : List ℕ) →
-      Logs kept may_leave contents base s rs first u unwritten g o → LogsSome kept may_leave contents base s rs os g o
-  some_of first later splits u unwritten logs =
-      record { first = first; later = later; splits = splits; state = u; unwritten = unwritten; logs = logs }
 
 module _ {S W J : Type 0} (left : S → List (List Field) → Type 0) (contents : W → Known) (j : journal.Ghosts J) where
   abbrev pub Happens : Logged S J × Buffered W → Event → Logged S J × Buffered W → Type 0
@@ -101,8 +85,8 @@ module _ {S W J : Type 0} (left : S → List (List Field) → Type 0) (contents 
   log_sees a b Ended h = (h.1, passes_keeps a.0.gate b.0.gate a.1 b.1 h.0)
   log_sees a b (Not_taken e) h = passes_keeps a.0.gate h.0 a.1 b.1 h.1
   log_sees a b Not_sent h = passes_keeps a.0.gate b.0.gate a.1 b.1 h.1
-  log_sees a b (Wrote text) h = (same_left left a.0.source b.0.source h.0, passes_writes h.1.0 b.0.gate a.1 b.1 text h.1.2)
-  log_sees a b (Cut front rest) h = passes_writes h.1.0 b.0.gate a.1 b.1 front h.1.2
+  log_sees a b (Wrote answer) h = (same_left left a.0.source b.0.source h.0, passes_writes h.1.0 b.0.gate a.1 b.1 answer.0 h.1.2)
+  log_sees a b (Cut front rest accepts) h = passes_writes h.1.0 b.0.gate a.1 b.1 front h.1.2
   log_sees a b (Renewed Unasked) h = (
     same_left left a.0.source b.0.source (ap (λ (t : Logged S J). t.source) h.0),
     same_written a.1 b.1 h.1,
@@ -116,8 +100,8 @@ module _ {S W J : Type 0} (left : S → List (List Field) → Type 0) (contents 
   same_length a b Ended h = ap (λ (c : Compaction). c.renewed_from) h.0.due
   same_length a b (Not_taken e) h = h.2.untouched.length ∙ ap (λ (c : Compaction). c.renewed_from) h.1.due
   same_length a b Not_sent h = ap (λ (c : Compaction). c.renewed_from) h.1.due
-  same_length a b (Wrote text) h = ap (λ (c : Compaction). c.renewed_from) h.1.2.due ∙ h.1.1.untouched.length
-  same_length a b (Cut front rest) h = ap (λ (c : Compaction). c.renewed_from) h.1.2.due ∙ h.1.1.untouched.length
+  same_length a b (Wrote answer) h = ap (λ (c : Compaction). c.renewed_from) h.1.2.due ∙ h.1.1.untouched.length
+  same_length a b (Cut front rest accepts) h = ap (λ (c : Compaction). c.renewed_from) h.1.2.due ∙ h.1.1.untouched.length
   same_length a b (Renewed Unasked) h = ap (λ (t : Logged S J). t.gate.renewed_from) h.0
   same_length a b (Renewed (Given records)) h = h.3.length
   same_length a b (Renewed Lacking) h = h.3.untouched.length
@@ -130,15 +114,12 @@ module _ {S W J : Type 0} (left : S → List (List Field) → Type 0) (contents 
   pub run_length : (stop : Bool) (old new : Registered) (a b : Logged S J × Buffered W) (r : Result Status RunFault) →
       IfOk r (RanIn Happens stop old a new b) → IfErr r (CutIn Happens stop old a new b) →
       b.0.gate.renewed_from ≡ a.0.gate.renewed_from
-  run_length stop old new a b (Ok end) ran cut = keeps_length _ a b ran.history
-  run_length stop old new a b (Err e) ran cut = by_cut cut
-    where
-      by_cut : CutIn Happens stop old a new b e → b.0.gate.renewed_from ≡ a.0.gate.renewed_from
-      by_cut (In_taking of rs ws ds l k history answered) = keeps_length _ a b history
-      by_cut (runs.Not_sent is rs ws ds l k history answered) = keeps_length _ a b history
-      by_cut (Past_the_most is rs ws ds l k most r history answered) = keeps_length _ a b history
-      by_cut (No_text is rs ws ds l k r w history answered) = keeps_length _ a b history
-      by_cut (In_text is rs ws ds l k r front rest some history answered) = keeps_length _ a b history
+  run_length stop old new a b (Ok end) ran cut = keeps_length _ a b ran.x.history
+  run_length stop old new a b (Err e) ran (In_taking of x answered) = keeps_length _ a b x.history
+  run_length stop old new a b (Err e) ran (runs.Not_sent is x answered) = keeps_length _ a b x.history
+  run_length stop old new a b (Err e) ran (Past_the_most is r x most answered) = keeps_length _ a b x.history
+  run_length stop old new a b (Err e) ran (No_text is r w x answered) = keeps_length _ a b x.history
+  run_length stop old new a b (Err e) ran (In_text is r front rest accepts some x answered) = keeps_length _ a b x.history
 
   module _ (base : Known) (s : State) where
     abbrev Log : List (List Field) → List Outcome → State → List ℕ → Logged S J × Buffered W → Type 0
@@ -163,23 +144,23 @@ module _ {S W J : Type 0} (left : S → List (List Field) → Type 0) (contents 
 
     -- a record whose text is written, or only its first bytes
     log_cut : (rs : List (List Field)) (os : List Outcome) (t u : State) (r : List Field) (o : Outcome)
-        (front rest : List ℕ) (m k n : Logged S J × Buffered W) → length os ≡ length rs → Log rs os t [] m →
-        SoundOutcome t r o u → outcome_text o ≡ front ++ rest → Happens m (Took r) k → Happens k (Cut front rest) n
+        (front rest : List ℕ) (accepts : Bool) (m k n : Logged S J × Buffered W) → length os ≡ length rs → Log rs os t [] m →
+        SoundOutcome t r o u → answer_of o ≡ (front ++ rest, accepts) → Happens m (Took r) k → Happens k (Cut front rest accepts) n
         → Log (rs ++ r ∷ []) (os ++ o ∷ []) u rest n
-    log_cut rs os t u r o front rest m k n size a one is h cut =
+    log_cut rs os t u r o front rest accepts m k n size a one is h cut =
         logs_pass j.kept j.may_leave contents base s (rs ++ r ∷ []) (os ++ o ∷ []) u front rest cut.1.0 n.0.gate k.1 n.1
-        (logs_settle j.kept j.may_leave contents base s rs os t u r o (front ++ rest) k.0.gate cut.1.0 k.1 size one is
+        (logs_settle j.kept j.may_leave contents base s rs os t u r o (front ++ rest) accepts k.0.gate cut.1.0 k.1 size one is
         h.2.effect h.2.line (log_took rs os t r m k a h) cut.1.1) cut.1.2
 
     log_wrote : (rs : List (List Field)) (os : List Outcome) (t u : State) (r : List Field) (o : Outcome)
-        (text : List ℕ) (m k n : Logged S J × Buffered W) → length os ≡ length rs → Log rs os t [] m →
-        SoundOutcome t r o u → outcome_text o ≡ text → Happens m (Took r) k → Happens k (Wrote text) n
+        (answer : Answer) (m k n : Logged S J × Buffered W) → length os ≡ length rs → Log rs os t [] m →
+        SoundOutcome t r o u → answer_of o ≡ answer → Happens m (Took r) k → Happens k (Wrote answer) n
         → Log (rs ++ r ∷ []) (os ++ o ∷ []) u [] n
-    log_wrote rs os t u r o text m k n size a one is h wrote =
-        logs_pass j.kept j.may_leave contents base s (rs ++ r ∷ []) (os ++ o ∷ []) u text [] wrote.1.0 n.0.gate k.1 n.1
+    log_wrote rs os t u r o answer m k n size a one is h wrote =
+        logs_pass j.kept j.may_leave contents base s (rs ++ r ∷ []) (os ++ o ∷ []) u answer.0 [] wrote.1.0 n.0.gate k.1 n.1
         (subst (λ (x : List ℕ). Logs j.kept j.may_leave contents base s (rs ++ r ∷ []) (os ++ o ∷ []) u x wrote.1.0 k.1)
-        (sym (append-nil text))
-        (logs_settle j.kept j.may_leave contents base s rs os t u r o text k.0.gate wrote.1.0 k.1 size one is
+        (sym (append-nil answer.0))
+        (logs_settle j.kept j.may_leave contents base s rs os t u r o answer.0 answer.1 k.0.gate wrote.1.0 k.1 size one is
         h.2.effect h.2.line (log_took rs os t r m k a h) wrote.1.1)) wrote.1.2
 
     -- the records of the content may be given
@@ -196,10 +177,10 @@ module _ {S W J : Type 0} (left : S → List (List Field) → Type 0) (contents 
         (logs_same j.kept j.may_leave contents base s rs os t [] m.0.gate n.0.gate m.1 h.3.untouched
         (ap waiting h.3.unkept) a)
 
-    log_exchanged : (rs : List (List Field)) (ws : List (List ℕ)) (ds : List Renewal) (es : List Event)
+    log_exchanged : (rs : List (List Field)) (ws : List Answer) (ds : List Renewal) (es : List Event)
         (m b : Logged S J × Buffered W)
         (dn : List (List Field)) (dos : List Outcome) (t u : State) (os : List Outcome) → length dos ≡ length dn →
-        map outcome_text os ≡ ws → length ws ≡ length rs → Log dn dos t [] m → OutcomesRenewed t rs os ds u →
+        map answer_of os ≡ ws → length ws ≡ length rs → Log dn dos t [] m → OutcomesRenewed t rs os ds u →
         History Happens m (exchanges rs ws ds ++ es) b
         → (n : Logged S J × Buffered W) × Log (dn ++ rs) (dos ++ os) u [] n × History Happens n es b
     log_exchanged [] [] [] es m b dn dos t u [] size is l a run h =
@@ -207,8 +188,8 @@ module _ {S W J : Type 0} (left : S → List (List Field) → Type 0) (contents 
     log_exchanged [] [] (d ∷ ds) es m b dn dos t u [] size is l a run h = absurd run
     log_exchanged (r ∷ rs) (w ∷ ws) [] es m b dn dos t u (o ∷ os) size is l a run h = absurd run
     log_exchanged (r ∷ rs) (w ∷ ws) (d ∷ ds) es m b dn dos t u (o ∷ os) size is l a run h =
-        let first : outcome_text o ≡ w = cc in
-        let rest : map outcome_text os ≡ ws = cc in
+        let first : answer_of o ≡ w = cc in
+        let rest : map answer_of os ≡ ws = cc in
         let now = log_wrote dn dos t run.0 r o w m h.0 h.2.0 size a run.1 first h.1 h.2.1 in
         let grown : length (dos ++ o ∷ []) ≡ length (dn ++ r ∷ []) = grind (arith, length-append) in
         let on = log_given (dn ++ r ∷ []) (dos ++ o ∷ []) run.0 d h.2.0 h.2.2.0 now run.1.1 run.2 h.2.2.1 in
@@ -221,221 +202,144 @@ module _ {S W J : Type 0} (left : S → List (List Field) → Type 0) (contents 
 
   -- ---- whole runs
 
+  module _ (a b : Logged S J × Buffered W) where
+    abbrev Reaches : State → List (List Field) → List Outcome → State → List ℕ → Logged S J × Buffered W → Type 0
+    Reaches s rs os t unwritten m = Logs j.kept j.may_leave contents (contents a.1.device) s rs os t unwritten m.0.gate m.1
+
+    -- what is known of the log at the end, if it led to the content at the start
+    abbrev Whole : State → List (List Field) → List Outcome → State → Type 0
+    Whole s rs os t = Claims s rs os t × (Reaches s [] [] s [] a → Reaches s rs os t [] b)
+
+    abbrev Part : State → List (List Field) → List Outcome → State → Type 0
+    Part s rs os t =
+        Claims s rs os t
+        × (Reaches s [] [] s [] a → LogsSome j.kept j.may_leave contents (contents a.1.device) s rs os b.0.gate b.1)
+
   module _ (stop : Bool) (old new : Registered) (a b : Logged S J × Buffered W) (all : List (List Field)) where
-    with_rest : (base : Known) (s t : State) (rs0 rs rest : List (List Field)) (os : List Outcome) (unwritten : List ℕ) →
-        all ≡ rs ++ rest → Logs j.kept j.may_leave contents base s (rs0 ++ rs) os t unwritten b.0.gate b.1 →
-        Logs j.kept j.may_leave contents base s (rs0 ++ all) os t unwritten b.0.gate b.1
-    with_rest base s t rs0 rs rest os unwritten is l =
-        rw (is, ← append_assoc rs0 rs rest) (logs_longer j.kept j.may_leave contents base s (rs0 ++ rs) rest os t unwritten b.0.gate b.1 l)
+    abbrev Now : State → List (List Field) → List Outcome → State → List ℕ → Logged S J × Buffered W → Type 0
+    Now s rs os t unwritten m = Reaches a b s rs os t unwritten m
 
-    pub gives_whole : (end : Status) (h : RanIn Happens stop old a new b end) →
-        Gives (GoesOn j.kept j.may_leave contents a.0.gate a.1 b.0.gate b.1) all h.records h.texts h.renewals
-    gives_whole ended.Stopped h s t rest os is claims run texts base s0 rs0 os0 size l =
-        let x = log_exchanged base s0 h.records h.texts h.renewals [] a b rs0 os0 s t os size texts h.each l run h.history in
-        with_rest base s0 t rs0 h.records rest (os0 ++ os) [] is
-        (subst (λ (m : Logged S J × Buffered W).
-        Logs j.kept j.may_leave contents base s0 (rs0 ++ h.records) (os0 ++ os) t [] m.0.gate m.1) x.2 x.1)
-    gives_whole end h s t rest os is claims run texts base s0 rs0 os0 size l =
-        let x = log_exchanged base s0 h.records h.texts h.renewals (Ended ∷ []) a b rs0 os0 s t os size texts h.each l run h.history in
-        let now = log_passes base s0 (rs0 ++ h.records) (os0 ++ os) t x.0 x.2.0 x.1 x.2.1.0 in
-        with_rest base s0 t rs0 h.records rest (os0 ++ os) [] is
-        (subst (λ (m : Logged S J × Buffered W).
-        Logs j.kept j.may_leave contents base s0 (rs0 ++ h.records) (os0 ++ os) t [] m.0.gate m.1) x.2.2 now)
+    reached : (es : List Event) (x : Exchanged Happens a b es) (s t : State) (os : List Outcome) →
+        map answer_of os ≡ x.answers → OutcomesRenewed s x.records os x.renewals t → Now s [] [] s [] a →
+        (n : Logged S J × Buffered W) × Now s x.records os t [] n × History Happens n es b
+    reached es x s t os answers run l =
+        log_exchanged (contents a.1.device) s x.records x.answers x.renewals es a b [] [] s t os refl answers x.each l run
+        x.history
 
-    logs_at : (base : Known) (s0 t : State) (rs qs : List (List Field)) (os ps : List Outcome) (unwritten : List ℕ)
-        (m : Logged S J × Buffered W) → rs ≡ qs → os ≡ ps →
-        Logs j.kept j.may_leave contents base s0 rs os t unwritten m.0.gate m.1
-        → Logs j.kept j.may_leave contents base s0 qs ps t unwritten m.0.gate m.1
-    logs_at base s0 t rs qs os ps unwritten m e f l =
-        subst (λ (x : List (List Field) × List Outcome).
-        Logs j.kept j.may_leave contents base s0 x.0 x.1 t unwritten m.0.gate m.1) (λ n. (e n, f n)) l
+    with_rest : (s t : State) (rs rest : List (List Field)) (os : List Outcome) (unwritten : List ℕ) → all ≡ rs ++ rest →
+        Now s rs os t unwritten b → Now s all os t unwritten b
+    with_rest s t rs rest os unwritten is l =
+        rw is (logs_longer j.kept j.may_leave contents (contents a.1.device) s rs rest os t unwritten b.0.gate b.1 l)
 
-    some_logs : (base : Known) (s0 u : State) (rs0 rs rest : List (List Field)) (os0 os first late : List Outcome)
-        (unwritten : List ℕ) (m : Logged S J × Buffered W) → all ≡ rs ++ rest → os ≡ first ++ late → m ≡ b →
-        Logs j.kept j.may_leave contents base s0 (rs0 ++ rs) (os0 ++ first) u unwritten m.0.gate m.1
-        → LogsSome j.kept j.may_leave contents base s0 (rs0 ++ all) (os0 ++ os) b.0.gate b.1
-    some_logs base s0 u rs0 rs rest os0 os first late unwritten m is splits same l =
-        some_of (os0 ++ first) late (ap (λ (x : List Outcome). os0 ++ x) splits ∙ sym (append_assoc os0 first late)) u
-        unwritten
-        (with_rest base s0 u rs0 rs rest (os0 ++ first) unwritten is
-        (subst (λ (x : Logged S J × Buffered W).
-        Logs j.kept j.may_leave contents base s0 (rs0 ++ rs) (os0 ++ first) u unwritten x.0.gate x.1) same l))
+    gives_whole : (end : Status) (h : RanIn Happens stop old a new b end) →
+        Gives (Whole a b) all h.x.records h.x.answers h.x.renewals
+    gives_whole ended.Stopped h s t rest os is claims run answers = (
+      claims,
+      λ l.
+          let n = reached [] h.x s t os answers run l in
+          with_rest s t h.x.records rest os [] is
+          (subst (λ (m : Logged S J × Buffered W). Now s h.x.records os t [] m) n.2 n.1),
+    )
+    gives_whole end h s t rest os is claims run answers = (
+      claims,
+      λ l.
+          let n = reached (Ended ∷ []) h.x s t os answers run l in
+          let now = log_passes (contents a.1.device) s h.x.records os t n.0 n.2.0 n.1 n.2.1.0 in
+          with_rest s t h.x.records rest os [] is
+          (subst (λ (m : Logged S J × Buffered W). Now s h.x.records os t [] m) n.2.2 now),
+    )
 
-    pub gives_part : (e : RunFault) (h : CutIn Happens stop old a new b e) →
-        Gives (EndsIn j.kept j.may_leave contents a.0.gate a.1 b.0.gate b.1) all (cut_parts h).0 (cut_parts h).1 (cut_parts h).2
-    gives_part e (In_taking of rs ws ds each k history answered) s t rest os is claims run texts base s0 rs0 os0 size l =
-        let x = log_exchanged base s0 rs ws ds (Not_taken e ∷ []) a b rs0 os0 s t os size texts each l run history in
-        some_logs base s0 t rs0 rs rest os0 os os [] [] x.2.0 is (sym (append-nil os)) x.2.2
-        (log_lost base s0 (rs0 ++ rs) (os0 ++ os) t e x.0 x.2.0 x.1 x.2.1)
-    gives_part e (runs.Not_sent write rs ws ds each k history answered) s t rest os is claims run texts base s0 rs0 os0 size l =
-        let x = log_exchanged base s0 rs ws ds (Not_sent ∷ []) a b rs0 os0 s t os size texts each l run history in
-        some_logs base s0 t rs0 rs rest os0 os os [] [] x.2.0 is (sym (append-nil os)) x.2.2
-        (log_passes base s0 (rs0 ++ rs) (os0 ++ os) t x.0 x.2.0 x.1 x.2.1.1)
-    gives_part e (Past_the_most many rs ws ds each k most r history answered) s t rest os is claims run texts base s0 rs0 os0 size l =
-        let x = log_exchanged base s0 rs ws ds (Took r ∷ []) a b rs0 os0 s t os size texts each l run history in
-        some_logs base s0 t rs0 rs rest os0 os os [] [] x.2.0 is (sym (append-nil os)) x.2.2
-        (log_took base s0 (rs0 ++ rs) (os0 ++ os) t r x.0 x.2.0 x.1 x.2.1)
-    gives_part e (No_text memory rs ws ds each k r w history answered) s t rest os is claims run texts base s0 rs0 os0 size l =
-        let o = last_of os ws w texts in
-        let short : length o.0 ≡ length rs = sym (length-map o.0 outcome_text) ∙ ap length o.3 ∙ each in
-        let two = renewed_split s t rs r o.0 o.1 ds short k
-        (subst (λ (x : List Outcome). OutcomesRenewed s (rs ++ r ∷ []) x (ds ++ Unasked ∷ []) t) o.2 run) in
-        let x = log_exchanged base s0 rs ws ds (Took r ∷ []) a b rs0 os0 s two.0 o.0 size o.3 each l two.1 history in
-        some_logs base s0 two.0 rs0 rs (r ∷ rest) os0 os o.0 (o.1 ∷ []) [] x.2.0
-        (is ∙ append_assoc rs (r ∷ []) rest) o.2 x.2.2
-        (log_took base s0 (rs0 ++ rs) (os0 ++ o.0) two.0 r x.0 x.2.0 x.1 x.2.1)
-    gives_part e (In_text write rs ws ds each k r front late some history answered) s t rest os is claims run texts base s0 rs0 os0 size l =
-        let o = last_of os ws (front ++ late) texts in
-        let short : length o.0 ≡ length rs = sym (length-map o.0 outcome_text) ∙ ap length o.3 ∙ each in
-        let two = renewed_split s t rs r o.0 o.1 ds short k
-        (subst (λ (x : List Outcome). OutcomesRenewed s (rs ++ r ∷ []) x (ds ++ Unasked ∷ []) t) o.2 run) in
-        let x = log_exchanged base s0 rs ws ds (Took r ∷ Cut front late ∷ []) a b rs0 os0 s two.0 o.0 size o.3 each l two.1 history in
-        let grown : length (os0 ++ o.0) ≡ length (rs0 ++ rs) = grind (arith, length-append) in
-        let now = log_cut base s0 (rs0 ++ rs) (os0 ++ o.0) two.0 t r o.1 front late x.0 x.2.0 x.2.2.0 grown x.1 two.2 o.4 x.2.1 x.2.2.1 in
-        some_logs base s0 t rs0 (rs ++ r ∷ []) rest os0 os os [] late x.2.2.0 is (sym (append-nil os)) x.2.2.2
-        (logs_at base s0 t ((rs0 ++ rs) ++ r ∷ []) (rs0 ++ (rs ++ r ∷ [])) ((os0 ++ o.0) ++ o.1 ∷ []) (os0 ++ os) late
-        x.2.2.0 (append_assoc rs0 rs (r ∷ []))
-        (append_assoc os0 o.0 (o.1 ∷ []) ∙ ap (λ (y : List Outcome). os0 ++ y) (sym o.2)) now)
+    some_logs : (s u : State) (rs rest : List (List Field)) (os first late : List Outcome) (unwritten : List ℕ)
+        (m : Logged S J × Buffered W) → all ≡ rs ++ rest → os ≡ first ++ late → m ≡ b → Now s rs first u unwritten m →
+        LogsSome j.kept j.may_leave contents (contents a.1.device) s all os b.0.gate b.1
+    some_logs s u rs rest os first late unwritten m is splits same l =
+        record {
+          first = first;
+          later = late;
+          splits = splits;
+          state = u;
+          unwritten = unwritten;
+          logs = with_rest s u rs rest first unwritten is
+              (subst (λ (x : Logged S J × Buffered W). Now s rs first u unwritten x) same l);
+        }
 
--- what a run with a log says of the known bytes of its input
-module _ {S W J : Type 0} (left : S → List (List Field) → Type 0) (contents : W → Known)
-    (j : journal.Ghosts J) (stop : Bool) (old new : Registered) (a b : Logged S J × Buffered W) where
-  abbrev Whole : State → List (List Field) → List Outcome → State → Type 0
-  Whole s rs os t = LogsOn j.kept j.may_leave contents a.0.gate a.1 b.0.gate b.1 s rs os t
+    -- the outcomes before the last one, and the log before its record was taken
+    record Before (x : List (List Field)) (s t : State) (r : List Field) (w : Answer) (os : List Outcome) (es : List Event) :
+        Type 0 where
+      before : List Outcome
+      last : Outcome
+      splits : os ≡ before ++ last ∷ []
+      size : length before ≡ length x
+      answer : answer_of last ≡ w
+      middle : State
+      one : SoundOutcome middle r last t
+      reach : Logged S J × Buffered W
+      logs : Now s x before middle [] reach
+      more : History Happens reach es b
 
-  abbrev Part : State → List (List Field) → List Outcome → State → Type 0
-  Part s rs os t = LogsUpTo j.kept j.may_leave contents a.0.gate a.1 b.0.gate b.1 s rs os t
+    before_last : (es : List Event) (x : Exchanged Happens a b es) (s t : State) (r : List Field) (w : Answer)
+        (os : List Outcome) → map answer_of os ≡ x.answers ++ w ∷ []
+        → OutcomesRenewed s (x.records ++ r ∷ []) os (x.renewals ++ Unasked ∷ []) t → Now s [] [] s [] a →
+        Before x.records s t r w os es
+    before_last es x s t r w os answers run l =
+        let o = last_of os x.answers w answers in
+        let short : length o.0 ≡ length x.records = sym (length-map o.0 answer_of) ∙ ap length o.3 ∙ x.each in
+        let two = renewed_split s t x.records r o.0 o.1 x.renewals short x.each_renewal
+        (subst (λ (p : List Outcome). OutcomesRenewed s (x.records ++ r ∷ []) p (x.renewals ++ Unasked ∷ []) t) o.2 run) in
+        let n = reached es x s two.0 o.0 o.3 two.1 l in
+        record {
+          before = o.0;
+          last = o.1;
+          splits = o.2;
+          size = short;
+          answer = o.4;
+          middle = two.0;
+          one = two.2;
+          reach = n.0;
+          logs = n.1;
+          more = n.2;
+        }
 
-  pub log_known : (records : Records) (r : Result Status RunFault) (g h : Gate J) → IsContent old.kept.content →
-      IfSome records (left a.0.source) → a.0.gate ≡ g → h ≡ b.0.gate → IfOk r (RanIn (Happens left contents j) stop old a new b)
-      → IfErr r (CutIn (Happens left contents j) stop old a new b)
-      → LoggedOn j.kept j.may_leave contents g a.1 h b.1 stop old records new r
-      × IfErr r (λ e. e ≡ fault.TooMany → HasTooMany records)
-  log_known records r g h base begins first last ran cut =
-      subst (λ (x : Gate J × Gate J).
-      LoggedOn j.kept j.may_leave contents x.0 a.1 x.1 b.1 stop old records new r
-      × IfErr r (λ e. e ≡ fault.TooMany → HasTooMany records)) (λ n. (first n, sym last n))
-      (on_records_as (left_of left contents j) (written_of left contents j)
-      (Happens left contents j) (log_sees left contents j) stop old new a b Whole Part
-      (λ all end h s t rest os is claims run texts.
-      (claims, gives_whole left contents j stop old new a b all end h s t rest os is claims run texts))
-      (λ all e h s t rest os is claims run texts.
-      (claims, gives_part left contents j stop old new a b all e h s t rest os is claims run texts))
-      records r base begins ran cut)
-
--- ---- two runs
-
-module _ {J W : Type 0} (kept : J → List ℕ) (may_leave : J → List ℕ → Type 0) (contents : W → Known) where
-  pub goes_longer : (g h : Gate J) (o p : Buffered W) →
-      Longer (LogsOn kept may_leave contents g o h p) (LogsOn kept may_leave contents g o h p)
-  goes_longer g h o p s t rs ms os i a = (
-    longer s t rs ms os i a.0,
-    λ base s0 rs0 os0 size l.
-        subst (λ (x : List (List Field)). Logs kept may_leave contents base s0 x (os0 ++ os) t [] h p)
-        (append_assoc rs0 rs ms)
-        (logs_longer kept may_leave contents base s0 (rs0 ++ rs) ms (os0 ++ os) t [] h p (a.1 base s0 rs0 os0 size l)),
-  )
-
-  some_longer : (base : Known) (s : State) (rs ms : List (List Field)) (os : List Outcome) (g : Gate J) (o : Buffered W) →
-      LogsSome kept may_leave contents base s rs os g o → LogsSome kept may_leave contents base s (rs ++ ms) os g o
-  some_longer base s rs ms os g o a =
-      some_of a.first a.later a.splits a.state a.unwritten
-      (logs_longer kept may_leave contents base s rs ms a.first a.state a.unwritten g o a.logs)
-
-  pub ends_longer : (g h : Gate J) (o p : Buffered W) →
-      Longer (LogsUpTo kept may_leave contents g o h p) (LogsUpTo kept may_leave contents g o h p)
-  ends_longer g h o p s t rs ms os i a = (
-    longer s t rs ms os i a.0,
-    λ base s0 rs0 os0 size l.
-        subst (λ (x : List (List Field)). LogsSome kept may_leave contents base s0 x (os0 ++ os) h p)
-        (append_assoc rs0 rs ms) (some_longer base s0 (rs0 ++ rs) ms (os0 ++ os) h p (a.1 base s0 rs0 os0 size l)),
-  )
-
-  both_sizes : (rs0 rs : List (List Field)) (os0 os : List Outcome) → length os0 ≡ length rs0 → length os ≡ length rs →
-      length (os0 ++ os) ≡ length (rs0 ++ rs)
-  both_sizes rs0 rs os0 os a b = grind (arith, length-append)
-
-  -- what is known after a second run that continues a first one
-  on_joined : (Both : Known → State → List (List Field) → List Outcome → Type 0) (g h : Gate J) (o p : Buffered W)
-      (s t : State) (rs ms : List (List Field)) (os qs : List Outcome) → length os ≡ length rs →
-      GoesOn kept may_leave contents g o h p s rs os t → Continues kept may_leave contents Both h p t ms qs →
-      Continues kept may_leave contents Both g o s (rs ++ ms) (os ++ qs)
-  on_joined Both g h o p s t rs ms os qs whole a b = λ base s0 rs0 os0 size l.
-      rw (← append_assoc rs0 rs ms, ← append_assoc os0 os qs)
-      (b base s0 (rs0 ++ rs) (os0 ++ os) (both_sizes rs0 rs os0 os size whole) (a base s0 rs0 os0 size l))
-
-  pub goes_joined : (g h i : Gate J) (o p q : Buffered W) →
-      Joins (LogsOn kept may_leave contents g o h p) (LogsOn kept may_leave contents h p i q)
-      (LogsOn kept may_leave contents g o i q)
-  goes_joined g h i o p q s t u rs ms os qs sound whole a b = (
-    joined_claims s t u rs ms os qs sound whole a.0 b.0,
-    on_joined (λ base s0 ys ps. Logs kept may_leave contents base s0 ys ps u [] i q) g h o p s t rs ms os qs whole a.1 b.1,
-  )
-
-  pub ends_joined : (g h i : Gate J) (o p q : Buffered W) →
-      Joins (LogsOn kept may_leave contents g o h p) (LogsUpTo kept may_leave contents h p i q)
-      (LogsUpTo kept may_leave contents g o i q)
-  ends_joined g h i o p q s t u rs ms os qs sound whole a b = (
-    joined_claims s t u rs ms os qs sound whole a.0 b.0,
-    on_joined (λ base s0 ys ps. LogsSome kept may_leave contents base s0 ys ps i q) g h o p s t rs ms os qs whole a.1 b.1,
-  )
-
-  -- the ends of both
-  module _ (g h : Gate J) (o p : Buffered W) (stop : Bool) (old mid : Registered) (first second : Records)
-      (r : Result Status RunFault) (base : IsContent old.kept.content)
-      (f : LoggedOn kept may_leave contents g o h p stop old first mid r) where
-    pub both_cut_first : (e : RunFault) → r ≡ Err e →
-        LoggedOn kept may_leave contents g o h p stop old (joined_records first second) mid (Err e)
-    both_cut_first e is =
-        both_faulted_first_as (LogsUpTo kept may_leave contents g o h p) (LogsUpTo kept may_leave contents g o h p)
-        (LogsUpTo kept may_leave contents g o h p) (ends_longer g h o p) stop old mid first second (written contents o)
-        (written contents p) e base (rw is at f)
-
-    pub both_stopped_first : (end : Status) → r ≡ Ok end → end ≡ ended.Stopped →
-        LoggedOn kept may_leave contents g o h p stop old (joined_records first second) mid (Ok end)
-    both_stopped_first end is stopped =
-        both_stopped_as (LogsOn kept may_leave contents g o h p) (LogsOn kept may_leave contents g o h p)
-        (LogsOn kept may_leave contents g o h p) (goes_longer g h o p) stop old mid first second (written contents o)
-        (written contents p) end base (rw is at f) stopped
-
-    module _ (i : Gate J) (q : Buffered W) (new : Registered) (s : Result Status RunFault) (one : Status) (is : r ≡ Ok one)
-        (goes : one ≢ ended.Stopped) (k : LoggedOn kept may_leave contents h p i q stop mid second new s) where
-      pub both_went : (two end : Status) → s ≡ Ok two → status_of end ≡ output.greater (status_of one) (status_of two) →
-          LoggedOn kept may_leave contents g o i q stop old (joined_records first second) new (Ok end)
-      both_went two end same status =
-          both_ran_as (LogsOn kept may_leave contents g o h p) (LogsOn kept may_leave contents h p i q)
-          (LogsOn kept may_leave contents g o i q) (goes_joined g h i o p q) stop old mid new first second
-          (written contents o) (written contents p) (written contents q) one two end base (rw is at f) goes (rw same at k)
-          status
-
-      pub both_cut_second : (e : RunFault) → s ≡ Err e →
-          LoggedOn kept may_leave contents g o i q stop old (joined_records first second) new (Err e)
-      both_cut_second e same =
-          both_faulted_second_as (LogsOn kept may_leave contents g o h p) (LogsUpTo kept may_leave contents h p i q)
-          (LogsUpTo kept may_leave contents g o i q) (ends_joined g h i o p q) stop old mid new first second
-          (written contents o) (written contents p) (written contents q) one e base (rw is at f) goes (rw same at k)
-
-  -- no records
-  goes_none : (g : Gate J) (o : Buffered W) (s : State) → GoesOn kept may_leave contents g o g o s [] [] s
-  goes_none g o s base s0 rs0 os0 size l = rw (append-nil rs0, append-nil os0) l
-
-  pub none_logged : (g : Gate J) (o : Buffered W) (stop : Bool) (old : Registered) → IsContent old.kept.content →
-      LoggedOn kept may_leave contents g o g o stop old (input_records (Some [])) old (Ok ended.AllAccepted)
-  none_logged g o stop old base =
-      none_on (LogsOn kept may_leave contents g o g o) (λ s sound. (none_claimed s [] sound, goes_none g o s)) stop old
-      (written contents o) base
-
-  -- out of memory before the first record
-  pub cut_logged : (g : Gate J) (o : Buffered W) (stop : Bool) (old : Registered) (records : Records) →
-      IsContent old.kept.content →
-      LoggedOn kept may_leave contents g o g o stop old records old (Err fault.Memory)
-  cut_logged g o stop old records base =
-      cut_at_first (LogsUpTo kept may_leave contents g o g o) (λ s rs sound. (
-        none_claimed s rs sound,
-        λ from s0 rs0 os0 size l.
-            some_of (os0 ++ []) [] (sym (append-nil (os0 ++ []))) s []
-            (logs_longer kept may_leave contents from s0 rs0 rs (os0 ++ []) s [] g o (rw (append-nil os0) l)),
-      )) stop old (written contents o) records base
+    gives_part : (e : RunFault) (h : CutIn Happens stop old a new b e) →
+        Gives (Part a b) all (cut_parts h).0 (cut_parts h).1 (cut_parts h).2
+    gives_part e (In_taking of x answered) s t rest os is claims run answers = (
+      claims,
+      λ l.
+          let n = reached (Not_taken e ∷ []) x s t os answers run l in
+          some_logs s t x.records rest os os [] [] n.2.0 is (sym (append-nil os)) n.2.2
+          (log_lost (contents a.1.device) s x.records os t e n.0 n.2.0 n.1 n.2.1),
+    )
+    gives_part e (runs.Not_sent write x answered) s t rest os is claims run answers = (
+      claims,
+      λ l.
+          let n = reached (Not_sent ∷ []) x s t os answers run l in
+          some_logs s t x.records rest os os [] [] n.2.0 is (sym (append-nil os)) n.2.2
+          (log_passes (contents a.1.device) s x.records os t n.0 n.2.0 n.1 n.2.1.1),
+    )
+    gives_part e (Past_the_most many r x most answered) s t rest os is claims run answers = (
+      claims,
+      λ l.
+          let n = reached (Took r ∷ []) x s t os answers run l in
+          some_logs s t x.records rest os os [] [] n.2.0 is (sym (append-nil os)) n.2.2
+          (log_took (contents a.1.device) s x.records os t r n.0 n.2.0 n.1 n.2.1),
+    )
+    gives_part e (No_text memory r w x answered) s t rest os is claims run answers = (
+      claims,
+      λ l.
+          let n = before_last (Took r ∷ []) x s t r w os answers run l in
+          some_logs s n.middle x.records (r ∷ rest) os n.before (n.last ∷ []) [] n.more.0
+          (is ∙ append_assoc x.records (r ∷ []) rest) n.splits n.more.2
+          (log_took (contents a.1.device) s x.records n.before n.middle r n.reach n.more.0 n.logs n.more.1),
+    )
+    gives_part e (In_text write r front late accepts some x answered) s t rest os is claims run answers = (
+      claims,
+      λ l.
+          let n = before_last (Took r ∷ Cut front late accepts ∷ []) x s t r (front ++ late, accepts) os answers run l in
+          some_logs s t (x.records ++ r ∷ []) rest os os [] late n.more.2.0 is (sym (append-nil os)) n.more.2.2
+          (subst (λ (p : List Outcome). Now s (x.records ++ r ∷ []) p t late n.more.2.0) (sym n.splits)
+          (log_cut (contents a.1.device) s x.records n.before n.middle t r n.last front late accepts n.reach n.more.0 n.more.2.0
+          n.size n.logs n.one n.answer n.more.1 n.more.2.1)),
+    )
 
 -- ---- from the start to the end
 
@@ -452,7 +356,7 @@ module _ {J W : Type 0} (kept : J → List ℕ) (may_leave : J → List ℕ → 
         run = refl;
         sent = [];
         device = Appends-nil (contents o.device);
-        bytes = sym (append-nil (held o) ∙ k.none_held);
+        bytes = sym (append-nil (pending o) ∙ k.none_pending);
         survives = λ text m. (
           s.content,
           subst (λ (x : List ℕ). Leads x s.content) (sym (k.only text (subst (λ (x : J). may_leave x text) is m))) k.leads,
@@ -474,87 +378,78 @@ module _ {J W : Type 0} (kept : J → List ℕ) (may_leave : J → List ℕ → 
             });
       }
 
-module _ {J W : Type 0} (kept : J → List ℕ) (may_leave : J → List ℕ → Type 0) (contents : W → Known) (j : J)
-    (o p q : Buffered W) (g h i : Gate J) (is : g.journal ≡ j) (none : waiting g.unkept ≡ record { ready = []; batch = [] })
-    (last : Passes kept may_leave contents h p i q []) where
+module _ {S W J : Type 0} (left : S → List (List Field) → Type 0) (contents : W → Known) (j : journal.Ghosts J)
+    (a b : Logged S J × Buffered W) (log : J) (i : Gate J) (q : Buffered W) (is : a.0.gate.journal ≡ log)
+    (none : waiting a.0.gate.unkept ≡ record { ready = []; batch = [] })
+    (sends : Passes j.kept j.may_leave contents b.0.gate b.1 i q []) where
+  abbrev Start : State → Type 0
+  Start s = Began j.kept j.may_leave contents s log a.1
+
+  starts : (s : State) → Start s → Reaches left contents j a b s [] [] s [] a
+  starts s k = logs_start j.kept j.may_leave contents s log a.1 k a.0.gate is none
+
+  passed : (s t : State) (rs : List (List Field)) (os : List Outcome) (unwritten : List ℕ) →
+      Reaches left contents j a b s rs os t unwritten b
+      → Logs j.kept j.may_leave contents (contents a.1.device) s rs os t unwritten i q
+  passed s t rs os unwritten l =
+      logs_pass j.kept j.may_leave contents (contents a.1.device) s rs os t [] unwritten b.0.gate i b.1 q l sends
+
   -- a run whose answers were sent at the end
-  whole_lasts : (s t : State) (rs : List (List Field)) (os : List Outcome) → ready i ≡ [] → is_closed i ≡ false →
-      LogsOn kept may_leave contents g o h p s rs os t → LastsWhole kept may_leave contents j o i q s rs os t
-  whole_lasts s t rs os kept_all still a = (
-    a.0,
-    λ k. let l = end k in let go = l.going still in (
+  whole_lasts : ready i ≡ [] → is_closed i ≡ false → (s : State) (rs : List (List Field)) (os : List Outcome) (t : State) →
+      Whole left contents j a b s rs os t → LastsWhole j.kept j.may_leave contents log a.1 i q s rs os t
+  whole_lasts kept_all still s rs os t w = (
+    w.0,
+    λ k. let l = passed s t rs os [] (w.1 (starts s k)) in let go = l.going still in (
       l.sent,
       l.device,
       l.survives,
-      up_to_all s t rs os l.sent (held q) l.run (l.bytes ∙ append-nil (l.sent ++ held q)),
+      up_to_all s t rs os l.sent (pending q) l.run (l.bytes ∙ append-nil (l.sent ++ pending q)),
       subst (λ (x : List ℕ). Leads x t.content)
-          (ap (λ (x : List ℕ). kept i.journal ++ x) kept_all ∙ append-nil (kept i.journal)) go.all,
+          (ap (λ (x : List ℕ). j.kept i.journal ++ x) kept_all ∙ append-nil (j.kept i.journal)) go.all,
       go.only,
     ),
   )
-    where
-      end : Began kept may_leave contents s j o → Logs kept may_leave contents (contents o.device) s rs os t [] i q
-      end k =
-          logs_pass kept may_leave contents (contents o.device) s rs os t [] [] h i p q
-          (a.1 (contents o.device) s [] [] refl (logs_start kept may_leave contents s j o k g is none)) last
 
-  cut_lasts : (s t : State) (rs : List (List Field)) (os : List Outcome) →
-      LogsUpTo kept may_leave contents g o h p s rs os t → LastsCut kept may_leave contents j o i q s rs os t
-  cut_lasts s t rs os a = (
-    a.0,
+  part_lasts : (s : State) (rs : List (List Field)) (os : List Outcome) (t : State) → Part left contents j a b s rs os t →
+      LastsCut j.kept j.may_leave contents log a.1 i q s rs os t
+  part_lasts s rs os t w = (
+    w.0,
     λ k.
-        let some = a.1 (contents o.device) s [] [] refl (logs_start kept may_leave contents s j o k g is none) in
-        let l = logs_pass kept may_leave contents (contents o.device) s rs some.first some.state [] some.unwritten h i p q some.logs last in (
+        let some = w.1 (starts s k) in
+        let l = passed s some.state rs some.first some.unwritten some.logs in (
           l.sent,
           l.device,
-          λ text m. let b = l.survives text m in
-              (b.0, b.1, up_later s rs os some.first some.later b.0 l.sent some.splits b.2),
+          λ text m. let c = l.survives text m in
+              (c.0, c.1, up_later s rs os some.first some.later c.0 l.sent some.splits c.2),
         ),
   )
 
-  unsent_lasts : (s t : State) (rs : List (List Field)) (os : List Outcome) →
-      LogsOn kept may_leave contents g o h p s rs os t → LastsCut kept may_leave contents j o i q s rs os t
-  unsent_lasts s t rs os a = (
-    a.0,
-    λ k.
-        let l = logs_pass kept may_leave contents (contents o.device) s rs os t [] [] h i p q
-        (a.1 (contents o.device) s [] [] refl (logs_start kept may_leave contents s j o k g is none)) last in
-        (l.sent, l.device, l.survives),
-  )
-
-  later : Keeps (written contents p) (written contents q)
-  later = passes_keeps h i p q last
+  unsent_lasts : (s : State) (rs : List (List Field)) (os : List Outcome) (t : State) → Whole left contents j a b s rs os t →
+      LastsCut j.kept j.may_leave contents log a.1 i q s rs os t
+  unsent_lasts s rs os t w = (w.0, λ k. let l = passed s t rs os [] (w.1 (starts s k)) in (l.sent, l.device, l.survives))
 
   -- the end of a run, once its answers were sent, or could not be
-  pub lasting : {A : Type 0} (stop : Bool) (old : Registered) (records : Records) (before : Known) (new : Registered)
-      (r : Result Status RunFault) (s : Result A RunFault) → OnOk s ((ready i ≡ []) × (is_closed i ≡ false)) →
-      IfErr s (λ e. e ≡ fault.Write)
-      → EndedOn (LogsOn kept may_leave contents g o h p) (LogsUpTo kept may_leave contents g o h p) stop old records before
-      new (written contents p) r
-      → EndedOn (LastsWhole kept may_leave contents j o i q) (LastsCut kept may_leave contents j o i q) stop old records
-      before new (written contents q) (once_sent r s)
-  lasting stop old records before new (Ok end) (Ok done) all unsent run =
-      ran_sent (LogsOn kept may_leave contents g o h p) (LastsWhole kept may_leave contents j o i q)
-      (λ s rs os t. whole_lasts s t rs os all.0 all.1) stop old before new (written contents p) (written contents q) later
-      records end run
-  lasting stop old records before new (Ok end) (Err e) all unsent run =
-      ran_unsent (LogsOn kept may_leave contents g o h p) (LastsCut kept may_leave contents j o i q)
-      (λ s rs os t. unsent_lasts s t rs os) stop old before new (written contents p) (written contents q) later records end
-      e unsent run
-  lasting stop old records before new (Err e) s all unsent run =
-      faulted_sent (LogsUpTo kept may_leave contents g o h p) (LastsCut kept may_leave contents j o i q)
-      (λ s rs os t. cut_lasts s t rs os) stop old before new (written contents p) (written contents q) later records e run
-
--- what is known of the end of a run before its answers were sent
-pub many_sent : {A : Type 0} (P : Type 0) (r : Result Status RunFault) (s : Result A RunFault) →
-    IfErr s (λ e. e ≡ fault.Write) → IfErr r (λ e. e ≡ fault.TooMany → P) →
-    IfErr (once_sent r s) (λ e. e ≡ fault.TooMany → P)
-many_sent P (Ok end) (Ok done) unsent many = tt
-many_sent P (Ok end) (Err e) unsent many = λ is. absurd (let never : fault.Write ≡ fault.TooMany = sym unsent ∙ is in cc)
-many_sent P (Err e) s unsent many = many
-
-pub held_sent : {A : Type 0} (P : Type 0) (r : Result Status RunFault) (s : Result A RunFault) → OnOk s P →
-    OnOk (once_sent r s) P
-held_sent P (Ok end) (Ok done) h = h
-held_sent P (Ok end) (Err e) h = tt
-held_sent P (Err e) s h = tt
+  pub lasting : {A : Type 0} (stop : Bool) (old new : Registered) (source : S) (r : Result Status RunFault)
+      (s : Result A RunFault) → a.0.source ≡ source → OnOk s ((ready i ≡ []) × (is_closed i ≡ false)) →
+      IfErr s (λ e. e ≡ fault.Write) → IsContent old.kept.content → IfOk r (RanIn (Happens left contents j) stop old a new b)
+      → IfErr r (CutIn (Happens left contents j) stop old a new b) → (records : Records) → IfSome records (left source)
+      → EndedOn (LastsWhole j.kept j.may_leave contents log a.1 i q) (LastsCut j.kept j.may_leave contents log a.1 i q) stop
+      old records (written contents a.1) new (written contents q) (once_sent r s)
+      × HadTooMany (once_sent r s) records
+  lasting stop old new source r s of all unsent base ran cut records begins =
+      let run =
+      on_records_as (left_of left contents j) (written_of left contents j) (Happens left contents j) (log_sees left contents j)
+      stop old new a b (Whole left contents j a b) (Part left contents j a b)
+      (gives_whole left contents j stop old new a b) (gives_part left contents j stop old new a b) records r base
+      (subst (λ (x : S). IfSome records (left x)) (sym of) begins) ran cut in (
+        ended_sent (Whole left contents j a b) (Part left contents j a b)
+            (LastsWhole j.kept j.may_leave contents log a.1 i q) (LastsCut j.kept j.may_leave contents log a.1 i q) stop old
+            (written contents a.1) new (written contents b.1) (written contents q)
+            (passes_keeps b.0.gate i b.1 q sends) records r s (on_sent s all) unsent_lasts part_lasts unsent run.0,
+        many_sent records r s unsent run.1,
+      )
+    where
+      on_sent : {A : Type 0} (s : Result A RunFault) → OnOk s ((ready i ≡ []) × (is_closed i ≡ false)) →
+          OnOk s (Then (Whole left contents j a b) (LastsWhole j.kept j.may_leave contents log a.1 i q))
+      on_sent (Ok done) h = whole_lasts h.0 h.1
+      on_sent (Err e) h = tt

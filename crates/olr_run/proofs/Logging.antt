@@ -3,7 +3,7 @@ use Rattle.olr_run.proofs.Common.{Outcome, Field, read, outcome_text, SoundOutco
 use Rattle.olr_run.proofs.Common.{run_longer, run_more, append-nil, append_assoc, map-append, Known}
 use Rattle.std.proofs.Common.{◌≡◌, ◌∙◌, ℕ, Bool, true, false, not, List, [], ◌∷◌, ◌++◌, length, map, Option, Some, None}
 use Rattle.std.proofs.Common.{Ok, Err, Result, inl, inr, refl, sym, ap, subst}
-use Rattle.std.specs.Prelude.{if◌then◌else◌, ◌==◌, nat_le, cond, is_some}
+use Rattle.std.specs.Prelude.{if◌then◌else◌, ◌==◌, nat_le, cond, is_ok, is_some}
 use Rattle.std.specs.List.{concat, AllByRecursion, join_with_byte}
 use Rattle.std.proofs.KnownBytes.{Appends-trans}
 use Rattle.std.proofs.lemmas.List.Concat.{flat_map-append}
@@ -15,18 +15,17 @@ use Rattle.olr_commands.specs.State.{Ambiguous, has_asked}
 use Rattle.olr_commands.specs.Recordable.{has_node_record, has_line_records}
 use Rattle.std.specs.List.{list_all}
 use Rattle.olr_spec.specs.Map.{has_node, has_line as has_line_of}
-use Rattle.olr_spec.specs.Map.{Node_exists, No_node, Line_exists, No_line, Node_in_use, Bad_shape}
+use Rattle.olr_spec.specs.Map.{No_node, No_line}
 use Rattle.olr_run.proofs.Common.{CommandOutcome}
 use Rattle.olr_input.specs.declared.unkept.Effect.{Effect}
 use Rattle.olr_commands.specs.RecordText.{fields_line}
 use Rattle.olr_commands.specs.Dump.{steps}
-use Rattle.olr_commands.specs.Reply.{Reply, Paths, Fields, Held, Dumped, Records, Names, Obstacles}
+use Rattle.olr_commands.specs.Reply.{Reply}
 use Rattle.olr_records.specs.Records.{Read}
-use Rattle.olr_records.specs.ReplyText.{fault_text, reply_text}
 use Rattle.olr_run.specs.Logged.{IsKept, closed, Leads, UpTo, Survives}
-use Rattle.olr_run.specs.Logs.{BatchLines, HoldsBatch, Going, Logs}
+use Rattle.olr_run.specs.Runs.{answer_of}
 use Rattle.olr_run.proofs.Plain.{effect_for, effect_is}
-use Rattle.olr_input.specs.Buffers.{held}
+use Rattle.olr_input.specs.Buffers.{pending}
 use Rattle.olr_input.specs.Gates.{is_closed, ready, batch, Untouched, Keeping, None_sent, None_ready, All_kept}
 use Rattle.olr_input.specs.Gates.{Cut_off, Passes, Renewal, Replaced, Left_as_it_was, Renews}
 use Rattle.olr_commands.specs.Dump.{dump_lines}
@@ -34,11 +33,57 @@ use Rattle.olr_commands.specs.State.{IsContent}
 use Rattle.olr_run.proofs.Dumped.{dump_leads, kept_changes}
 use Rattle.olr_input.specs.Journals.{IsFront, Only, is_empty}
 use Rattle.olr_input.specs.KeptLines.{Waiting, effect_of, kept_line, has_line, line_if, line_of, settled}
-use Rattle.olr_input.specs.LoggedRuns.{is_fault, Settles}
+use Rattle.olr_input.specs.LoggedRuns.{Settles}
+use Rattle.olr_input.specs.Sessions.{Answer}
+use Rattle.std.specs.Io.KnownBytes.{Appends}
 use Rattle.olr_input.specs.Unkept.{waiting, next_line}
 use Rattle.olr_input.specs.declared.buffered.Buffered.{Buffered}
 use Rattle.olr_input.specs.declared.gate.Gate.{Gate}
 use Rattle.olr_input.specs.declared.journal.Journal as journal
+
+-- ---- what is known of the log of a run at any moment
+
+-- the records of the lines open a batch and make its changes
+pub record BatchLines (c : Content) (xs : List Change) (text : List ℕ) : Type 0 where
+  pub records : List (List Field)
+  pub lines : text ≡ concat (map fields_line records)
+  pub decoded : map read records ≡ map (λ x. Ok x) (Begin ∷ map (λ x. Make x) xs)
+  pub leads : steps (closed c) (Begin ∷ map (λ x. Make x) xs) ≡ Ok (record { content = c; batch = Some xs })
+
+abbrev pub HoldsBatch : Content → Option (List Change) → List ℕ → Type 0
+HoldsBatch c None text = text ≡ []
+HoldsBatch c (Some xs) text = BatchLines c xs text
+
+module _ {J W : Type 0} (kept : J → List ℕ) (may_leave : J → List ℕ → Type 0) (contents : W → Known) where
+  -- with its lines that are ready the log leads to the content now, and with any whole front of them to an earlier one
+  pub record Going (s : State) (rs : List (List Field)) (os : List Outcome) (t : State) (sent : List ℕ) (j : J)
+      (lines inner : List ℕ) : Type 0 where
+    pub only : Only (kept j) (may_leave j)
+    pub fronts : (front : List ℕ) → IsFront lines front → (c : Content) × Leads (kept j ++ front) c
+        × UpTo s rs os c sent
+    pub all : Leads (kept j ++ lines) t.content
+    pub batches : HoldsBatch t.content t.batch inner
+
+  -- the outcomes lead from s to t; of their texts, some bytes were sent, the next ones are held back, and the last ones
+  -- are not written yet
+  pub record Logs (base : Known) (s : State) (rs : List (List Field)) (os : List Outcome) (t : State)
+      (unwritten : List ℕ) (g : Gate J) (o : Buffered W) : Type 0 where
+    pub run : SoundOutcomes s rs os t
+    pub sent : List ℕ
+    pub device : Appends base (contents o.device) sent
+    pub bytes : texts os ≡ (sent ++ pending o) ++ unwritten
+    pub survives : Survives s rs os (may_leave g.journal) sent
+    pub going : is_closed g ≡ false → Going s rs os t sent g.journal (ready g) (batch g)
+
+  -- the same, without the last outcomes
+  pub record LogsSome (base : Known) (s : State) (rs : List (List Field)) (os : List Outcome) (g : Gate J)
+      (o : Buffered W) : Type 0 where
+    pub first : List Outcome
+    pub later : List Outcome
+    pub splits : os ≡ first ++ later
+    pub state : State
+    pub unwritten : List ℕ
+    pub logs : Logs base s rs first state unwritten g o
 
 -- ---- logs
 
@@ -281,50 +326,31 @@ module _ (k lines inner : List ℕ) (c : Content) (r : List Field) where
 
 -- ---- one outcome
 
-reply_accepts : (reply : Reply) → is_fault (reply_text reply) ≡ false
-reply_accepts (Paths es) = refl
-reply_accepts (Fields x) = refl
-reply_accepts (Dumped n text) = refl
-reply_accepts (Held n) = refl
-reply_accepts (Records n text) = refl
-reply_accepts (Names names) = refl
-reply_accepts (Obstacles found) = refl
-
-fault_rejects : (f : Fault) → is_fault (fault_text f) ≡ true
-fault_rejects (Map_fault Node_exists) = refl
-fault_rejects (Map_fault No_node) = refl
-fault_rejects (Map_fault Line_exists) = refl
-fault_rejects (Map_fault No_line) = refl
-fault_rejects (Map_fault Node_in_use) = refl
-fault_rejects (Map_fault Bad_shape) = refl
-fault_rejects f = refl
-
 refused_same : (t u : State) (q : Read Command) (f : Fault) → CommandOutcome t q (Err f) u → u ≡ t
 refused_same t u (Ok c) f h = h.1
 refused_same t u (Err e) f h = h.1
 
 -- what waits after an answer
-abbrev answered : List Field → List ℕ → Waiting → Waiting
-answered r text w = if not (is_fault text) then settled (effect_of r) (kept_line r) w else w
+abbrev answered : List Field → Bool → Waiting → Waiting
+answered r accepts w = if accepts then settled (effect_of r) (kept_line r) w else w
 
 made_is : (r : List Field) (c : Command) (w : Waiting) → read r ≡ Ok c → settled (effect_of r) (kept_line r) w ≡ made c r w
 made_is r c w e = ap (λ (f : Effect). settled f (line_if (has_line f) (line_of r)) w) (effect_is r c e)
 
 by_reply : (k : List ℕ) (w : Waiting) (t u : State) (r : List Field) (q : Read Command) (reply : Reply) → read r ≡ q →
-    CommandOutcome t q (Ok reply) u → Follows k t w → Follows k u (answered r (reply_text reply) w)
+    CommandOutcome t q (Ok reply) u → Follows k t w → Follows k u (answered r true w)
 by_reply k w t u r (Ok c) reply e h f =
-    rw (reply_accepts reply) (subst (λ (v : Waiting). Follows k u v) (sym (made_is r c w e))
-    (accepted k w.ready w.batch t.content r t.batch c u e h.0 f))
+    subst (λ (v : Waiting). Follows k u v) (sym (made_is r c w e))
+    (accepted k w.ready w.batch t.content r t.batch c u e h.0 f)
 by_reply k w t u r (Err g) reply e h f = absurd (let never = h.0 in cc)
 
 follows_outcome : (k : List ℕ) (w : Waiting) (t u : State) (r : List Field) (o : Outcome) → Follows k t w →
-    SoundOutcome t r o u → Follows k u (answered r (outcome_text o) w)
+    SoundOutcome t r o u → Follows k u (answered r (is_ok o) w)
 follows_outcome k w t u r (Ok reply) f (inl h, sound) = by_reply k w t u r (read r) reply refl h f
 follows_outcome k w t u r (Ok reply) f (inr h, sound) = absurd (let never = h.1.0 in cc)
 follows_outcome k w t u r (Err g) f (inl h, sound) =
-    rw (fault_rejects g) (subst (λ (x : State). Follows k x w) (sym (refused_same t u (read r) g h)) f)
-follows_outcome k w t u r (Err g) f (inr h, sound) =
-    rw (fault_rejects g) (subst (λ (x : State). Follows k x w) (sym h.1.1) f)
+    subst (λ (x : State). Follows k x w) (sym (refused_same t u (read r) g h)) f
+follows_outcome k w t u r (Err g) f (inr h, sound) = subst (λ (x : State). Follows k x w) (sym h.1.1) f
 
 -- ---- the outcomes so far
 
@@ -422,13 +448,13 @@ module _ {J W : Type 0} (kept : J → List ℕ) (may_leave : J → List ℕ → 
 
   module _ (rs : List (List Field)) (os : List Outcome) (t : State) (text rest : List ℕ) (g h : Gate J) (o p : Buffered W)
       (a : Log rs os t (text ++ rest) g o) (b : Passes kept may_leave contents g o h p text) where
-    bytes_now : texts os ≡ ((a.sent ++ b.sent) ++ held p) ++ rest
-    bytes_now = a.bytes ∙ regroup a.sent (held o) text rest b.sent (held p) b.bytes
+    bytes_now : texts os ≡ ((a.sent ++ b.sent) ++ pending p) ++ rest
+    bytes_now = a.bytes ∙ regroup a.sent (pending o) text rest b.sent (pending p) b.bytes
 
     up_now : UpTo s rs os t.content (a.sent ++ b.sent)
     up_now =
-        up_to_all s t rs os (a.sent ++ b.sent) (held p ++ rest) a.run
-        (bytes_now ∙ append_assoc (a.sent ++ b.sent) (held p) rest)
+        up_to_all s t rs os (a.sent ++ b.sent) (pending p ++ rest) a.run
+        (bytes_now ∙ append_assoc (a.sent ++ b.sent) (pending p) rest)
 
     batch_now : HoldsBatch t.content t.batch (batch g) → HoldsBatch t.content t.batch (batch h)
     batch_now k = subst (HoldsBatch t.content t.batch) (sym b.others.batches) k
@@ -537,26 +563,26 @@ module _ {J W : Type 0} (kept : J → List ℕ) (may_leave : J → List ℕ → 
   -- ---- one record more
 
   module _ (rs : List (List Field)) (os : List Outcome) (t u : State) (r : List Field) (oc : Outcome) (text : List ℕ)
-      (g h : Gate J) (o : Buffered W) (size : length os ≡ length rs) (one : SoundOutcome t r oc u)
-      (is : outcome_text oc ≡ text) (effect : g.unkept.effect ≡ effect_of r) (line : next_line g.unkept ≡ kept_line r)
-      (a : Log rs os t [] g o) {jn : journal.Ghosts J} (e : Settles jn g text h) where
+      (accepts : Bool) (g h : Gate J) (o : Buffered W) (size : length os ≡ length rs) (one : SoundOutcome t r oc u)
+      (is : answer_of oc ≡ (text, accepts)) (effect : g.unkept.effect ≡ effect_of r) (line : next_line g.unkept ≡ kept_line r)
+      (a : Log rs os t [] g o) {jn : journal.Ghosts J} (e : Settles jn g accepts h) where
     run_now : SoundOutcomes s (rs ++ r ∷ []) (os ++ oc ∷ []) u
     run_now = run_more SoundOutcome s t u rs r os oc size a.run one
 
-    texts_now : texts (os ++ oc ∷ []) ≡ (a.sent ++ held o) ++ text
+    texts_now : texts (os ++ oc ∷ []) ≡ (a.sent ++ pending o) ++ text
     texts_now =
         flat_map-append outcome_text os (oc ∷ [])
-        ∙ (λ i. (a.bytes ∙ append-nil (a.sent ++ held o)) i ++ (append-nil (outcome_text oc) ∙ is) i)
+        ∙ (λ i. (a.bytes ∙ append-nil (a.sent ++ pending o)) i ++ (append-nil (outcome_text oc) ∙ ap (λ (x : Answer). x.0) is) i)
 
     up_last : UpTo s (rs ++ r ∷ []) (os ++ oc ∷ []) u.content a.sent
     up_last =
-        up_to_all s u (rs ++ r ∷ []) (os ++ oc ∷ []) a.sent (held o ++ text) run_now
-        (texts_now ∙ append_assoc a.sent (held o) text)
+        up_to_all s u (rs ++ r ∷ []) (os ++ oc ∷ []) a.sent (pending o ++ text) run_now
+        (texts_now ∙ append_assoc a.sent (pending o) text)
 
-    waits_as : waiting h.unkept ≡ answered r (outcome_text oc) (waiting g.unkept)
+    waits_as : waiting h.unkept ≡ answered r (is_ok oc) (waiting g.unkept)
     waits_as =
         e.settled.waits
-        ∙ (λ i. if not (is_fault (sym is i)) then settled (effect i) (line i) (waiting g.unkept) else waiting g.unkept)
+        ∙ (λ i. if (sym is i).1 then settled (effect i) (line i) (waiting g.unkept) else waiting g.unkept)
 
     goes_now : is_closed h ≡ false → Goes (rs ++ r ∷ []) (os ++ oc ∷ []) u a.sent h.journal (ready h) (batch h)
     goes_now open_now =
@@ -617,7 +643,7 @@ module _ {J W : Type 0} (j : journal.Ghosts J) (contents : W → Known) (base : 
           (dump_leads (j.kept g.journal ++ ready g) t.content (a.going going_on).all sound)
 
       up_now : UpTo s rs os t.content a.sent
-      up_now = up_to_all s t rs os a.sent (held o) a.run (a.bytes ∙ append-nil (a.sent ++ held o))
+      up_now = up_to_all s t rs os a.sent (pending o) a.run (a.bytes ∙ append-nil (a.sent ++ pending o))
 
       by_renewal : is_closed g ≡ false → Renewal j g records h →
           Going j.kept j.may_leave contents s rs os t a.sent h.journal (ready h) (batch h)

@@ -1,18 +1,18 @@
 -- The records that a run has answered so far.
 use Rattle.olr_run.proofs.Common.{◌&&◌, ◌||◌, is_err, is_ok, if◌then◌else◌, ⊤, IfErr, or_parts, append-nil}
-use Rattle.olr_run.proofs.Common.{list_any-append, Outcome, Field, outcome_text, Represents, Registered, SoundOutcome}
+use Rattle.olr_run.proofs.Common.{list_any-append, Outcome, Field, Represents, Registered, SoundOutcome}
 use Rattle.olr_run.proofs.Common.{SoundOutcomes, most_records, Event, Took, Ended, Not_taken, Not_sent, Wrote, Cut}
 use Rattle.olr_run.proofs.Common.{History}
 use Rattle.olr_run.specs.Runs as runs
 use Rattle.olr_run.proofs.Common.{exchanges, IsOfTaking, status_of, AnsweredOn, RanIn, CutIn, Past_the_most, In_text}
 use Rattle.olr_run.proofs.Common.{RunFault, IsErrAnd, run_more, AnswersRecord, last_events, map-append, Records, Known}
-use Rattle.olr_run.proofs.Common.{FaultedOn, EndedOn}
+use Rattle.olr_run.proofs.Common.{FaultedOn, EndedOn, cases_Bool}
 use Rattle.std.proofs.Common.{arith, ◌≡◌, ◌∙◌, ◌+◌, ℕ, Bool, true, false, not, List, [], ◌∷◌, ◌++◌, length, map}
 use Rattle.std.proofs.Common.{Ok, ◌⊎◌, Err, Result, inl, inr, refl, sym, ap, subst, length-append}
 use Rattle.olr_commands.specs.State.{IsContent, State}
 use Rattle.olr_run.specs.Output.{StopsAtFault, any_refused, run_status}
-use Rattle.olr_run.specs.Runs.{In_taking, No_text, OutcomesRenewed, IsRenewal, AreRenewal}
-use Rattle.olr_input.specs.Sessions.{Renewal, Renewed, Unasked}
+use Rattle.olr_run.specs.Runs.{In_taking, No_text, OutcomesRenewed, IsRenewal, AreRenewal, Exchanged, answer_of, GoesOn}
+use Rattle.olr_input.specs.Sessions.{Answer, Renewal, Renewed, Unasked}
 use Rattle.olr_input.specs.declared.ends.Status.{Status}
 use Rattle.olr_run.proofs.RunLemmas.{sound_after, claims_of}
 use Rattle.olr_input.proofs.SessionLemmas.{history_join, exchanges_more}
@@ -27,11 +27,8 @@ use Rattle.olr_input.specs.declared.ends.RunFault.TheVariants as fault
 abbrev pub status_by : Bool → Bool → output.Status
 status_by stop b = if b then (if stop then output.Stopped else output.Some_refused) else output.All_accepted
 
--- a run is stopped by an outcome of its first or of its second part
-pub stopped_by : (stop : Bool) (os qs : List Outcome) →
-    (stop && any_refused (os ++ qs)) ≡ ((stop && any_refused os) || (stop && any_refused qs))
-stopped_by true os qs = list_any-append is_err os qs
-stopped_by false os qs = refl
+pub stopped_is : (stop b : Bool) → output.Stopped ≡ status_by stop b → (stop && b) ≡ true
+stopped_is stop b e = grind (arith, cases_Bool)
 
 -- if none of the first ends the run
 pub stops_join : (stop : Bool) (os qs : List Outcome) → (stop && any_refused os) ≡ false → StopsAtFault stop os →
@@ -81,33 +78,33 @@ Renews happens register before later =
     (renewal : Renewal) × AreRenewal register renewal × happens before (Renewed renewal) later
 
 pub record Answered (stop : Bool) (And : List Outcome → Type 0) (s : State) (records : List (List Field))
-    (texts : List (List ℕ)) (renewals : List Renewal) (t : State) : Type 0 where
+    (answers : List Answer) (renewals : List Renewal) (t : State) : Type 0 where
   pub outcomes : List Outcome
   pub each : SoundOutcomes s records outcomes t
   pub stops : StopsAtFault stop outcomes
   pub all : length outcomes ≡ length records
-  pub texts_are : map outcome_text outcomes ≡ texts
+  pub answers_are : map answer_of outcomes ≡ answers
   pub also : And outcomes
   pub renewed : OutcomesRenewed s records outcomes renewals t
 
 -- from each state that the register represented
-abbrev pub Answers : Bool → (List Outcome → Type 0) → Registered → List (List Field) → List (List ℕ) →
+abbrev pub Answers : Bool → (List Outcome → Type 0) → Registered → List (List Field) → List Answer →
     List Renewal → Registered → Type 0
-Answers stop And old records texts renewals now =
+Answers stop And old records answers renewals now =
     (s : State) → Represents old.kept s → IsContent s.content → (t : State) × Represents now.kept t
-    × Answered stop And s records texts renewals t
+    × Answered stop And s records answers renewals t
 
 pub record SoFar {S : Type 0} (happens : S → Event → S → Type 0) (stop : Bool) (old : Registered) (before : S)
     (now : Registered) (later : S) (end : Status) (n : ℕ) : Type 0 where
   pub records : List (List Field)
-  pub texts : List (List ℕ)
+  pub answers : List Answer
   pub renewals : List Renewal
   pub count : length records ≡ n
-  pub each : length texts ≡ length records
+  pub each : length answers ≡ length records
   pub each_renewal : length renewals ≡ length records
-  pub history : History happens before (exchanges records texts renewals) later
+  pub history : History happens before (exchanges records answers renewals) later
   pub last : last_events end ≡ Ended ∷ []
-  pub answered : Answers stop (Going stop end) old records texts renewals now
+  pub answered : Answers stop (Going stop end) old records answers renewals now
 
 -- the states that a register represents have its content
 pub represented : (old : Registered) (s : State) → IsContent old.kept.content → Represents old.kept s →
@@ -115,14 +112,14 @@ pub represented : (old : Registered) (s : State) → IsContent old.kept.content 
 represented old s sound represents = subst IsContent represents.0 sound
 
 answered_on : (stop : Bool) (And Then : List Outcome → Type 0) (old now : Registered) (records : List (List Field))
-    (texts : List (List ℕ)) (renewals : List Renewal) → IsContent old.kept.content →
-    Answers stop And old records texts renewals now → ((os : List Outcome) → And os → Then os) →
-    AnsweredOn stop Then old records texts renewals now
-answered_on stop And Then old now records texts renewals base h give s represents =
+    (answers : List Answer) (renewals : List Renewal) → IsContent old.kept.content →
+    Answers stop And old records answers renewals now → ((os : List Outcome) → And os → Then os) →
+    AnsweredOn stop Then old records answers renewals now
+answered_on stop And Then old now records answers renewals base h give s represents =
     let sound = represented old s base represents in
     let so = h s represents sound in
     let claims = claims_of s records so.2.outcomes so.0 sound so.2.each in
-    (so.0, so.1, so.2.outcomes, claims, so.2.texts_are, so.2.stops, give so.2.outcomes so.2.also, so.2.renewed)
+    (so.0, so.1, so.2.outcomes, claims, so.2.answers_are, so.2.stops, give so.2.outcomes so.2.also, so.2.renewed)
 
 module _ {S : Type 0} (happens : S → Event → S → Type 0) (stop : Bool) (old : Registered) (before : S) where
   -- before the first record
@@ -130,7 +127,7 @@ module _ {S : Type 0} (happens : S → Event → S → Type 0) (stop : Bool) (ol
   so_far_none =
       record {
         records = [];
-        texts = [];
+        answers = [];
         renewals = [];
         count = refl;
         each = refl;
@@ -141,28 +138,34 @@ module _ {S : Type 0} (happens : S → Event → S → Type 0) (stop : Bool) (ol
             λ s represents sound. (
               s,
               represents,
-              record { outcomes = []; each = refl; stops = tt; all = refl; texts_are = refl; also = (and-false stop, refl); renewed = refl },
+              record { outcomes = []; each = refl; stops = tt; all = refl; answers_are = refl; also = (and-false stop, refl); renewed = refl },
             );
       }
 
   module _ (now : Registered) (mid : S) (end : Status) (n : ℕ) (a : SoFar happens stop old before now mid end n) where
     -- the history up to here, and these events
-    and_then : (later : S) (es : List Event) → History happens mid es later →
-        History happens before (exchanges a.records a.texts a.renewals ++ es) later
-    and_then later es h = history_join happens before mid later (exchanges a.records a.texts a.renewals) es a.history h
+    abbrev and_then : (later : S) (es : List Event) → History happens mid es later → Exchanged happens before later es
+    and_then later es h =
+        record {
+          records = a.records;
+          answers = a.answers;
+          renewals = a.renewals;
+          each = a.each;
+          each_renewal = a.each_renewal;
+          history = history_join happens before mid later (exchanges a.records a.answers a.renewals) es a.history h;
+        }
+
+    answers_now : IsContent old.kept.content → AnsweredOn stop (GoesOn stop) old a.records a.answers a.renewals now
+    answers_now base = answered_on stop _ _ old now a.records a.answers a.renewals base a.answered (λ os g. g.0)
 
     -- there is no further record
     pub ran_whole : (later : S) → IsContent old.kept.content → happens mid Ended later →
         RanIn happens stop old before now later end
     ran_whole later base none =
         record {
-          records = a.records;
-          texts = a.texts;
-          renewals = a.renewals;
-          each = a.each;
-          each_renewal = a.each_renewal;
-          history = rw a.last (and_then later (Ended ∷ []) (later, none, refl));
-          answered = answered_on stop _ _ old now a.records a.texts a.renewals base a.answered (λ os g. g.1);
+          x = and_then later (last_events end)
+              (subst (λ (es : List Event). History happens mid es later) (sym a.last) (later, none, refl));
+          answered = answered_on stop _ _ old now a.records a.answers a.renewals base a.answered (λ os g. g.1);
         }
 
     -- no further record can be taken, or the texts could not be sent before
@@ -170,20 +173,16 @@ module _ {S : Type 0} (happens : S → Event → S → Type 0) (stop : Bool) (ol
         (happens mid (Not_taken e) later × IsOfTaking e) ⊎ (happens mid Not_sent later × (e ≡ fault.Write))
         → CutIn happens stop old before now later e
     cut_in_taking later e base (inl none) =
-        In_taking none.1 a.records a.texts a.renewals a.each a.each_renewal (and_then later (Not_taken e ∷ []) (later, none.0, refl))
-        (answered_on stop _ _ old now a.records a.texts a.renewals base a.answered (λ os g. g.0))
+        In_taking none.1 (and_then later (Not_taken e ∷ []) (later, none.0, refl)) (answers_now base)
     cut_in_taking later e base (inr held) =
-        runs.Not_sent held.1 a.records a.texts a.renewals a.each a.each_renewal (and_then later (Not_sent ∷ []) (later, held.0, refl))
-        (answered_on stop _ _ old now a.records a.texts a.renewals base a.answered (λ os g. g.0))
+        runs.Not_sent held.1 (and_then later (Not_sent ∷ []) (later, held.0, refl)) (answers_now base)
 
     -- one record more than the greatest number
     pub cut_past : (later : S) (fields : List Field) → IsContent old.kept.content → n ≡ most_records →
         happens mid (Took fields) later
         → CutIn happens stop old before now later fault.TooMany
     cut_past later fields base most took =
-        Past_the_most refl a.records a.texts a.renewals a.each a.each_renewal (a.count ∙ most) fields
-        (and_then later (Took fields ∷ []) (later, took, refl))
-        (answered_on stop _ _ old now a.records a.texts a.renewals base a.answered (λ os g. g.0))
+        Past_the_most refl fields (and_then later (Took fields ∷ []) (later, took, refl)) (a.count ∙ most) (answers_now base)
 
     -- ---- one record more
 
@@ -191,7 +190,8 @@ module _ {S : Type 0} (happens : S → Event → S → Type 0) (stop : Bool) (ol
       answers_more : (And : List Outcome → Type 0) (r : Result Bool RunFault)
           (reported : AnswersRecord happens now fields new taken later r) (renewal : Renewal)
           → AreRenewal new renewal → ((os : List Outcome) (o : Outcome) → is_ok o ≡ reported.accepts → Going stop end os → And (os ++ o ∷ []))
-          → Answers stop And old (a.records ++ fields ∷ []) (a.texts ++ reported.text ∷ []) (a.renewals ++ renewal ∷ []) new
+          → Answers stop And old (a.records ++ fields ∷ []) (a.answers ++ (reported.text, reported.accepts) ∷ [])
+          (a.renewals ++ renewal ∷ []) new
       answers_more And r reported renewal are give s represents sound =
           let so = a.answered s represents sound in
           let one = so.2 in
@@ -203,7 +203,7 @@ module _ {S : Type 0} (happens : S → Event → S → Type 0) (stop : Bool) (ol
               each = run_more SoundOutcome s so.0 t.0 a.records fields one.outcomes t.1 one.all one.each t.3;
               stops = stops_join stop one.outcomes (t.1 ∷ []) one.also.0 one.stops (λ _. refl, tt);
               all = grind (arith, length-append);
-              texts_are = map-append outcome_text one.outcomes (t.1 ∷ []) ∙ (λ i. one.texts_are i ++ t.4 i ∷ []);
+              answers_are = map-append answer_of one.outcomes (t.1 ∷ []) ∙ (λ i. one.answers_are i ++ (t.4 i, t.5 i) ∷ []);
               also = give one.outcomes t.1 t.5 one.also;
               renewed = renewed_more s so.0 t.0 a.records fields one.outcomes t.1 a.renewals renewal one.renewed one.all t.3
                   (are t.0 t.2);
@@ -211,12 +211,13 @@ module _ {S : Type 0} (happens : S → Event → S → Type 0) (stop : Bool) (ol
           )
 
       -- the history with its events
-      history_more : (text : List ℕ) (renewal : Renewal) (last : S) → happens taken (Wrote text) later →
+      history_more : (answer : Answer) (renewal : Renewal) (last : S) → happens taken (Wrote answer) later →
           happens later (Renewed renewal) last
-          → History happens before (exchanges (a.records ++ fields ∷ []) (a.texts ++ text ∷ []) (a.renewals ++ renewal ∷ [])) last
-      history_more text renewal last wrote renewed =
-          rw (exchanges_more a.records a.texts a.renewals fields text renewal a.each a.each_renewal)
-          (and_then last (Took fields ∷ Wrote text ∷ Renewed renewal ∷ [])
+          → History happens before (exchanges (a.records ++ fields ∷ []) (a.answers ++ answer ∷ []) (a.renewals ++ renewal ∷ [])) last
+      history_more answer renewal last wrote renewed =
+          rw (exchanges_more a.records a.answers a.renewals fields answer renewal a.each a.each_renewal)
+          (history_join happens before mid last (exchanges a.records a.answers a.renewals)
+          (Took fields ∷ Wrote answer ∷ Renewed renewal ∷ []) a.history
           (taken, took, (later, wrote, (last, renewed, refl))))
 
       -- one that does not end the run
@@ -228,12 +229,12 @@ module _ {S : Type 0} (happens : S → Event → S → Type 0) (stop : Bool) (ol
       one_more next b renewal on reported are renewed last goes =
           record {
             records = a.records ++ fields ∷ [];
-            texts = a.texts ++ reported.text ∷ [];
+            answers = a.answers ++ (reported.text, reported.accepts) ∷ [];
             renewals = a.renewals ++ renewal ∷ [];
             count = grind (arith, length-append);
             each = grind (arith, length-append);
             each_renewal = one_longer a.renewals a.records renewal fields a.each_renewal;
-            history = history_more reported.text renewal on reported.writes.0 renewed;
+            history = history_more (reported.text, reported.accepts) renewal on reported.writes.0 renewed;
             last = last;
             answered = answers_more _ (Ok b) reported renewal are (λ os o is. goes os o (is ∙ sym reported.writes.1));
           }
@@ -255,14 +256,17 @@ module _ {S : Type 0} (happens : S → Event → S → Type 0) (stop : Bool) (ol
           → RanIn happens stop old before new on ended.Stopped
       ran_stopped b on base e stops reported d =
           record {
-            records = a.records ++ fields ∷ [];
-            texts = a.texts ++ reported.text ∷ [];
-            renewals = a.renewals ++ d.0 ∷ [];
-            each = grind (arith, length-append);
-            each_renewal = one_longer a.renewals a.records d.0 fields a.each_renewal;
-            history =
-                rw (append-nil (exchanges (a.records ++ fields ∷ []) (a.texts ++ reported.text ∷ []) (a.renewals ++ d.0 ∷ [])))
-                (history_more reported.text d.0 on reported.writes.0 d.2);
+            x = record {
+              records = a.records ++ fields ∷ [];
+              answers = a.answers ++ (reported.text, reported.accepts) ∷ [];
+              renewals = a.renewals ++ d.0 ∷ [];
+              each = grind (arith, length-append);
+              each_renewal = one_longer a.renewals a.records d.0 fields a.each_renewal;
+              history =
+                  rw (append-nil (exchanges (a.records ++ fields ∷ []) (a.answers ++ (reported.text, reported.accepts) ∷ [])
+                  (a.renewals ++ d.0 ∷ [])))
+                  (history_more (reported.text, reported.accepts) d.0 on reported.writes.0 d.2);
+            };
             answered = answered_on stop _ _ old new _ _ _ base
                 (answers_more (λ os. any_refused os ≡ true) (Ok b) reported d.0 d.1 (λ os o is g.
                 refused_more os o false (is ∙ sym reported.writes.1 ∙ e) ∙ or-true (any_refused os)))
@@ -278,13 +282,14 @@ module _ {S : Type 0} (happens : S → Event → S → Type 0) (stop : Bool) (ol
           (answers_more (λ os. ⊤) (Err e) reported Unasked (λ t h. tt) (λ os o is g. tt)) (λ os h. h) in
           elim reported.writes [
             | inl none ↦
-                No_text none.0 a.records a.texts a.renewals a.each a.each_renewal fields reported.text
+                No_text none.0 fields (reported.text, reported.accepts)
                 (and_then later (Took fields ∷ []) (taken, took, sym none.1)) more
             | inr cut ↦
-                In_text cut.5 a.records a.texts a.renewals a.each a.each_renewal fields cut.0 cut.1 cut.3
-                (and_then later (Took fields ∷ Cut cut.0 cut.1 ∷ []) (taken, took, (later, cut.4, refl)))
+                In_text cut.5 fields cut.0 cut.1 reported.accepts cut.3
+                (and_then later (Took fields ∷ Cut cut.0 cut.1 reported.accepts ∷ []) (taken, took, (later, cut.4, refl)))
                 (subst (λ (text : List ℕ).
-                AnsweredOn stop (λ os. ⊤) old (a.records ++ fields ∷ []) (a.texts ++ text ∷ []) (a.renewals ++ Unasked ∷ []) new) cut.2 more)
+                AnsweredOn stop (λ os. ⊤) old (a.records ++ fields ∷ []) (a.answers ++ (text, reported.accepts) ∷ [])
+                (a.renewals ++ Unasked ∷ []) new) cut.2 more)
           ]
 
 -- a fault that `?` passes on

@@ -1,7 +1,9 @@
 -- The end of a run once its answers were sent, or could not be, with what is known of its outcomes from more.
 use Rattle.olr_run.proofs.Common.{Field, Keeps, Known, LeadsOn, Outcome, Records, RanOn, FaultedOn, Registered}
-use Rattle.olr_run.proofs.Common.{RunFault, status_of}
-use Rattle.std.proofs.Common.{◌≡◌, ℕ, Bool, List, None, Some}
+use Rattle.olr_run.proofs.Common.{EndedOn, IfErr, RunFault, exit_code, status_of}
+use Rattle.olr_run.specs.Runs.{HadTooMany, once_sent}
+use Rattle.std.specs.Prelude.{OnOk}
+use Rattle.std.proofs.Common.{◌≡◌, ◌≤◌, ◌∙◌, ℕ, Bool, List, None, Some, Result, Ok, Err, sym, arith}
 use Rattle.std.proofs.KnownBytes.{Appends-kept}
 use Rattle.olr_commands.specs.State.{State}
 use Rattle.olr_run.specs.Output.{Faulted, Ran}
@@ -9,9 +11,14 @@ use Rattle.olr_run.specs.Output as output
 use Rattle.olr_input.specs.declared.ends.RunFault.TheVariants as fault
 use Rattle.olr_input.specs.declared.ends.Status.{Status}
 
+-- what is known of the outcomes gives more
+abbrev pub Then : (State → List (List Field) → List Outcome → State → Type 0) →
+    (State → List (List Field) → List Outcome → State → Type 0) → Type 0
+Then Before After =
+    (s : State) (rs : List (List Field)) (os : List Outcome) (t : State) → Before s rs os t → After s rs os t
+
 module _ (Before After : State → List (List Field) → List Outcome → State → Type 0)
-    (f : (s : State) (rs : List (List Field)) (os : List Outcome) (t : State) → Before s rs os t → After s rs os t)
-    (stop : Bool) (old : Registered) (before : Known) (new : Registered) (mid later : Known) (kept : Keeps mid later) where
+    (f : Then Before After) (stop : Bool) (old : Registered) (before : Known) (new : Registered) (mid later : Known) (kept : Keeps mid later) where
   -- nothing more was written
   sent : (Then Now : State → List (List Field) → State → List ℕ → Type 0)
       → ((s : State) (rs : List (List Field)) (t : State) (w : List ℕ) → Then s rs t w → Now s rs t w) → (records : Records)
@@ -50,3 +57,43 @@ module _ (Before After : State → List (List Field) → List Outcome → State 
         stops = r.stops;
         wrote = output.Not_sent write r.wrote;
       }) records h
+
+-- ---- by whether the answers could be sent
+
+module _ (Whole Part WholeSent PartSent : State → List (List Field) → List Outcome → State → Type 0) (stop : Bool)
+    (old : Registered) (before : Known) (new : Registered) (mid later : Known) (kept : Keeps mid later) (records : Records)
+    {A : Type 0} where
+  pub ended_sent : (r : Result Status RunFault) (s : Result A RunFault) → OnOk s (Then Whole WholeSent) → Then Whole PartSent →
+      Then Part PartSent → IfErr s (λ e. e ≡ fault.Write) → EndedOn Whole Part stop old records before new mid r →
+      EndedOn WholeSent PartSent stop old records before new later (once_sent r s)
+  ended_sent (Ok end) (Ok done) whole unsent part write run =
+      ran_sent Whole WholeSent whole stop old before new mid later kept records end run
+  ended_sent (Ok end) (Err e) whole unsent part write run =
+      ran_unsent Whole PartSent unsent stop old before new mid later kept records end e write run
+  ended_sent (Err e) s whole unsent part write run =
+      faulted_sent Part PartSent part stop old before new mid later kept records e run
+
+module _ {A : Type 0} where
+  pub many_sent : (records : Records) (r : Result Status RunFault) (s : Result A RunFault) → IfErr s (λ e. e ≡ fault.Write) →
+      HadTooMany r records → HadTooMany (once_sent r s) records
+  many_sent records (Ok end) (Ok done) unsent many = tt
+  many_sent records (Ok end) (Err e) unsent many = λ is.
+      absurd (let never : fault.Write ≡ fault.TooMany = sym unsent ∙ is in cc)
+  many_sent records (Err e) s unsent many = many
+
+  pub held_sent : (P : Type 0) (r : Result Status RunFault) (s : Result A RunFault) → OnOk s P → OnOk (once_sent r s) P
+  held_sent P (Ok end) (Ok done) h = h
+  held_sent P (Ok end) (Err e) h = tt
+  held_sent P (Err e) s h = tt
+
+  pub on_ok : (P : Type 0) (s : Result A RunFault) → P → OnOk s P
+  on_ok P (Ok done) h = h
+  on_ok P (Err e) h = tt
+
+-- a status of 0 or 1 is that of a run that was not cut off
+pub on_low : (P : Type 0) (r : Result Status RunFault) → exit_code r ≤ 1 → OnOk r P → P
+on_low P (Ok end) low h = h
+on_low P (Err fault.Read) low h = absurd (omega (arith, low))
+on_low P (Err fault.Write) low h = absurd (omega (arith, low))
+on_low P (Err fault.TooMany) low h = absurd (omega (arith, low))
+on_low P (Err fault.Memory) low h = absurd (omega (arith, low))

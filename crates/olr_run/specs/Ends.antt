@@ -1,51 +1,123 @@
--- How the program ends, given its command-line arguments, the result of opening the file, and the bytes of file and
--- input; with --lines, each of their lines is one record.
---     SendsAnswers ended before later r      how a run ends once its answers have been sent
---     Ends arguments Opened input old before new later code      the register, what is written and the exit status
-use Rattle.std.specs.Prelude.{◌≡◌, ℕ, Bool, true, ◌||◌, List, [], Option, Some, None, Result, Ok, Err, ◌⊎◌, IsTrue, is_ok, is_some}
-use Rattle.std.specs.Io.KnownBytes.{Keeps}
+-- How the program ends, given its command-line arguments, the results of opening the file and the log, and the bytes of file
+-- and input; with --lines, each of their lines is one record.
+--     run_code ended in_batch      the exit status of a run with a log: 6 exactly if it was not cut off and a batch is open
+--     WithoutLog      a run without a log, from the empty register
+--     FromLog, WithLog      a run from a log that was opened; or that could not be opened
+--     AskedEnds, Ends      the end by what the arguments ask for, and by the arguments
+use Rattle.std.specs.Prelude.{◌≡◌, ◌⊎◌, ℕ, Bool, true, false, not, ◌&&◌, ◌||◌, List, [], Option, Some, None, Result, Ok, Err}
+use Rattle.std.specs.Prelude.{is_ok, is_some, if◌then◌else◌, IsTrue}
 use Rattle.clap.specs.Faults.{fault_of}
-use Rattle.olr_arguments.specs.Explains.{Explains}
-use Rattle.olr_arguments.specs.Opens.{IsFile}
-use Rattle.olr_arguments.specs.Options.{Options, keep_app, options}
-use Rattle.olr_register.specs.Registered.{Registered}
+use Rattle.sqlite_disk.specs.declared.Disk as disk
+use Rattle.olr_run.specs.Explains.{Explains}
+use Rattle.olr_run.specs.Opens.{IsFile}
+use Rattle.olr_run.specs.Options.{Options, keep_app, options}
+use Rattle.olr_run.specs.Sizes.{IsLength, NoSize}
+use Rattle.olr_log.specs.Logs.{kept_of, left_of, is_own_of}
+use Rattle.olr_log.specs.declared.folder.Folder as folder
+use Rattle.olr_log.specs.declared.log_file.LogFile.{LogFile}
+use Rattle.olr_log.specs.declared.place.OpenError.{OpenError}
+use Rattle.olr_log.specs.declared.place.OpenError.TheVariants as unopened
+use Rattle.olr_register.specs.Registered.{Registered, nothing_registered}
+use Rattle.olr_run.specs.LogEnds.{Begins, LastsOn, Unbegun}
 use Rattle.olr_run.specs.Output.{Claims}
-use Rattle.olr_run.specs.Runs.{input_records, records_read, RanOn, FaultedOn, HasTooMany}
-use Rattle.olr_input.specs.Inputs.{read_as}
+use Rattle.olr_run.specs.Runs.{Records, EndedOn, HadTooMany, records_read}
+use Rattle.olr_input.specs.Buffers.{written}
+use Rattle.olr_input.specs.Gates.{compaction}
 use Rattle.olr_input.specs.Sessions.{Known}
 use Rattle.olr_input.specs.Statuses.{exit_code}
+use Rattle.olr_input.specs.declared.buffered.Buffered.{Buffered}
 use Rattle.olr_input.specs.declared.ends.RunFault.{RunFault}
-use Rattle.olr_input.specs.declared.ends.RunFault.TheVariants as fault
 use Rattle.olr_input.specs.declared.ends.Status.{Status}
+use Rattle.olr_input.specs.declared.gate.Gate.{Gate}
 
--- it ends as it ended, or with a fault of writing in place of a status
-abbrev pub SendsAnswers : Result Status RunFault → Known → Known → Result Status RunFault → Type 0
-SendsAnswers ended before later r =
-    Keeps before later × ((r ≡ ended) ⊎ (IsTrue (is_ok ended) × (r ≡ Err fault.Write)))
+-- ---- without a log
 
--- options about a log
-abbrev pub is_about_log : Options → Bool
-is_about_log o = is_some o.log || o.new || is_some o.compact_at
+pub record WithoutLog (stop : Bool) (records : Records) (before later : Known) (code : ℕ) : Type 0 where
+  pub new : Registered
+  pub end : Result Status RunFault
+  pub ended : EndedOn Claims Claims stop nothing_registered records before new later end
+  pub too_many : HadTooMany end records
+  pub status : code ≡ exit_code end
 
--- a run is made only if the arguments have no fault and the file was opened
-pub data Ends (arguments : List (List ℕ)) (Opened : List ℕ → Option Known → Type 0) (input : Known) (old : Registered)
-    (before : Known) (new : Registered) (later : Known) (code : ℕ) : Type 0 where
-  Explained : Explains (fault_of keep_app arguments) before later code → new ≡ old →
-      Ends arguments Opened input old before new later code
-  Log_refused : fault_of keep_app arguments ≡ [] → is_about_log (options arguments) ≡ true → later ≡ before → new ≡ old →
-      code ≡ 2 → Ends arguments Opened input old before new later code
-  Not_opened : fault_of keep_app arguments ≡ [] → (name : List ℕ) → (options arguments).file ≡ Some name →
-      Opened name None →
-      later ≡ before → new ≡ old → code ≡ 3
-      → Ends arguments Opened input old before new later code
-  Ran : fault_of keep_app arguments ≡ [] → (file : Known) → IsFile (options arguments).file Opened file →
-      (end : Status) →
-      RanOn Claims (options arguments).stop old (records_read (options arguments).lines file input) before new later end
-      → code ≡ exit_code (Ok end) → Ends arguments Opened input old before new later code
-  Cut_off : fault_of keep_app arguments ≡ [] → (file : Known) → IsFile (options arguments).file Opened file →
-      (e : RunFault) →
-      FaultedOn Claims (options arguments).stop old (records_read (options arguments).lines file input) before new later e
-      → (e ≡ fault.TooMany
-      → HasTooMany (input_records (read_as (options arguments).lines file))
-      ⊎ HasTooMany (input_records (read_as (options arguments).lines input)))
-      → code ≡ exit_code (Err e) → Ends arguments Opened input old before new later code
+-- ---- with a log
+
+-- of a log that can't be opened
+abbrev pub UnopenedCode : OpenError → ℕ → Type 0
+UnopenedCode unopened.Missing code = code ≡ 2
+UnopenedCode unopened.Exists code = code ≡ 2
+UnopenedCode (unopened.InUse process) code = code ≡ 7
+UnopenedCode (unopened.Lock error) code = code ≡ 3
+UnopenedCode (unopened.Io error) code = (code ≡ 3) ⊎ (code ≡ 4)
+
+-- of a log from which no run began: 5 exactly if it was rejected
+abbrev pub UnbegunCode : Bool → ℕ → Type 0
+UnbegunCode true code = code ≡ 5
+UnbegunCode false code = (code ≡ 3) ⊎ (code ≡ 4)
+
+abbrev pub run_code : Result Status RunFault → Bool → ℕ
+run_code ended in_batch = if is_ok ended && in_batch then 6 else exit_code ended
+
+-- options about a log, without one
+abbrev pub lacks_log : Options → Bool
+lacks_log o = not (is_some o.log) && (o.new || is_some o.compact_at)
+
+module _ {D F : Type 0} {d : disk.Ghosts D} {f : folder.Ghosts F D} where
+  -- the result of opening a log of this name, or of making it
+  abbrev pub OpensLog : (List ℕ → Bool → Bool → List ℕ → (List ℕ → Type 0) → Type 0) →
+      (List ℕ → Bool → OpenError → Type 0) → List ℕ → Bool → Result (LogFile D F d f) OpenError → Type 0
+  OpensLog MayBe Refuses name is_new (Ok log) = MayBe name is_new (is_own_of log) (kept_of log) (left_of log)
+  OpensLog MayBe Refuses name is_new (Err e) = Refuses name is_new e
+
+  -- what may be left of the log was left at the end of the run, or is all that is kept, if the run was not cut off
+  abbrev pub LeftAfter : Gate (LogFile D F d f) → Result Status RunFault → LogFile D F d f → Type 0
+  LeftAfter g end last =
+      (t : List ℕ) → left_of last t → left_of g.journal t ⊎ (IsTrue (is_ok end) × (t ≡ kept_of g.journal))
+
+module _ {D F : Type 0} {d : disk.Ghosts D} {f : folder.Ghosts F D} {W : Type 0} (contents : W → Known) where
+  -- It could not begin, and nothing was answered; or it began, and its log was replaced from this length on.
+  pub data FromLog (log last : LogFile D F d f) (least : ℕ) (stop : Bool) (records : Records) (o p : Buffered W) (code : ℕ) :
+      Type 0 where
+    Not_begun : p ≡ o → (rejected : Bool) → UnbegunCode rejected code → Unbegun log last rejected →
+        FromLog log last least stop records o p code
+    Begun : (read start : LogFile D F d f) (old new : Registered) → Begins log read start old →
+        (end : Result Status RunFault) →
+        EndedOn (LastsOn contents start o last p) (LastsOn contents start o last p) stop old records (written contents o)
+        new (written contents p) end
+        → HadTooMany end records → (g : Gate (LogFile D F d f)) → (compaction g).renewed_from ≡ least → LeftAfter g end last
+        → code ≡ run_code end (is_some new.kept.batch) → FromLog log last least stop records o p code
+
+  -- the log as it was left
+  pub data WithLog (Opened : Result (LogFile D F d f) OpenError → Type 0) (least : ℕ) (stop : Bool) (records : Records)
+      (o p : Buffered W) (left : Option (LogFile D F d f)) (code : ℕ) : Type 0 where
+    Log_not_opened : (e : OpenError) → Opened (Err e) → p ≡ o → left ≡ None → UnopenedCode e code →
+        WithLog Opened least stop records o p left code
+    Log_opened : (log last : LogFile D F d f) → Opened (Ok log) → left ≡ Some last →
+        FromLog log last least stop records o p code
+        → WithLog Opened least stop records o p left code
+
+  -- ---- the program
+
+  module _ (Opened : List ℕ → Option Known → Type 0)
+      (OpenedLog : List ℕ → Bool → Result (LogFile D F d f) OpenError → Type 0) (input : Known) (o p : Buffered W)
+      (left : Option (LogFile D F d f)) (code : ℕ) where
+    -- a log is left only if the file that is asked for was opened, and the size is one
+    pub data AskedEnds (asked : Options) : Type 0 where
+      Log_lacking : lacks_log asked ≡ true → p ≡ o → left ≡ None → code ≡ 2 → AskedEnds asked
+      Not_opened : (name : List ℕ) → asked.file ≡ Some name → Opened name None → p ≡ o → left ≡ None → code ≡ 3 →
+          AskedEnds asked
+      No_size : (text : List ℕ) → asked.compact_at ≡ Some text → NoSize text → p ≡ o → left ≡ None → code ≡ 2 →
+          AskedEnds asked
+      No_memory : p ≡ o → left ≡ None → code ≡ 4 → AskedEnds asked
+      Without : asked.log ≡ None → (file : Known) → IsFile asked.file Opened file → left ≡ None →
+          WithoutLog asked.stop (records_read asked.lines file input) (written contents o) (written contents p) code
+          → AskedEnds asked
+      With : (name : List ℕ) → asked.log ≡ Some name → (file : Known) → IsFile asked.file Opened file → (least : ℕ) →
+          IsLength asked.compact_at (Some least) →
+          WithLog (OpenedLog name asked.new) least asked.stop (records_read asked.lines file input) o p left code
+          → AskedEnds asked
+
+    -- a run is made only if the arguments have no fault
+    pub data Ends (arguments : List (List ℕ)) : Type 0 where
+      Explained : Explains (fault_of keep_app arguments) (written contents o) (written contents p) code → left ≡ None →
+          Ends arguments
+      Carried_out : fault_of keep_app arguments ≡ [] → AskedEnds (options arguments) → Ends arguments

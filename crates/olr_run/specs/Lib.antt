@@ -1,8 +1,11 @@
+pub mod Options
+pub mod Explains
+pub mod Opens
+pub mod Sizes
 pub mod Output
 pub mod Runs
-pub mod Ends
 pub mod Logged
 pub mod Logs
 pub mod Restored
 pub mod LogEnds
-pub mod ProgramEnds
+pub mod Ends

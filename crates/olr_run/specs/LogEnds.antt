@@ -4,10 +4,9 @@
 --     BeginsWith own text c      what the text of a log says: of one that the program wrote, each record is a line as the
 --         program writes it
 --     Begins log read start register      a register and a log in which records can be kept, from a log that was opened
---     FromLog      how a run from a log ends
+--     LastsOn      what the log may leave at the end of the run
 use Rattle.std.specs.Prelude.{◌≡◌, ◌⊎◌, ℕ, Bool, true, false, List}
 use Rattle.std.specs.List.{concat}
-use Rattle.std.specs.Io.KnownBytes.{Appends}
 use Rattle.sqlite_disk.specs.declared.Disk as disk
 use Rattle.olr_commands.specs.Dump.{dump_lines}
 use Rattle.olr_commands.specs.Reply.{Outcome}
@@ -18,8 +17,8 @@ use Rattle.olr_log.specs.declared.log_file.LogFile.{LogFile}
 use Rattle.olr_records.specs.Records.{Field}
 use Rattle.olr_register.specs.RegisterState.{Represents}
 use Rattle.olr_register.specs.Registered.{Registered}
-use Rattle.olr_run.specs.Logged.{closed, Leads, Survives}
-use Rattle.olr_run.specs.Logs.{Began}
+use Rattle.olr_run.specs.Logged.{closed, Leads}
+use Rattle.olr_run.specs.Logs.{Lasts}
 use Rattle.olr_run.specs.Output.{Claims}
 use Rattle.olr_run.specs.Restored.{IsContentOf}
 use Rattle.olr_run.specs.declared.starts.StartFault.{StartFault}
@@ -65,12 +64,9 @@ module _ {D F : Type 0} {d : disk.Ghosts D} {f : folder.Ghosts F D} where
       ⊎ (is_clean read ≡ true → (c : Content) × IsContentOf (kept_of log) c × (t ≡ concat (dump_lines c))))
       × (rejected ≡ true → is_clean read ≡ true → (c : Content) → IsContentOf (kept_of log) c → ⊥)
 
-  module _ {W : Type 0} (contents : W → Known) where
-    -- however it ended, each text that may be left of the log leads to the content after the first of the outcomes, and of the
-    -- texts of later ones nothing was sent
-    abbrev pub LastsOn : LogFile D F d f → Buffered W → LogFile D F d f → Buffered W → State → List (List Field) →
-        List Outcome → State → Type 0
-    LastsOn start o last p s rs os t =
-        Claims s rs os t
-        × (Began kept_of left_of contents s start o → (sent : List ℕ) × Appends (contents o.device) (contents p.device) sent
-        × Survives s rs os (left_of last) sent)
+  -- however the run ended, each text that may be left of the log leads to the content after the first of the outcomes, and of
+  -- the texts of later ones nothing was sent
+  abbrev pub LastsOn : {W : Type 0} → (W → Known) → LogFile D F d f → Buffered W → LogFile D F d f → Buffered W → State →
+      List (List Field) → List Outcome → State → Type 0
+  LastsOn contents start o last p s rs os t =
+      Claims s rs os t × Lasts kept_of left_of contents start o (left_of last) p s rs os

@@ -152,6 +152,6 @@ greater Stopped end = Stopped
 abbrev pub AllHadMemory : List Outcome → Type 0
 AllHadMemory os = IsFalse (list_any lacks_memory os)
 
--- the greatest number of records in a run
+-- the greatest number of records in a run, of a file and of an input together
 abbrev pub most_records : ℕ
-most_records = 2 ^ 40
+most_records = 2 ^ 41

@@ -2,13 +2,12 @@
 --     CarriedOut old fields new r      the effect of a record on the register, and its answer
 --     AnswersRecord      the same, and its text was written
 --     IsRenewal t renewal      the records that were given are those of the content
---     RanIn, CutIn      a run in a session: each record was taken and answered before the next
---     input_records known      the records of known bytes
---     both_records file input      those of a file followed by those of the input
---     records_read single file input      those of both inputs, read as they are or one record a line
+--     Exchanged      the history of a session: each record was taken and answered before the next
+--     RanIn, CutIn      a run in a session
+--     records_read single file input      the records of a file followed by those of the input, one a line or not
 --     LeadsOn, RanOn, FaultedOn, EndedOn      a run over known records
 use Rattle.std.specs.Prelude.{◌≡◌, ◌≢◌, ℕ, ◌<◌, Bool, ◌&&◌, List, [], ◌∷◌, ◌++◌, length, map, Option, Some, None}
-use Rattle.std.specs.Prelude.{option_map, Result, Ok, Err, IfSome, is_ok, IsFalse, ◌⊎◌, ⊤}
+use Rattle.std.specs.Prelude.{Result, Ok, Err, IfErr, IfSome, is_ok, IsFalse, ◌⊎◌, ⊤}
 use Rattle.std.specs.Io.KnownBytes.{Appends}
 use Rattle.std.specs.List.{concat}
 use Rattle.std.specs.Option.{option_map_or}
@@ -23,12 +22,11 @@ use Rattle.olr_records.specs.ReplyText.{outcome_text, reply_text, fault_text}
 use Rattle.olr_register.specs.RegisterState.{Represents}
 use Rattle.olr_register.specs.Registered.{Registered}
 use Rattle.olr_run.specs.Output as output
-use Rattle.olr_run.specs.Output.{SoundOutcome, Claims, StopsAtFault, any_refused, run_status, Ran, Faulted, records_of}
+use Rattle.olr_run.specs.Output.{SoundOutcome, Claims, StopsAtFault, any_refused, run_status, Ran, Faulted}
 use Rattle.olr_run.specs.Output.{most_records}
-use Rattle.olr_input.specs.Inputs.{read_as}
+use Rattle.olr_input.specs.Inputs.{input_records}
 use Rattle.olr_input.specs.Sessions.{Known, Event, Took, Ended, Not_taken, Wrote, Cut, Renewal, Unasked, Given, Lacking}
-use Rattle.olr_input.specs.Sessions.{Renewed, History, exchanges}
-use Rattle.olr_input.specs.Sessions.{IsOfTaking}
+use Rattle.olr_input.specs.Sessions.{Answer, Renewed, History, IsOfTaking, exchanges}
 use Rattle.olr_input.specs.Sessions as event
 use Rattle.olr_input.specs.declared.ends.RunFault.{RunFault}
 use Rattle.olr_input.specs.declared.ends.RunFault.TheVariants as fault
@@ -58,12 +56,12 @@ IsReport register P =
     (s : State) → Represents register.kept s
     → (es : List Entry) × AllOf s.content.margin s.content.map s.content.paths es × P (reply_text (Paths es))
 
--- the text was written, or an allocation failed, or only its first bytes were written
+-- the answer was written, or an allocation failed, or only its first bytes were written
 abbrev pub WritesText : {S : Type 0} → (S → Event → S → Type 0) → S → List ℕ → S → Result Bool RunFault → Bool → Type 0
-WritesText happens before text later (Ok accepted) is = happens before (Wrote text) later × (accepted ≡ is)
+WritesText happens before text later (Ok accepted) is = happens before (Wrote (text, is)) later × (accepted ≡ is)
 WritesText happens before text later (Err e) is =
     ((e ≡ fault.Memory) × (later ≡ before))
-    ⊎ ((front rest : List ℕ) × (text ≡ front ++ rest) × (rest ≢ []) × happens before (Cut front rest) later
+    ⊎ ((front rest : List ℕ) × (text ≡ front ++ rest) × (rest ≢ []) × happens before (Cut front rest is) later
     × (e ≡ fault.Write))
 
 -- a record's command is carried out, and its answer is written: it has this text, and accepts the command or not
@@ -104,70 +102,67 @@ OutcomesRenewed s (r ∷ rs) (o ∷ os) (renewal ∷ renewals) t =
     (mid : State) × SoundOutcome s r o mid × IsRenewal mid renewal × OutcomesRenewed mid rs os renewals t
 OutcomesRenewed s rs os renewals t = ⊥
 
--- from each state that the register represented, these records have outcomes of these texts, and lead to a state that
+-- the text of an outcome, and whether it accepts its record
+abbrev pub answer_of : Outcome → Answer
+answer_of o = (outcome_text o, is_ok o)
+
+-- from each state that the register represented, these records have outcomes with these answers, and lead to a state that
 -- it represents; after each of them the records of the content are given, if they are asked for
-abbrev pub AnsweredOn : Bool → (List Outcome → Type 0) → Registered → List (List Field) → List (List ℕ) →
+abbrev pub AnsweredOn : Bool → (List Outcome → Type 0) → Registered → List (List Field) → List Answer →
     List Renewal → Registered → Type 0
-AnsweredOn stop And old rs texts renewals new =
+AnsweredOn stop And old rs answers renewals new =
     (s : State) → Represents old.kept s → (t : State) × Represents new.kept t × (os : List Outcome) × Claims s rs os t
-    × (map outcome_text os ≡ texts) × StopsAtFault stop os × And os × OutcomesRenewed s rs os renewals t
+    × (map answer_of os ≡ answers) × StopsAtFault stop os × And os × OutcomesRenewed s rs os renewals t
 
 -- no event follows the rejected record that stops the run; otherwise there is no further record
 abbrev pub last_events : Status → List Event
 last_events status.Stopped = []
 last_events _ = Ended ∷ []
 
--- each record was taken, and its text written before the next
+-- each record was taken, and its answer written before the next; and then there were these events
+pub record Exchanged {S : Type 0} (happens : S → Event → S → Type 0) (before later : S) (es : List Event) : Type 0 where
+  pub records : List (List Field)
+  pub answers : List Answer
+  pub renewals : List Renewal
+  pub each : length answers ≡ length records
+  pub each_renewal : length renewals ≡ length records
+  pub history : History happens before (exchanges records answers renewals ++ es) later
+
 pub record RanIn {S : Type 0} (happens : S → Event → S → Type 0) (stop : Bool) (old : Registered) (before : S)
     (new : Registered) (later : S) (end : Status) : Type 0 where
-  pub records : List (List Field)
-  pub texts : List (List ℕ)
-  pub renewals : List Renewal
-  pub each : length texts ≡ length records
-  pub each_renewal : length renewals ≡ length records
-  pub history : History happens before (exchanges records texts renewals ++ last_events end) later
-  pub answered : AnsweredOn stop (λ os. status_of end ≡ run_status stop os) old records texts renewals new
+  pub x : Exchanged happens before later (last_events end)
+  pub answered : AnsweredOn stop (λ os. status_of end ≡ run_status stop os) old x.records x.answers x.renewals new
+
+abbrev pub GoesOn : Bool → List Outcome → Type 0
+GoesOn stop os = IsFalse (stop && any_refused os)
 
 -- the same, up to a record that can't be taken, or before which the texts could not be sent, or one more than the
 -- greatest number; or up to a record whose text was not made, out of memory, or not written completely
 pub data CutIn {S : Type 0} (happens : S → Event → S → Type 0) (stop : Bool) (old : Registered) (before : S)
     (new : Registered) (later : S) (e : RunFault) : Type 0 where
-  In_taking : IsOfTaking e → (rs : List (List Field)) (texts : List (List ℕ)) (renewals : List Renewal) →
-      length texts ≡ length rs → length renewals ≡ length rs →
-      History happens before (exchanges rs texts renewals ++ Not_taken e ∷ []) later
-      → AnsweredOn stop (λ os. IsFalse (stop && any_refused os)) old rs texts renewals new
+  In_taking : IsOfTaking e → (x : Exchanged happens before later (Not_taken e ∷ [])) →
+      AnsweredOn stop (GoesOn stop) old x.records x.answers x.renewals new
       → CutIn happens stop old before new later e
-  Not_sent : e ≡ fault.Write → (rs : List (List Field)) (texts : List (List ℕ)) (renewals : List Renewal) →
-      length texts ≡ length rs → length renewals ≡ length rs →
-      History happens before (exchanges rs texts renewals ++ event.Not_sent ∷ []) later
-      → AnsweredOn stop (λ os. IsFalse (stop && any_refused os)) old rs texts renewals new
+  Not_sent : e ≡ fault.Write → (x : Exchanged happens before later (event.Not_sent ∷ [])) →
+      AnsweredOn stop (GoesOn stop) old x.records x.answers x.renewals new
       → CutIn happens stop old before new later e
-  Past_the_most : e ≡ fault.TooMany → (rs : List (List Field)) (texts : List (List ℕ)) (renewals : List Renewal) →
-      length texts ≡ length rs → length renewals ≡ length rs →
-      length rs ≡ most_records → (r : List Field) → History happens before (exchanges rs texts renewals ++ Took r ∷ []) later
-      → AnsweredOn stop (λ os. IsFalse (stop && any_refused os)) old rs texts renewals new
+  Past_the_most : e ≡ fault.TooMany → (r : List Field) (x : Exchanged happens before later (Took r ∷ [])) →
+      length x.records ≡ most_records
+      → AnsweredOn stop (GoesOn stop) old x.records x.answers x.renewals new
       → CutIn happens stop old before new later e
-  No_text : e ≡ fault.Memory → (rs : List (List Field)) (texts : List (List ℕ)) (renewals : List Renewal) →
-      length texts ≡ length rs → length renewals ≡ length rs →
-      (r : List Field) (text : List ℕ) → History happens before (exchanges rs texts renewals ++ Took r ∷ []) later
-      → AnsweredOn stop (λ os. ⊤) old (rs ++ r ∷ []) (texts ++ text ∷ [])
-      (renewals ++ Unasked ∷ []) new
+  No_text : e ≡ fault.Memory → (r : List Field) (answer : Answer) (x : Exchanged happens before later (Took r ∷ [])) →
+      AnsweredOn stop (λ os. ⊤) old (x.records ++ r ∷ []) (x.answers ++ answer ∷ []) (x.renewals ++ Unasked ∷ []) new
       → CutIn happens stop old before new later e
-  In_text : e ≡ fault.Write → (rs : List (List Field)) (texts : List (List ℕ)) (renewals : List Renewal) →
-      length texts ≡ length rs → length renewals ≡ length rs →
-      (r : List Field) (front rest : List ℕ) → rest ≢ []
-      → History happens before (exchanges rs texts renewals ++ Took r ∷ Cut front rest ∷ []) later
-      → AnsweredOn stop (λ os. ⊤) old (rs ++ r ∷ []) (texts ++ (front ++ rest) ∷ [])
-      (renewals ++ Unasked ∷ []) new
+  In_text : e ≡ fault.Write → (r : List Field) (front rest : List ℕ) (accepts : Bool) → rest ≢ [] →
+      (x : Exchanged happens before later (Took r ∷ Cut front rest accepts ∷ [])) →
+      AnsweredOn stop (λ os. ⊤) old (x.records ++ r ∷ []) (x.answers ++ (front ++ rest, accepts) ∷ [])
+      (x.renewals ++ Unasked ∷ []) new
       → CutIn happens stop old before new later e
 
 -- ---- runs over known records
 
 abbrev pub Records : Type 0
 Records = Option (List (List Field))
-
-abbrev pub input_records : Known → Records
-input_records known = option_map records_of known
 
 -- the bytes of a file, or no bytes if there is no file
 abbrev pub file_bytes : {F : Type 0} → (F → Known) → Option F → Known
@@ -208,11 +203,9 @@ once_sent (Ok end) (Ok sent) = Ok end
 once_sent (Ok end) (Err e) = Err e
 once_sent (Err e) sent = Err e
 
-abbrev pub both_records : Known → Known → Records
-both_records file input = joined_records (input_records file) (input_records input)
-
 abbrev pub records_read : Bool → Known → Known → Records
-records_read single file input = both_records (read_as single file) (read_as single input)
+records_read single file input = joined_records (input_records single file) (input_records single input)
 
-abbrev pub HasTooMany : Records → Type 0
-HasTooMany records = IfSome records (λ rs. most_records < length rs)
+-- a run that was cut off by too many records had them
+abbrev pub HadTooMany : Result Status RunFault → Records → Type 0
+HadTooMany r records = IfErr r (λ e. e ≡ fault.TooMany → IfSome records (λ rs. most_records < length rs))

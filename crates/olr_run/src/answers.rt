@@ -62,7 +62,7 @@ fn write_text<W, S: Session<W>>(
 ) -> Result<bool, RunFault>
     ensures { WritesText S.happens (session.old, output.old) text.now (session.new, output.new) result accepts }
 {
-    session.answer(output, text)?;
+    session.answer(output, text, accepts)?;
     Ok(accepts)
 }
 

@@ -1,29 +1,23 @@
 //! The program with a log.
 
-ghost use Rattle.std.specs.Prelude.{◌≡◌, ◌≤◌, ◌⊎◌, ℕ, List, [], Ok, Err, Some, true, length, IfOk, IfErr, IsTrue, is_ok};
-ghost use Rattle.olr_arguments.specs.Opens.{Opens};
-ghost use Rattle.olr_arguments.specs.Options.{options_of};
-ghost use Rattle.olr_arguments.specs.Sizes.{IsLength};
+ghost use Rattle.std.specs.Prelude.{◌≡◌, ◌≤◌, ◌⊎◌, ℕ, Bool, List, [], true, length, IfSome, is_ok};
+ghost use Rattle.olr_log.specs.declared.place.OpenError.{OpenError};
 ghost use Rattle.olr_log.specs.Logs.{kept_of, left_of};
 ghost use Rattle.olr_run.specs.LogEnds.{is_rejected};
-ghost use Rattle.olr_run.specs.ProgramEnds.{FromLog, LogEnds, UnbegunCode, UnopenedCode, ended_code};
-ghost use Rattle.olr_run.specs.Runs.{both_records, file_bytes};
-ghost use Rattle.olr_input.specs.Buffers.{held};
-ghost use Rattle.olr_input.specs.Gates.{compaction};
-ghost use Rattle.olr_input.specs.Statuses.{exit_code};
-ghost use Rattle.olr_input.specs.Sessions.{most_held};
+ghost use Rattle.olr_run.specs.Ends.{FromLog, LeftAfter, OpensLog, UnbegunCode, UnopenedCode, WithLog, run_code};
+ghost use Rattle.olr_run.specs.Runs.{Records};
+ghost use Rattle.olr_input.specs.Buffers.{pending};
+ghost use Rattle.olr_input.specs.Sessions.{most_pending};
 
-use crate::both::read_inputs;
+use crate::explaining::WRONG_ARGUMENTS;
 use crate::logged::run_with_log;
+use crate::sizes::CompactionLength;
 use crate::starts::{RejectedRecord, StartFault, begin_with};
-use crate::streams::NO_FILE;
-use olr_arguments::{CompactionLength, Options, WRONG_ARGUMENTS, compaction_length, open_file};
-use olr_input::{Buffered, Gate, LogFault, RunFault, Status, end_status, report_fault};
+use olr_input::{Buffered, Gate, LogFault, RunFault, Source, Status, end_status, report_fault};
 use olr_log::{Folder, LogFile, OpenError};
-use olr_register::Register;
 use sqlite_disk::Disk;
 use std::alloc::Global;
-use std::io::{self, Read, Write};
+use std::io::{self, Write};
 use std::mem;
 
 /// The exit status if a log can't be used.
@@ -128,8 +122,7 @@ fn log_status<E: Write>(
     in_batch: bool,
     errors: &mut E,
 ) -> u8
-    ensures ended { IfOk ended (λ status. result ≡ ended_code status in_batch) }
-    ensures cut { IfErr ended (λ fault. result ≡ exit_code (Err fault)) }
+    ensures code { result ≡ run_code ended in_batch }
     ensures whole { (result ≤ 1) ⊎ (result ≡ 6) → is_ok ended ≡ true }
     ensures bounded { result ≤ 7 }
 {
@@ -169,23 +162,23 @@ fn report_begun<E: Write>(
 
 /// What is asked of a run with a log.
 #[derive(Clone, Copy)]
-struct Asked<'a, 'b> {
-    name: &'b str,
-    options: &'a Options<'b>,
+pub(crate) struct Asked<'a> {
+    /// The log.
+    pub(crate) name: &'a str,
+    /// Whether to make it.
+    pub(crate) is_new: bool,
+    /// Whether to stop at the first rejected record.
+    pub(crate) stop: bool,
     /// The least length of the log that is replaced by the records of the register.
-    from: CompactionLength,
+    pub(crate) from: CompactionLength,
 }
 
-/// The log of a run that was replaced from the length on that the options ask for. Its padding is cut off after a run that was not
-/// cut off. If that fails, the next start does without it.
+/// The log of a run. Its padding is cut off after a run that was not cut off. If that fails, the next start does without it.
 fn close_log<D: Disk + Drop, G: Folder<D>>(
-    _options: &Options<'_>,
     ended: &Result<Status, RunFault>,
     gate: Gate<LogFile<D, G>>,
 ) -> LogFile<D, G>
-    requires sized { IsLength (options_of _options.now).compact_at (Some (compaction gate).renewed_from) }
-    ensures cut { (t : List ℕ) → left_of result t
-        → left_of gate.journal t ⊎ (IsTrue (is_ok ended.now) × (t ≡ kept_of gate.journal)) }
+    ensures { LeftAfter gate ended.now result }
 {
     let mut log = gate.into_journal();
     if ended.is_ok() {
@@ -194,31 +187,21 @@ fn close_log<D: Disk + Drop, G: Folder<D>>(
     log
 }
 
-/// Carries out the commands of a file, if there is one, and then those of the input, from a log that was opened, in which
-/// each accepted change is kept before its answer is sent. Returns the exit status, and the log as it was left.
-fn run_from_log<
-    D: Disk + Drop,
-    G: Folder<D>,
-    F: Read + Drop,
-    R: Read + Drop,
-    W: Write + Drop,
-    E: Write,
->(
+/// Runs the records of a source from a log that was opened, in which each accepted change is kept before its answer is sent.
+/// Returns the exit status, and the log as it was left.
+fn run_from_log<D: Disk + Drop, G: Folder<D>, S: Source + Drop, W: Write + Drop, E: Write>(
     alloc: Global,
     log: LogFile<D, G>,
-    asked: &Asked<'_, '_>,
-    file: Option<F>,
-    input: R,
+    asked: &Asked<'_>,
+    source: S,
     output: &mut Buffered<W>,
     errors: &mut E,
 ) -> (u8, LogFile<D, G>)
-    requires sized { IsLength (options_of asked.now.options.now).compact_at (Some asked.now.from.bytes) }
-    ensures ends { FromLog W.contents log result.1 asked.now.options.now.stop
-        (both_records (file_bytes F.remaining file) (R.remaining input))
-        output.old output.new result.0 }
+    ensures ends { (records : Records) → IfSome records (S.left source) →
+        FromLog W.contents log result.1 asked.now.from.bytes asked.now.stop records output.old output.new result.0 }
     ensures bounded { result.0 ≤ 7 }
-    ensures sent { (result.0 ≤ 1) ⊎ (result.0 ≡ 6) → held output.new ≡ [] }
-    ensures lacks { length (held output.new) ≤ most_held }
+    ensures sent { (result.0 ≤ 1) ⊎ (result.0 ≡ 6) → pending output.new ≡ [] }
+    ensures lacks { length (pending output.new) ≤ most_pending }
 {
     let mut log = log;
     let was_cut_off = log.is_padded();
@@ -230,68 +213,60 @@ fn run_from_log<
     let (ended, gate) = run_with_log(
         alloc,
         &mut register,
-        file,
-        input,
+        source,
         log,
         asked.from,
         output,
-        asked.options.stop,
+        asked.stop,
     );
     let fault = gate.fault();
     let in_batch = register.is_open();
     mem::forget(register);
-    let log = close_log(asked.options, &ended, gate);
+    let log = close_log(&ended, gate);
     (log_status(asked.name, ended, fault, in_batch, errors), log)
 }
 
-/// The program with a log, once its arguments were read.
-pub fn with_log<
-    F: Read + Drop,
-    O: FnOnce(&str) -> io::Result<F>,
+/// A way to open a log.
+pub trait OpenLog<D: Disk, G: Folder<D>> {
+    /// A log of a name, opened or made, may be the program's own or not, keep this text, and leave these texts after a crash.
+    ghost may_be: { Self → List ℕ → Bool → Bool → List ℕ → (List ℕ → Type 0) → Type 0 };
+
+    /// Why a log of a name may not be opened or made.
+    ghost refuses: { Self → List ℕ → Bool → OpenError → Type 0 };
+
+    /// Opens the log of this name, or makes it.
+    fn open(&self, name: &str, is_new: bool) -> Result<LogFile<D, G>, OpenError>
+        ensures { OpensLog (may_be self.now) (refuses self.now) name.now is_new result };
+}
+
+/// Opens the log, or makes it, and runs the records of a source from it. Returns the exit status, and the log as it was left.
+pub(crate) fn with_log<
     D: Disk + Drop,
     G: Folder<D>,
-    R: Read + Drop,
+    L: OpenLog<D, G>,
+    S: Source + Drop,
     W: Write + Drop,
     E: Write,
 >(
     alloc: Global,
-    asked: &Options<'_>,
-    opener: O,
-    log: Result<LogFile<D, G>, OpenError>,
-    input: R,
+    asked: &Asked<'_>,
+    open_log: &L,
+    source: S,
     output: &mut Buffered<W>,
     errors: &mut E,
 ) -> (u8, Option<LogFile<D, G>>)
-    requires { O.IsAlwaysCallable opener }
-    ensures ends { LogEnds W.contents (Opens O.FnOnce F.remaining opener) log (R.remaining input) output.old
-        output.new (options_of asked.now) result.1 result.0 }
+    ensures ends { (records : Records) → IfSome records (S.left source) →
+        WithLog W.contents
+        (OpensLog (L.may_be open_log.now) (L.refuses open_log.now) asked.now.name.now asked.now.is_new)
+        asked.now.from.bytes asked.now.stop records output.old output.new result.1 result.0 }
     ensures bounded { result.0 ≤ 7 }
-    ensures sent { (result.0 ≤ 1) ⊎ (result.0 ≡ 6) → held output.new ≡ [] }
-    ensures lacks { length (held output.new) ≤ most_held }
+    ensures sent { (result.0 ≤ 1) ⊎ (result.0 ≡ 6) → pending output.new ≡ [] }
+    ensures lacks { length (pending output.new) ≤ most_pending }
 {
-    let name = asked.log.unwrap_or("the log");
-    let Ok(file) = open_file(opener, asked.file) else {
-        let _ = errors.write_all(b"olr-keep: cannot open the command file\n");
-        return (NO_FILE, log.ok());
-    };
-    let Some(from) = compaction_length(asked.compact_at) else {
-        let _ = errors.write_all(
-            b"olr-keep: --compact-at takes bytes, or a number with K, M or G, as 500M\n",
-        );
-        return (WRONG_ARGUMENTS, log.ok());
-    };
-    let log = match log {
+    let log = match open_log.open(asked.name, asked.is_new) {
         Ok(log) => log,
-        Err(error) => return (report_unopened(name, error, errors), None),
+        Err(error) => return (report_unopened(asked.name, error, errors), None),
     };
-    let run = Asked {
-        name,
-        options: asked,
-        from,
-    };
-    let Ok((file, input)) = read_inputs(alloc, file, input, asked.lines) else {
-        return (report_fault(RunFault::Memory, errors), Some(log));
-    };
-    let (status, log) = run_from_log(alloc, log, &run, file, input, output, errors);
+    let (status, log) = run_from_log(alloc, log, asked, source, output, errors);
     (status, Some(log))
 }

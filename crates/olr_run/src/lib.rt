@@ -1,21 +1,31 @@
-//! Whole runs: the records of a file and then of an input, each answered before the next is taken, over any streams.
+//! Whole runs: what the arguments ask for, and the records of a file and then of an input, each answered before the next is taken,
+//! over any streams, with a log or without.
 #![tactic(auto)]
 
 mod answers;
-mod both;
+mod arguments;
+mod command_line;
+mod explaining;
+mod files;
 mod from_log;
+mod inputs;
 mod loader;
 mod logged;
 mod records;
+mod sizes;
 mod starts;
 mod streams;
 
-pub use both::run_both;
+pub use arguments::{Options, OptionsFault};
+pub use command_line::options;
+pub use explaining::{WRONG_ARGUMENTS, explain};
+pub use files::open_file;
+pub use from_log::OpenLog;
 pub use loader::{RestoreFault, restore};
 pub use logged::run_with_log;
-pub use olr_arguments::{CompactionLength, WRONG_ARGUMENTS, compaction_length};
 pub use olr_input::{
     Buffered, Gate, Journal, LogFault, RunFault, Session, Status, exit_code, report_fault,
 };
-pub use records::{Room, run, run_bytes, run_session};
-pub use streams::{program, run_program, run_program_with_log};
+pub use records::{Room, run, run_bytes, run_session, run_source};
+pub use sizes::{CompactionLength, compaction_length};
+pub use streams::program;

@@ -1,18 +1,19 @@
 //! A whole run: the records of an input, one after another, each answered before the next is taken.
 
-ghost use Rattle.std.specs.Prelude.{◌≡◌, Some, IfOk, IfErr};
+ghost use Rattle.std.specs.Prelude.{Some, false, IfOk, IfErr, IfSome};
 ghost use Rattle.olr_run.specs.Output.{Claims, records_of};
-ghost use Rattle.olr_run.specs.Runs.{input_records, RanIn, CutIn, EndedOn, HasTooMany};
+ghost use Rattle.olr_input.specs.Inputs.{input_records};
+ghost use Rattle.olr_run.specs.Runs.{RanIn, CutIn, EndedOn, HadTooMany, Records};
 
 use crate::answers::{renew, write_outcome};
 use csv::ByteRecord;
-use olr_input::{InMemory, Plain, Records, RunFault, Session, Status};
+use olr_input::{InMemory, Input, Plain, RunFault, Session, Source, Status};
 use olr_register::Register;
 use std::alloc::Global;
 use std::io::{Read, Write};
 
-/// The greatest number of records in one run, 2^40.
-const MOST_RECORDS: u64 = 1 << 40;
+/// The greatest number of records in one run, 2^41: of a file and of an input, 2^40 each.
+const MOST_RECORDS: u64 = 1 << 41;
 
 /// Buffers for a record and for the text of its answer, reused from record to record.
 #[derive(Drop)]
@@ -31,8 +32,14 @@ impl Room {
     }
 }
 
-/// `run_session`, with buffers that may have been used by earlier runs.
-fn run_within<W, S: Session<W>>(
+/// Takes the records of a session, and writes the text of each answer before it takes the next record: the history of
+/// the session is a record, its answer, a record, its answer, to the end. If the session wants the records of all that is
+/// accepted, they are given to it after an answer, while no batch is open. If `stop` is set, it takes no record after the
+/// first rejected one. If a record can't be taken, all records before it have been answered. For the commands that the
+/// records decode to: each path's published answer is that of a full encoding from scratch on the map of the accepted
+/// commands; the routes of its reference join; each reply to a change names the paths whose answer changed; and a
+/// rejected command changed nothing. The buffers of `room` may have been used by earlier runs.
+pub fn run_session<W, S: Session<W>>(
     alloc: Global,
     register: &mut Register,
     session: &mut S,
@@ -72,35 +79,30 @@ fn run_within<W, S: Session<W>>(
     Ok(status)
 }
 
-/// Takes the records of a session, and writes the text of each answer before it takes the next record: the history of
-/// the session is a record, its text, a record, its text, to the end. If the session wants the records of all that is
-/// accepted, they are given to it after a text, while no batch is open. If `stop` is set, it takes no record after the
-/// first rejected one. If a record can't be taken, all records before it have been answered. For the commands that the
-/// records decode to: each path's published answer is that of a full encoding from scratch on the map of the accepted
-/// commands; the routes of its reference join; each reply to a change names the paths whose answer changed; and a
-/// rejected command changed nothing.
-pub fn run_session<W, S: Session<W>>(
+/// Runs the records of a source in a session whose answers are written to the output, and kept nowhere. An output that holds
+/// bytes back is flushed before the run may wait for an input, and where a text doesn't fit; what it holds at the end is left
+/// to the caller. After a fault the register has the state after the answered records. After a fault of reading, all of their
+/// texts are written, and none of them stops the run. After a fault of writing, or out of memory for a text, the last text is
+/// missing, or only its first bytes are written; or all texts are written, and the output could not be flushed. The buffers of
+/// `room` may have been used by earlier runs.
+pub fn run_source<S: Source + Drop, W: Write>(
     alloc: Global,
     register: &mut Register,
-    session: &mut S,
+    source: S,
     output: &mut W,
     stop: bool,
+    room: &mut Room,
 ) -> Result<Status, RunFault>
-    ensures ran { IfOk result (RanIn S.happens stop register.old (session.old, output.old) register.new
-        (session.new, output.new)) }
-    ensures cut { IfErr result (CutIn S.happens stop register.old (session.old, output.old) register.new
-        (session.new, output.new)) }
+    ensures ended { (records : Records) → IfSome records (S.left source) → EndedOn Claims Claims stop register.old records
+        (W.contents output.old) register.new (W.contents output.new) result }
+    ensures too_many { (records : Records) → IfSome records (S.left source) → HadTooMany result records }
 {
-    let mut room = Room::new(alloc);
-    run_within(alloc, register, session, output, stop, &mut room)
+    register.is_sound();
+    let mut session = Plain::new(source);
+    run_session(alloc, register, &mut session, output, stop, room)
 }
 
-/// Runs the records of the input, as `csv` reads them, in a session whose answers are written to the output. An output
-/// that holds bytes back is flushed before the run may wait for the input, and where a text doesn't fit; what it holds
-/// at the end is left to the caller. After a fault the register has the state after the answered records. After a fault
-/// of reading, all of their texts are written, and none of them stops the run. After a fault of writing, or out of
-/// memory for a text, the last text is missing, or only its first bytes are written; or all texts are written, and the
-/// output could not be flushed.
+/// Runs the records of the input, as `csv` reads them, as `run_source` does.
 pub fn run<R: Read + Drop, W: Write>(
     alloc: Global,
     register: &mut Register,
@@ -108,13 +110,14 @@ pub fn run<R: Read + Drop, W: Write>(
     output: &mut W,
     stop: bool,
 ) -> Result<Status, RunFault>
-    ensures ended { EndedOn Claims Claims stop register.old (input_records (R.remaining input))
+    ensures ended { EndedOn Claims Claims stop register.old (input_records false (R.remaining input))
         (W.contents output.old) register.new (W.contents output.new) result }
-    ensures too_many { IfErr result (λ e. e ≡ RunFault.TooMany → HasTooMany (input_records (R.remaining input))) }
+    ensures too_many { HadTooMany result (input_records false (R.remaining input)) }
 {
     register.is_sound();
-    let mut session = Plain::new(Records::new(alloc, input)?);
-    run_session(alloc, register, &mut session, output, stop)
+    let source = Input::new(alloc, input, false)?;
+    let mut room = Room::new(alloc);
+    run_source(alloc, register, source, output, stop, &mut room)
 }
 
 /// Runs the records of bytes in memory, with the same contract as `run`. `room` can be reused by later runs.
@@ -128,9 +131,14 @@ pub fn run_bytes<W: Write>(
 ) -> Result<Status, RunFault>
     ensures ended { EndedOn Claims Claims stop register.old (Some (records_of bytes.now)) (W.contents output.old)
         register.new (W.contents output.new) result }
-    ensures too_many { IfErr result (λ e. e ≡ RunFault.TooMany → HasTooMany (Some (records_of bytes.now))) }
+    ensures too_many { HadTooMany result (Some (records_of bytes.now)) }
 {
-    register.is_sound();
-    let mut session = Plain::new(InMemory::new(alloc, bytes));
-    run_within(alloc, register, &mut session, output, stop, room)
+    run_source(
+        alloc,
+        register,
+        InMemory::new(alloc, bytes),
+        output,
+        stop,
+        room,
+    )
 }

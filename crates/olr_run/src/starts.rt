@@ -11,7 +11,7 @@ ghost use Rattle.olr_input.specs.Journals.{Only};
 
 use crate::answers::records_text;
 use crate::loader::{Progress, RestoreFault, restore_noting};
-use olr_arguments::CompactionLength;
+use crate::sizes::CompactionLength;
 use olr_input::{Journal, is_whole};
 use olr_log::{Folder, LogFile};
 use olr_register::Register;

@@ -1,20 +1,24 @@
-//! The program, over any streams and any way to open the command file.
+//! The program, over any streams and any way to open its files.
 
-ghost use Rattle.std.specs.Prelude.{◌≡◌, ◌≢◌, ◌≤◌, ◌⊎◌, ℕ, List, [], length, map, OnOk};
-ghost use Rattle.clap.specs.Faults.{fault_of};
-ghost use Rattle.olr_arguments.specs.Opens.{Opens};
-ghost use Rattle.olr_arguments.specs.Options.{keep_app, options, options_of};
-ghost use Rattle.olr_register.specs.Registered.{Registered, nothing_registered};
-ghost use Rattle.olr_run.specs.Ends.{Ends, SendsAnswers, is_about_log};
-ghost use Rattle.olr_run.specs.ProgramEnds.{ProgramEnds};
-ghost use Rattle.olr_input.specs.Buffers.{held, written};
-ghost use Rattle.olr_input.specs.Sessions.{most_held};
+ghost use Rattle.std.specs.Prelude.{◌≡◌, ◌≤◌, ◌⊎◌, [], length, map, None, IfSome};
+ghost use Rattle.olr_run.specs.Opens.{Opens};
+ghost use Rattle.olr_run.specs.Options.{options, options_of};
+ghost use Rattle.olr_run.specs.Ends.{AskedEnds, Ends, OpensLog, WithoutLog, lacks_log};
+ghost use Rattle.olr_run.specs.Runs.{Records};
+ghost use Rattle.olr_input.specs.Buffers.{pending, written};
+ghost use Rattle.olr_input.specs.Sessions.{most_pending};
 
-use crate::both::run_inputs;
-use crate::from_log::with_log;
-use olr_arguments::{Options, WRONG_ARGUMENTS, explain, open_file, options};
-use olr_input::{Buffered, RunFault, Status, end_status};
-use olr_log::{Folder, LogFile, OpenError};
+use crate::arguments::Options;
+use crate::command_line::options;
+use crate::explaining::{WRONG_ARGUMENTS, explain};
+use crate::files::open_file;
+use crate::from_log::{Asked, OpenLog, with_log};
+use crate::inputs::both_sources;
+use crate::logged::end_sent;
+use crate::records::{Room, run_source};
+use crate::sizes::compaction_length;
+use olr_input::{Buffered, RunFault, Source, end_status, report_fault};
+use olr_log::{Folder, LogFile};
 use olr_register::Register;
 use sqlite_disk::Disk;
 use std::alloc::Global;
@@ -23,146 +27,131 @@ use std::io::{Read, Write};
 use std::{io, mem};
 
 /// The exit status if the command file can't be opened.
-pub(crate) const NO_FILE: u8 = 3;
+const NO_FILE: u8 = 3;
 
-/// Sends the answers of a run that are held back. If they can't be sent, a run that was not cut off ends with a fault of
-/// writing.
-fn send_answers<W: Write + Drop>(
-    ended: Result<Status, RunFault>,
-    output: &mut Buffered<W>,
-) -> Result<Status, RunFault>
-    ensures ends { SendsAnswers ended (written W.contents output.old) (written W.contents output.new) result }
-    ensures sent { OnOk result (held output.new ≡ []) }
+/// Whether options are about a log, but name none.
+fn lacks_log(options: &Options<'_>) -> bool
+    ensures { result ≡ lacks_log (options_of options.now) }
 {
-    let sent = output.flush();
-    match (ended, sent) {
-        (Ok(_), Err(_)) => Err(RunFault::Write),
-        (ended, _) => ended,
-    }
+    options.log.is_none() && (options.new || options.compact_at.is_some())
 }
 
-/// Whether options are about a log.
-fn asks_for_log(options: &Options<'_>) -> bool
-    ensures { result ≡ is_about_log (options_of options.now) }
-{
-    options.log.is_some() || options.new || options.compact_at.is_some()
-}
-
-/// Reads the arguments, opens the command file if they name one, carries out its commands and then those of the input,
-/// and returns the exit status. With `--lines`, each line of both is one record. Replies, and help if it was asked for, are
-/// written to `output`, and all of them have been sent if the status is 0 or 1; otherwise the last ones may still be held, at
-/// most 64 KB. Messages about faults are written to `errors`. It keeps no log: arguments that ask for one have status 2.
-pub fn program<
-    S: AsStr,
-    F: Read + Drop,
-    O: FnOnce(&str) -> io::Result<F>,
-    R: Read + Drop,
-    W: Write + Drop,
-    E: Write,
->(
+/// Runs the records of a source on an empty register, sends the answers, and returns the exit status. The register is not
+/// dropped: its memory is left to the end of the process.
+fn without_log<S: Source + Drop, W: Write + Drop, E: Write>(
     alloc: Global,
-    register: &mut Register,
-    arguments: &[S],
-    opener: O,
-    input: R,
+    source: S,
+    stop: bool,
     output: &mut Buffered<W>,
     errors: &mut E,
 ) -> u8
-    requires { O.IsAlwaysCallable opener }
+    ensures ends { (records : Records) → IfSome records (S.left source) →
+        WithoutLog stop records (written W.contents output.old) (written W.contents output.new) result }
     ensures bounded { result ≤ 4 }
-    ensures refused { fault_of keep_app (map S.text arguments.now) ≢ [] → register.new ≡ register.old }
-    ensures ends { Ends (map S.text arguments.now) (Opens O.FnOnce F.remaining opener) (R.remaining input)
-        register.old (written W.contents output.old) register.new (written W.contents output.new) result }
-    ensures sent { result ≤ 1 → held output.new ≡ [] }
-    ensures lacks { length (held output.new) ≤ most_held }
-    ensures quiet { result ≤ 1 → errors.new ≡ errors.old }
-{
-    let asked = match options(alloc, arguments) {
-        Ok(asked) => asked,
-        Err(fault) => return explain(alloc, &fault, output, errors),
-    };
-    if asks_for_log(&asked) {
-        let _ = errors.write_all(b"olr-keep: --new and --compact-at need -l LOG\n");
-        return WRONG_ARGUMENTS;
-    }
-    let Ok(file) = open_file(opener, asked.file) else {
-        let _ = errors.write_all(b"olr-keep: cannot open the command file\n");
-        return NO_FILE;
-    };
-    let ended = run_inputs(alloc, register, file, input, output, &asked);
-    end_status(send_answers(ended, output), errors)
-}
-
-/// Runs the program on a register that begins empty, and returns the exit status. The register is not dropped: its memory is
-/// left to the end of the process. To run the program more than once in a process, call `program`.
-pub fn run_program<
-    S: AsStr,
-    F: Read + Drop,
-    O: FnOnce(&str) -> io::Result<F>,
-    R: Read + Drop,
-    W: Write + Drop,
-    E: Write,
->(
-    alloc: Global,
-    arguments: &[S],
-    opener: O,
-    input: R,
-    output: &mut Buffered<W>,
-    errors: &mut E,
-) -> u8
-    requires { O.IsAlwaysCallable opener }
-    ensures bounded { result ≤ 4 }
-    ensures ends { (new : Registered)
-        × Ends (map S.text arguments.now) (Opens O.FnOnce F.remaining opener) (R.remaining input)
-        nothing_registered (written W.contents output.old) new (written W.contents output.new) result }
-    ensures sent { result ≤ 1 → held output.new ≡ [] }
-    ensures lacks { length (held output.new) ≤ most_held }
+    ensures sent { result ≤ 1 → pending output.new ≡ [] }
+    ensures lacks { length (pending output.new) ≤ most_pending }
     ensures quiet { result ≤ 1 → errors.new ≡ errors.old }
 {
     let mut register = Register::new(alloc);
-    let status = program(
-        alloc,
-        &mut register,
-        arguments,
-        opener,
-        input,
-        output,
-        errors,
-    );
+    let mut room = Room::new(alloc);
+    let ended = run_source(alloc, &mut register, source, output, stop, &mut room);
     mem::forget(register);
-    status
+    let sent = output.send_all();
+    end_status(end_sent(ended, sent), errors)
 }
 
-/// Runs the program with the log that the arguments name, once it was opened or made, or could not be. It begins with
-/// what the log says, and keeps each accepted change in it before the answer is sent. Returns the exit status, and the log
-/// as it was left. If the command file can't be opened, nothing is said of the log.
-pub fn run_program_with_log<
+/// Carries out what the arguments ask for.
+fn carry_out<
+    F: Read + Drop,
+    O: FnOnce(&str) -> io::Result<F>,
+    D: Disk + Drop,
+    G: Folder<D>,
+    L: OpenLog<D, G>,
+    R: Read + Drop,
+    W: Write + Drop,
+    E: Write,
+>(
+    alloc: Global,
+    asked: &Options<'_>,
+    open_records: O,
+    open_log: &L,
+    input: R,
+    output: &mut Buffered<W>,
+    errors: &mut E,
+) -> (u8, Option<LogFile<D, G>>)
+    requires { O.IsAlwaysCallable open_records }
+    ensures ends { AskedEnds W.contents (Opens O.FnOnce F.remaining open_records)
+        (OpensLog (L.may_be open_log.now) (L.refuses open_log.now)) (R.remaining input) output.old output.new result.1 result.0 (options_of asked.now) }
+    ensures bounded { result.0 ≤ 7 }
+    ensures sent { (result.0 ≤ 1) ⊎ (result.0 ≡ 6) → pending output.new ≡ [] }
+    ensures lacks { length (pending output.new) ≤ most_pending }
+    ensures quiet { (options_of asked.now).log ≡ None → result.0 ≤ 1 → errors.new ≡ errors.old }
+{
+    if lacks_log(asked) {
+        let _ = errors.write_all(b"olr-keep: --new and --compact-at need -l LOG\n");
+        return (WRONG_ARGUMENTS, None);
+    }
+    let Ok(file) = open_file(open_records, asked.file) else {
+        let _ = errors.write_all(b"olr-keep: cannot open the command file\n");
+        return (NO_FILE, None);
+    };
+    let Some(from) = compaction_length(asked.compact_at) else {
+        let _ = errors.write_all(
+            b"olr-keep: --compact-at takes bytes, or a number with K, M or G, as 500M\n",
+        );
+        return (WRONG_ARGUMENTS, None);
+    };
+    let Ok(source) = both_sources(alloc, file, input, asked.lines) else {
+        return (report_fault(RunFault::Memory, errors), None);
+    };
+    let Some(name) = asked.log else {
+        return (without_log(alloc, source, asked.stop, output, errors), None);
+    };
+    let run = Asked {
+        name,
+        is_new: asked.new,
+        stop: asked.stop,
+        from,
+    };
+    with_log(alloc, &run, open_log, source, output, errors)
+}
+
+/// Reads the arguments, opens the command file if they name one, and then the log if they name one, carries out the commands of
+/// the file and then those of the input, and returns the exit status. With `--lines`, each line of both is one record. Without
+/// a log it begins with an empty register; with one it begins with what the log says, and keeps each accepted change there
+/// before the answer is sent. No log is opened or made if the arguments can't be carried out. `open_log` opens the log of a
+/// name, or makes it if asked. Replies, and help if it was asked for, are written to `output`, and all of them have been sent
+/// if the status is 0, 1 or 6; otherwise the last ones may still be pending, at most 64 KB. Messages are written to `errors`.
+/// Returns also the log as it was left. The register is not dropped: its memory is left to the end of the process.
+pub fn program<
     S: AsStr,
     F: Read + Drop,
     O: FnOnce(&str) -> io::Result<F>,
     D: Disk + Drop,
     G: Folder<D>,
+    L: OpenLog<D, G>,
     R: Read + Drop,
     W: Write + Drop,
     E: Write,
 >(
     alloc: Global,
     arguments: &[S],
-    opener: O,
-    log: Result<LogFile<D, G>, OpenError>,
+    open_records: O,
+    open_log: &L,
     input: R,
     output: &mut Buffered<W>,
     errors: &mut E,
 ) -> (u8, Option<LogFile<D, G>>)
-    requires { O.IsAlwaysCallable opener }
+    requires { O.IsAlwaysCallable open_records }
+    ensures ends { Ends W.contents (Opens O.FnOnce F.remaining open_records)
+        (OpensLog (L.may_be open_log.now) (L.refuses open_log.now)) (R.remaining input) output.old output.new result.1 result.0 (map S.text arguments.now) }
     ensures bounded { result.0 ≤ 7 }
-    ensures ends { ProgramEnds W.contents (map S.text arguments.now) (Opens O.FnOnce F.remaining opener)
-        log (R.remaining input) output.old output.new result.1 result.0 }
-    ensures sent { (result.0 ≤ 1) ⊎ (result.0 ≡ 6) → held output.new ≡ [] }
-    ensures lacks { length (held output.new) ≤ most_held }
+    ensures sent { (result.0 ≤ 1) ⊎ (result.0 ≡ 6) → pending output.new ≡ [] }
+    ensures lacks { length (pending output.new) ≤ most_pending }
+    ensures quiet { (options (map S.text arguments.now)).log ≡ None → result.0 ≤ 1 → errors.new ≡ errors.old }
 {
     match options(alloc, arguments) {
-        Ok(options) => with_log(alloc, &options, opener, log, input, output, errors),
-        Err(fault) => (explain(alloc, &fault, output, errors), log.ok()),
+        Ok(asked) => carry_out(alloc, &asked, open_records, open_log, input, output, errors),
+        Err(fault) => (explain(alloc, &fault, output, errors), None),
     }
 }

@@ -1,27 +1,24 @@
 -- How a run from a log ends, from the contracts of its parts.
-use Rattle.std.proofs.Common.{◌≡◌, Bool, refl, subst}
-use Rattle.std.specs.Prelude.{IfOk}
-use Rattle.olr_run.proofs.Common.{both_records, file_bytes}
+use Rattle.std.proofs.Common.{◌∙◌, ap, refl}
 use Rattle.olr_run.specs.LogEnds.{is_rejected}
-use Rattle.olr_run.specs.ProgramEnds.{Not_begun, ended_code}
-use Rattle.olr_input.specs.declared.ends.Status.{Status}
-use Rattle.olr_run.proofs.FromLogs.{ended_from, on_true}
+use Rattle.olr_run.specs.Ends.{Not_begun, Begun, run_code}
+use Rattle.olr_run.proofs.FromLogs.{closed_run, on_true}
 use Rattle.olr_run.proofs.from_log.run_from_log.Goals as goal
 
 pub returns-in-Err-clause-ends : goal.returns-in-Err-clause-ends
-returns-in-Err-clause-ends g c =
+returns-in-Err-clause-ends g c = λ records begins.
     Not_begun refl (is_rejected c.in-Err.fault) c.report_start.ensures c.in-Err.ensures.unbegun
 
 pub returns-clause-ends : goal.returns-clause-ends
-returns-clause-ends g c =
+returns-clause-ends g c = λ records begins.
     let r = c.run_with_log-ended in
-    ended_from g.W.Write.contents c.args.log c.in-Ok.ensures.begun.0 c.begin_with.new.log c.close_log-log.result
-    c.args.output.now r.new.output r.result.1 r.result.0
-    c.close_log-log.ensures.cut c.args.asked.now.options.now.stop c.in-Ok.begun.0 r.new.register
-    (both_records (file_bytes g.F.Read.remaining c.args.file) (g.R.Read.remaining c.args.input))
-    c.log_status.result c.in-Ok.ensures.begun.1 r.ensures.ended
-    (subst (λ (b : Bool). IfOk r.result.0 (λ (end : Status). c.log_status.result ≡ ended_code end b)) c.is_open-in_batch.ensures c.log_status.ensures.ended)
-    c.log_status.ensures.cut
+    let begun = c.in-Ok.ensures.begun in
+    let after = c.close_log-log.ensures in
+    Begun begun.0 c.begin_with.new.log c.in-Ok.begun.0 r.new.register begun.1 r.result.0
+    (closed_run g.W.Write.contents c.begin_with.new.log c.close_log-log.result c.args.output.now r.new.output r.result.1
+    r.result.0 after c.args.asked.now.stop c.in-Ok.begun.0 r.new.register records (r.ensures.ended records begins))
+    (r.ensures.too_many records begins) r.result.1 r.ensures.length after
+    (c.log_status.ensures.code ∙ ap (run_code r.result.0) c.is_open-in_batch.ensures)
 
 pub returns-clause-sent : goal.returns-clause-sent
 returns-clause-sent g c = λ low.

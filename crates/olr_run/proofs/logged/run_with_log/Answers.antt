@@ -1,33 +1,54 @@
-use Rattle.olr_run.proofs.Common.{both_records, file_bytes}
-use Rattle.olr_run.proofs.LoggedRuns.{held_sent, lasting, many_sent}
-use Rattle.olr_input.specs.Buffers.{written}
-use Rattle.olr_input.specs.Gates.{Compaction}
-use Rattle.std.proofs.Common.{◌∙◌, ap}
+-- A run with a log over a source, from its session.
+use Rattle.std.proofs.Common.{◌∙◌, [], ap, subst}
+use Rattle.olr_run.proofs.LoggedRuns.{lasting, run_length}
+use Rattle.olr_run.proofs.Sending.{held_sent}
+use Rattle.olr_input.specs.Gates.{Compaction, Passes}
+use Rattle.olr_input.specs.Unkept.{waiting}
+use Rattle.olr_input.specs.declared.gate.Gate.{Gate}
 use Rattle.olr_run.proofs.logged.run_with_log.Goals as goal
 
 pub returns-clause-ended : goal.returns-clause-ended
-returns-clause-ended g c =
-    let b = c.run_both_logged-ended in
+returns-clause-ended g c = λ records begins.
+    let r = c.run_session-ended in
     let s = c.send-sent in
+    let of = c.new-session.ensures.gate in
     rw c.end_sent.ensures
-    (lasting g.J.Journal.kept g.J.Journal.may_leave g.W.Write.contents c.args.journal c.args.output.now b.new.output
-    s.new.output c.new-gate.result b.result.1 s.new.self c.new-gate.ensures.journal c.new-gate.ensures.waiting
-    s.ensures.passes c.args.stop c.args.register.now
-    (both_records (file_bytes g.F.Read.remaining c.args.file) (g.R.Read.remaining c.args.input))
-    (written g.W.Write.contents c.args.output.now) b.new.register b.result.0 s.result s.ensures.kept s.ensures.fault
-    b.ensures.ended)
-
-pub returns-clause-length : goal.returns-clause-length
-returns-clause-length g c =
-    ap (λ (x : Compaction). x.renewed_from) c.send-sent.ensures.passes.due ∙ c.run_both_logged-ended.ensures.length
-    ∙ ap (λ (x : Compaction). x.renewed_from) c.new-gate.ensures.due ∙ c.get.ensures
+    ((lasting g.S.Source.left g.W.Write.contents g.J.Journal (c.new-session.result, c.args.output.now)
+    (r.new.session, r.new.output) c.args.journal s.new.self s.new.output
+    (ap (λ (x : Gate g.row.J.Denot). x.journal) of ∙ c.new-gate.ensures.journal)
+    (ap (λ (x : Gate g.row.J.Denot). waiting x.unkept) of ∙ c.new-gate.ensures.waiting)
+    (subst (λ (x : Gate g.row.J.Denot).
+    Passes g.J.Journal.kept g.J.Journal.may_leave g.W.Write.contents x r.new.output s.new.self s.new.output [])
+    c.into_gate-gate.ensures s.ensures.passes) c.args.stop c.args.register.now r.new.register c.args.source r.result s.result
+    c.new-session.ensures.source s.ensures.kept s.ensures.fault c.is_sound.ensures r.ensures.ran r.ensures.cut records
+    begins).0)
 
 pub returns-clause-too_many : goal.returns-clause-too_many
-returns-clause-too_many g c =
+returns-clause-too_many g c = λ records begins.
+    let r = c.run_session-ended in
+    let s = c.send-sent in
+    let of = c.new-session.ensures.gate in
     rw c.end_sent.ensures
-    (many_sent _ c.run_both_logged-ended.result.0 c.send-sent.result c.send-sent.ensures.fault
-    c.run_both_logged-ended.ensures.too_many)
+    ((lasting g.S.Source.left g.W.Write.contents g.J.Journal (c.new-session.result, c.args.output.now)
+    (r.new.session, r.new.output) c.args.journal s.new.self s.new.output
+    (ap (λ (x : Gate g.row.J.Denot). x.journal) of ∙ c.new-gate.ensures.journal)
+    (ap (λ (x : Gate g.row.J.Denot). waiting x.unkept) of ∙ c.new-gate.ensures.waiting)
+    (subst (λ (x : Gate g.row.J.Denot).
+    Passes g.J.Journal.kept g.J.Journal.may_leave g.W.Write.contents x r.new.output s.new.self s.new.output [])
+    c.into_gate-gate.ensures s.ensures.passes) c.args.stop c.args.register.now r.new.register c.args.source r.result s.result
+    c.new-session.ensures.source s.ensures.kept s.ensures.fault c.is_sound.ensures r.ensures.ran r.ensures.cut records
+    begins).1)
 
 pub returns-clause-sent : goal.returns-clause-sent
 returns-clause-sent g c =
-    rw c.end_sent.ensures (held_sent _ c.run_both_logged-ended.result.0 c.send-sent.result c.send-sent.ensures.sent)
+    rw c.end_sent.ensures (held_sent _ c.run_session-ended.result c.send-sent.result c.send-sent.ensures.sent)
+
+pub returns-clause-length : goal.returns-clause-length
+returns-clause-length g c =
+    let r = c.run_session-ended in
+    ap (λ (x : Compaction). x.renewed_from) c.send-sent.ensures.passes.due
+    ∙ ap (λ (x : Gate g.row.J.Denot). x.renewed_from) c.into_gate-gate.ensures
+    ∙ run_length g.S.Source.left g.W.Write.contents g.J.Journal c.args.stop c.args.register.now r.new.register
+    (c.new-session.result, c.args.output.now) (r.new.session, r.new.output) r.result r.ensures.ran r.ensures.cut
+    ∙ ap (λ (x : Gate g.row.J.Denot). x.renewed_from) c.new-session.ensures.gate
+    ∙ ap (λ (x : Compaction). x.renewed_from) c.new-gate.ensures.due ∙ c.get.ensures

@@ -1,4 +1,0 @@
-pub mod Options
-pub mod Explains
-pub mod Opens
-pub mod Sizes
