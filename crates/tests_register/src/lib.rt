@@ -1,9 +1,13 @@
-//! Tests of the register: commands, batches, faults and counts, on the worked map and on small ones; and of what a list
-//! of paths stores.
+//! Tests of the register: commands, batches, faults and counts, on the worked map and on small ones; what a list of paths
+//! stores; and a register beside a twin that encodes every path from scratch after every command: answers, traversed nodes,
+//! coverage queries and footprints are the same, the count of encodings rises as defined, and the count of searches by no more
+//! than is needed.
 #![tactic(auto)]
 
 #[cfg(test)]
 mod batches;
+#[cfg(test)]
+mod changes;
 #[cfg(test)]
 mod commands;
 #[cfg(test)]
@@ -13,10 +17,16 @@ mod kept;
 #[cfg(test)]
 mod margins;
 #[cfg(test)]
+mod pair;
+#[cfg(test)]
 mod path_list;
 #[cfg(test)]
 mod paths;
 #[cfg(test)]
 mod questions;
+#[cfg(test)]
+mod recomputed;
+#[cfg(test)]
+mod twin;
 #[cfg(test)]
 mod worked;

@@ -7,6 +7,7 @@ use crate::worked::{
 use olr_commands::{Command, Reply};
 use olr_refs::Margin;
 use olr_register::Register;
+use std::alloc::Global;
 use std::process::Abort;
 
 /// The text of the worked path, each of whose LFRCNP is one class less important.
@@ -57,10 +58,16 @@ fn a_margin_is_set_at_once(rt: HostRuntime) {
     ends(&rt, register, 4);
 }
 
+/// The worked map and path, and an open batch.
+fn with_batch(rt: &impl Abort, alloc: Global) -> Register {
+    let mut register = three_points(rt, alloc);
+    expect_reported(rt, &mut register, Command::Begin, &[]);
+    register
+}
+
 #[test]
 fn the_last_margin_of_a_batch_counts(rt: HostRuntime) {
-    let mut register = three_points(&rt, rt.alloc());
-    expect_reported(&rt, &mut register, Command::Begin, &[]);
+    let mut register = with_batch(&rt, rt.alloc());
     holds(&rt, &mut register, margin(&rt, 1000, 7), 1);
     holds(&rt, &mut register, margin(&rt, 0, 1), 2);
     expect_shown(&rt, &mut register, b"margin,0,0\n");
@@ -73,8 +80,7 @@ fn the_last_margin_of_a_batch_counts(rt: HostRuntime) {
 
 #[test]
 fn a_dropped_batch_sets_no_margin(rt: HostRuntime) {
-    let mut register = three_points(&rt, rt.alloc());
-    expect_reported(&rt, &mut register, Command::Begin, &[]);
+    let mut register = with_batch(&rt, rt.alloc());
     holds(&rt, &mut register, margin(&rt, 0, 1), 1);
     expect_reported(&rt, &mut register, Command::Abort, &[]);
     expect_shown(&rt, &mut register, b"margin,0,0\n");

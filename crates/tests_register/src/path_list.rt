@@ -1,15 +1,12 @@
 //! What edits touched, and what a list of paths stores of earlier paths.
-ghost use Rattle.std.specs.Prelude.{◌≡◌, string_bytes, map as list_map};
-ghost use Rattle.std.specs.Option.{option_to_list};
-ghost use Rattle.olr_map.specs.EditPlans.{planned_changes};
-ghost use Rattle.olr_renewal.specs.ChangeSets.{change_of};
 ghost use Rattle.tests_register.specs.Lists.{IsRightAnywhere, IsRightOn};
 
 use made_maps::{Plain, STRAIGHT, line, lines, new_node, node, other_line, plain_map};
-use olr_map::{Edit, EditPlan, RoadMap, judge};
+use olr_map::{Edit, RoadMap, judge};
 use olr_paths::{Overlay, PathList};
 use olr_refs::{Margin, Path};
-use olr_renewal::{ChangeSet, ChangedLine, DistanceBounds, MapUpdate, Searches, renew_over};
+use olr_register::line_changed;
+use olr_renewal::{ChangeSet, MapUpdate, Searches, renew_over};
 use std::alloc::Global;
 use std::process::Abort;
 
@@ -63,20 +60,6 @@ fn two_paths(rt: &impl Abort, alloc: Global) -> PathList
     list
 }
 
-/// The line that a judged edit changes. None if the edit is one of a node, or leaves the line as long as it was.
-fn line_changed(plan: &EditPlan) -> Option<ChangedLine>
-    ensures { list_map change_of (option_to_list result) ≡ planned_changes plan.now }
-{
-    if !plan.changes_routes {
-        return None;
-    }
-    Some(ChangedLine {
-        from: plan.nodes.0,
-        to: plan.nodes.1,
-        len: plan.len,
-    })
-}
-
 /// Makes an edit of a map, and encodes the new paths of a list and those that the edit may affect.
 fn renew(rt: &impl Abort, alloc: Global, list: &mut PathList, map: &mut RoadMap, edit: Edit)
     requires { IsRightOn map.old list.old }
@@ -89,19 +72,19 @@ fn renew(rt: &impl Abort, alloc: Global, list: &mut PathList, map: &mut RoadMap,
     touched.note(plan.nodes, plan.line, line_changed(&plan));
     let undo = map.make(edit, &plan).expect(rt, "memory");
     map.keep(undo);
-    // Unknown bounds cut nothing.
-    let mut bounds = DistanceBounds::new(alloc);
-    bounds.forget();
     let mut searches = Searches::new(alloc);
+    // Unknown bounds cut nothing.
+    searches.bounds.forget();
     let none = Overlay::new(alloc);
     let _names = list.len();
     let update = MapUpdate {
+        alloc,
         map: &*map,
         margin: Margin::none(),
         sets_margin: false,
         touched: &touched,
     };
-    let renewed = renew_over(list, alloc, &update, &none, &bounds, &mut searches);
+    let renewed = renew_over(list, &update, &none, &mut searches);
     let report = renewed.expect(rt, "memory");
     assert!(rt; report.entries.len() <= list.len());
 }

@@ -7,4 +7,6 @@ mod files;
 #[cfg(test)]
 mod logs;
 #[cfg(test)]
+mod readers;
+#[cfg(test)]
 mod tests;

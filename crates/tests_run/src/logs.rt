@@ -2,6 +2,7 @@
 
 ghost use Rattle.std.specs.Prelude.{◌≡◌, vec_len, ⊤};
 
+use olr_input::Records;
 use olr_register::Register;
 use olr_run::{
     Buffered, Journal, LogFault, RestoreFault, RunFault, Status, compaction_length, restore, run,
@@ -87,12 +88,11 @@ fn run_logged(
         fails_from,
         in_place,
     };
-    let none: Option<&[u8]> = None;
+    let source = Records::new(alloc, records)?;
     let (ended, gate) = run_with_log(
         alloc,
         &mut register,
-        none,
-        records,
+        source,
         journal,
         from,
         &mut output,

@@ -1,5 +1,9 @@
+ghost use Rattle.std.specs.Prelude.{⊤};
+
+use olr_input::{Joined, Records};
+use olr_log::{HostDisk, LogFile, LogFolder, OpenError, Unknown};
 use olr_register::Register;
-use olr_run::{Buffered, RunFault, Status, exit_code, program, run, run_both};
+use olr_run::{Buffered, OpenLog, Room, RunFault, Status, exit_code, program, run, run_source};
 use std::alloc::Global;
 use std::io;
 use std::io::{Read, Write};
@@ -288,6 +292,14 @@ fn expect_first_applied<R: Abort + AllocGlobal>(rt: &R, register: &mut Register)
     assert_eq!(rt; (output.as_slice(), ended), wanted);
 }
 
+/// The records of an input.
+fn records_of<R: Abort + AllocGlobal>(rt: &R, input: Slow) -> Records<Slow> {
+    match Records::new(rt.alloc(), input) {
+        Ok(records) => records,
+        Err(_) => panic!(rt; "no memory"),
+    }
+}
+
 /// Runs a file and then an input on a new register, and asserts how the run ends and what is written.
 fn expect_both<R: Abort + AllocGlobal>(
     rt: &R,
@@ -299,7 +311,20 @@ fn expect_both<R: Abort + AllocGlobal>(
 ) {
     let mut register = Register::new(rt.alloc());
     let mut output = Vec::new(rt.alloc());
-    let ended = run_both(rt.alloc(), &mut register, file, input, &mut output, stop);
+    let first = match file {
+        Some(file) => Some(records_of(rt, file)),
+        None => None,
+    };
+    let source = Joined::new(first, records_of(rt, input));
+    let mut room = Room::new(rt.alloc());
+    let ended = run_source(
+        rt.alloc(),
+        &mut register,
+        source,
+        &mut output,
+        stop,
+        &mut room,
+    );
     let found = (output.as_slice(), ended);
     assert_eq!(rt;
         found,
@@ -361,6 +386,24 @@ fn output_to<R: Abort + AllocGlobal, W: Write + Drop>(rt: &R, device: W) -> Buff
     }
 }
 
+/// No log can be opened.
+#[derive(Drop)]
+struct NoLogs;
+
+impl<'a> OpenLog<HostDisk<Unknown>, LogFolder<'a>> for NoLogs {
+    ghost may_be = { λ _ _ _ _ _ _. ⊤ };
+
+    ghost refuses = { λ _ _ _ _. ⊤ };
+
+    fn open(
+        &self,
+        _name: &str,
+        _is_new: bool,
+    ) -> Result<LogFile<HostDisk<Unknown>, LogFolder<'a>>, OpenError> {
+        Err(OpenError::Missing)
+    }
+}
+
 /// Runs the program with arguments and an input; the file that they name has these records, or does not exist.
 fn expect_program<R: Abort + AllocGlobal>(
     rt: &R,
@@ -371,26 +414,25 @@ fn expect_program<R: Abort + AllocGlobal>(
     replies: &str,
     expected: &str,
 ) {
-    let mut register = Register::new(rt.alloc());
     let mut output = output_to(rt, Vec::new(rt.alloc()));
     let mut errors = Vec::new(rt.alloc());
     let records = file.map(|text| text.as_bytes());
-    let ended = program(
+    let (ended, log) = program(
         rt.alloc(),
-        &mut register,
         arguments,
         |_: &str| match records {
             Some(records) => Ok(records),
             None => Err(io::Error::from(io::ErrorKind::NotFound)),
         },
+        &NoLogs,
         input,
         &mut output,
         &mut errors,
     );
+    drop(log);
     let found = (ended, output.get_ref().as_slice(), errors.as_slice());
     let wanted = (status, replies.as_bytes(), expected.as_bytes());
     assert_eq!(rt; found, wanted, "of {arguments:?}");
-    let_go(register);
 }
 
 #[test]
@@ -414,6 +456,16 @@ fn whole_programs(rt: HostRuntime) {
     );
     expect_program(&rt, named, None, whole(node), 3, "", unopened);
     expect_program(&rt, named, Some(node), outage(), 3, "ok,0\n", unread);
+    // The file is opened first, and then the size is looked at, and then the log is opened.
+    let logged = ["olr-keep", "-m", "f", "-l", "g"].as_slice();
+    let sized = ["olr-keep", "-l", "g", "--compact-at", "5T"].as_slice();
+    let missing = "olr-keep: g is missing: --new makes it\n";
+    let size = "olr-keep: --compact-at takes bytes, or a number with K, M or G, as 500M\n";
+    let none = "olr-keep: --new and --compact-at need -l LOG\n";
+    expect_program(&rt, logged, None, whole(node), 3, "", unopened);
+    expect_program(&rt, logged, Some(node), whole(node), 2, "", missing);
+    expect_program(&rt, sized, None, whole(node), 2, "", size);
+    expect_program(&rt, &["olr-keep", "--new"], None, whole(node), 2, "", none);
 }
 
 #[test]
@@ -437,18 +489,18 @@ fn expect_write_fault<R: Abort + AllocGlobal>(
     fails_at: usize,
     takes_nothing: bool,
 ) {
-    let mut register = Register::new(rt.alloc());
     let mut output = output_to(rt, Narrow::new(rt.alloc(), 1, fails_at, takes_nothing));
     let mut errors = Vec::new(rt.alloc());
-    let ended = program(
+    let (ended, log) = program(
         rt.alloc(),
-        &mut register,
         arguments,
         |_: &str| Ok("".as_bytes()),
+        &NoLogs,
         RECORDS.as_bytes(),
         &mut output,
         &mut errors,
     );
+    drop(log);
     let sent = output.get_ref().taken.len();
     let wanted = (3, b"olr-keep: write fault\n".as_slice(), fails_at);
     assert_eq!(rt;
@@ -456,7 +508,6 @@ fn expect_write_fault<R: Abort + AllocGlobal>(
         wanted,
         "of {arguments:?}"
     );
-    let_go(register);
 }
 
 #[test]
@@ -518,20 +569,19 @@ fn many_answers(rt: HostRuntime) {
             && replies.extend_from_slice(b"fault,1,Syntax\n").is_ok();
         assert!(rt; added);
     }
-    let mut register = Register::new(rt.alloc());
     let mut output = output_to(&rt, Vec::new(rt.alloc()));
     let mut errors = Vec::new(rt.alloc());
-    let ended = program(
+    let (ended, log) = program(
         rt.alloc(),
-        &mut register,
         &["olr-keep"],
         |_: &str| Ok("".as_bytes()),
+        &NoLogs,
         records.as_slice(),
         &mut output,
         &mut errors,
     );
+    drop(log);
     assert!(rt; ended == 1 && output.get_ref().as_slice() == replies.as_slice());
-    let_go(register);
 }
 
 #[test]

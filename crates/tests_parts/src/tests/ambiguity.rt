@@ -1,7 +1,8 @@
 //! The worked path, which is distinct, and the same map with a second line beside its first one.
 
 use made_maps::{FIRST, WORKED, line, make, map_of, new_line};
-use olr_ambiguity::{Found, Grid, Obstacle, obstacles, obstacles_near};
+use olr_ambiguity::{Grid, obstacles, obstacles_near};
+use olr_answers::{Found, Obstacle};
 use olr_binary::from_text;
 use olr_map::{MapRead, RoadMap};
 use std::alloc::{AllocError, Global};
