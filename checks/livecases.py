@@ -207,7 +207,7 @@ def one_save(server):
         while case.ask(f"select count(*) from olr_keep.round where round > {before}") == [(0,)]:
             if time.monotonic() > end:
                 fail("one_save: no round is made while saves follow each other")
-            case.do("update streets set class = 7 - class where id = 1")
+            case.do("update streets set geom = ST_Translate(geom, 0, 1e-7) where id = 1")
             time.sleep(0.05)
         case.settle()
     print("live: a split saved in three commits is one round, with no refusal")
@@ -836,6 +836,20 @@ def listens(server):
         fail("docs/LIVE.md: a consumer has to listen before it reads")
 
 
+def prepared(server):
+    """Where a transaction may be prepared, an editor's is read, as one that has notified could not be."""
+    server.restart("max_prepared_transactions=1")
+    with Case(server, "prepared") as case:
+        case.save(*comb(3))
+        for it in "begin", "update streets set class = 5", "prepare transaction 'edit'", "commit prepared 'edit'":
+            with case.connection.cursor() as cursor:
+                cursor.execute(it)
+        case.settle()
+        case.expect("select count(*) from olr_keep.street where class = 5", 3, "a prepared transaction is not read")
+    server.restart()
+    print("live: an editor's transaction that is prepared is read within a second")
+
+
 CASES = (rights, parts, stopped, open_editor, locked_paths, service_road, drift, two_roads, one_save, held_cluster, limits,
          during_attempt, frozen, margin, draft, ambiguous, bad_paths, expressions, tables, numbers, upgrade, listens)
 
@@ -847,6 +861,8 @@ def run_cases(server, times, names):
         wanted = [it for it in CASES if names == [""] or it.__name__ in names]
         for ended in [pool.submit(it, server, times) if it is service_road else pool.submit(it, server) for it in wanted]:
             ended.result()
+    if names == [""] or "prepared" in names:
+        prepared(server)
     with open(f"{server.folder}/live.log", encoding="utf-8") as log:
         if "Traceback" in log.read():
             fail("a traceback is in the log")

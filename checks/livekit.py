@@ -37,10 +37,15 @@ class Server:
             whole = [*self.user, f"{BINS[-1]}/{command}", *arguments]
             subprocess.run(whole, cwd=self.folder, stdout=log, stderr=log, check=False)
 
-    def start(self):
-        """Starts it."""
-        options = f"-k {self.folder} -c listen_addresses= -c fsync=off"
+    def start(self, *settings):
+        """Starts it, with these settings."""
+        options = " -c ".join([f"-k {self.folder}", "listen_addresses=", "fsync=off", *settings])
         self.call("pg_ctl", "-D", "data", "-w", "-o", options, "-l", "server.log", "start")
+
+    def restart(self, *settings):
+        """Ends its sessions, and starts it with these settings."""
+        self.call("pg_ctl", "-D", "data", "-w", "-m", "fast", "stop")
+        self.start(*settings)
 
     def stop(self):
         """Stops it at once, as a loss of power does."""

@@ -93,8 +93,6 @@ comment on table olr_keep.street is 'The streets as live has read them; those wi
 comment on column olr_keep.street.shape is 'A digest of the direction and the geometry; that of the whole row is digest.';
 
 create table if not exists olr_keep.vertex (street text not null, part int not null, k int not null, place bigint not null);
-create index if not exists vertex_street on olr_keep.vertex (street);
-create index if not exists vertex_place on olr_keep.vertex (place);
 comment on table olr_keep.vertex is
     'The vertices of the streets. A place is a coordinate, (lon + 180) * 2^31 + lat + 90, in units of 10^-7 degree.';
 
@@ -102,7 +100,6 @@ create table if not exists olr_keep.node (
     node bigint primary key, place bigint not null unique deferrable initially deferred, geom geometry(Point, 4326) not null,
     is_end boolean not null default false
 );
-create index if not exists node_geom on olr_keep.node using gist (geom);
 comment on table olr_keep.node is 'The nodes of the map, with the numbers that the program has.';
 
 create table if not exists olr_keep.line (
@@ -110,8 +107,6 @@ create table if not exists olr_keep.line (
     from_node bigint not null, to_node bigint not null, nth int not null, length int not null, fields text not null,
     geom geometry(LineString, 4326) not null
 ) with (fillfactor = 80);
-create index if not exists line_street on olr_keep.line (street);
-create index if not exists line_geom on olr_keep.line using gist (geom);
 comment on table olr_keep.line is 'The lines of the map, with the numbers that the program has; lengths are decimetres.';
 comment on column olr_keep.line.nth is
     'Which of the lines of this street between the same two nodes, in this direction on a loop.';
@@ -207,7 +202,26 @@ create table if not exists olr_keep.source (
 );
 comment on table olr_keep.source is 'The tables of streets, with the expressions of their columns. add_streets writes it.';
 
-create index if not exists node_end on olr_keep.node using gist (geom) where is_end;
+-- Makes or drops the indexes of the map, with the rights of the owner. A first load makes them when all rows are there, since that
+-- takes a third as long. It leaves them if somebody reads the map, which nobody else can do while they are missing.
+create or replace function olr_keep.set_indexes(are_wanted boolean) returns void language plpgsql security definer
+set search_path = pg_catalog, pg_temp as $$
+begin
+    if are_wanted then
+        create index if not exists vertex_street on olr_keep.vertex (street);
+        create index if not exists vertex_place on olr_keep.vertex (place);
+        create index if not exists node_geom on olr_keep.node using gist (geom);
+        create index if not exists node_end on olr_keep.node using gist (geom) where is_end;
+        create index if not exists line_street on olr_keep.line (street);
+        create index if not exists line_geom on olr_keep.line using gist (geom);
+    else
+        lock table olr_keep.vertex, olr_keep.node, olr_keep.line in access exclusive mode nowait;
+        drop index if exists olr_keep.vertex_street, olr_keep.vertex_place, olr_keep.node_geom, olr_keep.node_end,
+            olr_keep.line_street, olr_keep.line_geom;
+    end if;
+end $$;
+revoke execute on function olr_keep.set_indexes(boolean) from public;
+do $$ begin perform olr_keep.set_indexes(true); end $$;
 comment on column olr_keep.node.is_end is 'Whether only one stretch of a street ends there, and nothing else is.';
 create index if not exists string_open on olr_keep.string (name) where lost or found_elsewhere;
 create index if not exists string_open_streets on olr_keep.string using gin (streets) where lost or found_elsewhere;
@@ -226,13 +240,18 @@ update olr_keep.counter set last = greatest(last, (select max(round) from olr_ke
 
 -- ---- triggers
 
+-- Wakes tools/live. A transaction that has notified can't be prepared: where some may be, it finds the notes within a second.
+create or replace function olr_keep.wake() returns void language sql set search_path = pg_catalog, pg_temp as $$
+    select pg_notify('olr_keep_note', '') where current_setting('max_prepared_transactions') = '0'
+$$;
+
 create or replace function olr_keep.notify_change() returns trigger language plpgsql security definer
 set search_path = pg_catalog, pg_temp as $$
 begin
     if tg_op = 'TRUNCATE' then
         insert into olr_keep.note (source, who) values (tg_argv[0]::int, session_user);
     end if;
-    perform pg_notify('olr_keep_note', '');
+    perform olr_keep.wake();
     return null;
 end $$;
 
@@ -240,7 +259,7 @@ create or replace function olr_keep.note_margin() returns trigger language plpgs
 set search_path = pg_catalog, pg_temp as $$
 begin
     insert into olr_keep.note (source, who) values (-1, session_user);
-    perform pg_notify('olr_keep_note', '');
+    perform olr_keep.wake();
     return null;
 end $$;
 drop trigger if exists olr_keep_margin on olr_keep.margin;

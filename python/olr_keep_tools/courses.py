@@ -10,6 +10,7 @@ along the course, tries no route twice, however many lines lead from one node to
 from __future__ import annotations
 
 import bisect
+import itertools
 import math
 from collections import defaultdict
 from typing import (Callable, Collection, Dict, FrozenSet, Iterable, Iterator, List, Mapping, NamedTuple, Optional, Protocol,
@@ -114,9 +115,8 @@ class Polyline:
     """Points of a plane in metres, with their distances from the first."""
 
     def __init__(self, points: List[Place]) -> None:
-        self.points, self.far = points, [0.0]
-        for a, b in zip(points, points[1:]):
-            self.far.append(self.far[-1] + math.dist(a, b))
+        self.points = points
+        self.far = list(itertools.accumulate(map(math.dist, points, points[1:]), initial=0.0))
         self.length = self.far[-1]
 
     def at(self, far: float) -> Place:
@@ -125,11 +125,13 @@ class Polyline:
         a, b = self.far[k - 1 : k + 1]
         return between(self.points[k - 1], self.points[k], min(1.0, max(0.0, (far - a) / (b - a))) if b > a else 0.0)
 
-    def project(self, point: Place, segments: Optional[Iterable[int]] = None) -> Iterator[Tuple[float, float]]:
+    def project(self, point: Place, segments: Optional[Iterable[int]] = None) -> List[Tuple[float, float]]:
         """The distance of a point from each of these segments, and the position of the nearest point there."""
-        for k in range(len(self.points) - 1) if segments is None else segments:
-            far, share = onto_segment(self.points[k], self.points[k + 1], *point)
-            yield far, self.far[k] + share * (self.far[k + 1] - self.far[k])
+        (x, y), points, along, found = point, self.points, self.far, []
+        for k in range(len(points) - 1) if segments is None else segments:
+            far, share = onto_segment(points[k], points[k + 1], x, y)
+            found.append((far, along[k] + share * (along[k + 1] - along[k])))
+        return found
 
     def distance(self, point: Place, first: int, last: int) -> float:
         """The distance of a point from the segments from `first` up to, but not including, `last`."""
@@ -155,6 +157,11 @@ class Plane:
     def flat(self, place: Place) -> Place:
         """A coordinate in degrees as a point of the plane."""
         return place[0] * self.wide, place[1] * METRES
+
+    def course(self, places: Iterable[Place]) -> List[Place]:
+        """Coordinates in degrees as points of the plane."""
+        wide = self.wide
+        return [(lon * wide, lat * METRES) for lon, lat in places]
 
     def degrees(self, point: Place) -> Place:
         """A point of the plane as a coordinate in degrees."""
@@ -203,8 +210,9 @@ class Network:
     course don't change what is found for it."""
 
     def __init__(self, lines: Mapping[int, Line]) -> None:
-        self.lines: Dict[int, Line] = {}
-        self.leaving: Dict[int, List[int]] = defaultdict(list)
+        self.known: Dict[int, Line] = {}
+        self.lines: Mapping[int, Line] = self.known
+        self.leaving: Dict[int, List[Tuple[int, int]]] = defaultdict(list)  # the lines and the nodes where they end
         self.nodes: Dict[int, Place] = {}
         self.boxes: Dict[int, Box] = {}
         self.cells: Dict[Tuple[float, float], List[int]] = defaultdict(list)
@@ -212,12 +220,12 @@ class Network:
 
     def add(self, lines: Mapping[int, Line]) -> None:
         """Adds lines."""
-        known, leaving, nodes, boxes, cells = self.lines, self.leaving, self.nodes, self.boxes, self.cells
+        known, leaving, nodes, boxes, cells = self.known, self.leaving, self.nodes, self.boxes, self.cells
         for number, line in lines.items():
             if number not in known:
-                known[number], points, start = line, line.points, line.start
-                leaving[start].append(number)
-                nodes[start], nodes[line.end] = points[0], points[-1]
+                known[number], points, start, end = line, line.points, line.start, line.end
+                leaving[start].append((number, end))
+                nodes[start], nodes[end] = points[0], points[-1]
                 lons, lats = zip(*points)
                 boxes[number] = west, south, east, north = min(lons), min(lats), max(lons), max(lats)
                 low, bottom = west // CELL, south // CELL
@@ -266,41 +274,53 @@ class Best(NamedTuple):
 
 
 class Follower:
-    """The search for the lines that follow one course."""
+    """The searches for the lines that follow one course, which has coordinates."""
 
-    def __init__(self, course: Sequence[Place], network: Network, tolerance: float, wish: Wish) -> None:
+    def __init__(self, course: Sequence[Place], network: Network, tolerance: float) -> None:
         lats = [it[1] for it in course]
         self.plane = Plane((min(lats) + max(lats)) / 2)
-        self.course = Strip([self.plane.flat(it) for it in course], max(tolerance, 50.0))
-        self.network, self.lines, self.tolerance, self.wish = network, network.lines, tolerance, wish
-        self.at = {point: k for k, point in enumerate(self.course.points)}
+        self.course, self.places = Strip(self.plane.course(course), max(tolerance, 50.0)), tuple(course)
+        self.network, self.lines, self.tolerance, self.wish = network, network.lines, tolerance, Wish()
+        self.at = {place: k for k, place in enumerate(self.places)}
         self.shapes: Dict[int, Polyline] = {}
         self.positions: Dict[int, List[float]] = {}
-        self.following: Set[int] = set()
+        self.following: Dict[int, float] = {}  # the lines that follow it somewhere, and their lengths
         self.avoided: FrozenSet[int] = frozenset()
+
+    def follow(self, wish: Wish) -> Union[Found, Lost]:
+        """The lines that follow the course, or why there are none."""
+        self.wish, self.following, self.avoided = wish, {}, frozenset()
+        if len(set(self.places)) < 2:
+            return Lost("its course has no two different coordinates", self.places[0])
+        found = self.search()
+        return self.with_rival(found) if wish.has_rivals and isinstance(found, Found) else found
 
     def node(self, node: int) -> Place:
         """A node in the plane."""
         return self.plane.flat(self.network.nodes[node])
 
-    def near(self, point: Place) -> List[int]:
-        """The lines that may be within the tolerance of a point of the plane."""
-        return self.network.near(self.plane.degrees(point), *self.plane.degrees((self.tolerance, self.tolerance)))
+    def near(self, place: Place) -> List[int]:
+        """The lines that may be within the tolerance of an end of the course."""
+        return self.network.near(place, *self.plane.degrees((self.tolerance, self.tolerance)))
 
     def shape(self, number: int) -> Polyline:
         """The course of a line in the plane."""
         if number not in self.shapes:
-            self.shapes[number] = Polyline([self.plane.flat(it) for it in self.lines[number].points])
+            self.shapes[number] = Polyline(self.plane.course(self.lines[number].points))
         return self.shapes[number]
 
     def positions_of(self, node: int) -> List[float]:
         """The positions along the course at which it passes a node: of each pass the nearest one, and its end, if that is near."""
         found = self.positions.get(node)
         if found is None:
-            lon, lat = self.network.nodes[node]
-            point = lon * self.plane.wide, lat * METRES
+            place = self.network.nodes[node]
+            point = place[0] * self.plane.wide, place[1] * METRES
             segments = self.course.segments_near(point, self.tolerance)
-            found = self.passes(point, segments) if segments else []
+            k = self.at.get(place) if len(segments) <= 2 else None
+            if k is not None and all(it in (k - 1, k) for it in segments):
+                found = [self.course.far[k]]
+            else:
+                found = self.passes(point, segments) if segments else []
             if segments and math.dist(point, self.course.points[-1]) <= self.tolerance:
                 found = sorted({*found, self.course.length})
             self.positions[node] = found
@@ -308,9 +328,9 @@ class Follower:
 
     def passes(self, point: Place, segments: Sequence[int]) -> List[float]:
         """The positions along the course at which it passes a point, on these segments."""
-        near = [(at, far) for far, at in self.course.project(point, segments) if far <= self.tolerance]
+        near = sorted([(at, far) for far, at in self.course.project(point, segments) if far <= self.tolerance])
         passes: List[Tuple[float, float, float]] = []
-        for at, far in sorted(near):
+        for at, far in near:
             if passes and at - passes[-1][2] <= 2 * self.tolerance:
                 best, least, _ = passes[-1]
                 passes[-1] = (at, far, at) if far < least else (best, least, at)
@@ -326,9 +346,6 @@ class Follower:
         slack = max(SHARE * max(length, wanted), 2 * self.tolerance)
         if abs(length - wanted) > slack or high < low and low - high > SNAP:
             return None
-        if length == shape.length and self.is_same_course(shape.points, low):
-            self.following.add(number)
-            return self.other(number, low, high) * length + 1e-4
         total, count = 0.0, 0
         for at in shape.samples(begin, end):
             along = low + (at - begin) / (length or 1) * wanted
@@ -341,13 +358,20 @@ class Follower:
         for k in range(bisect.bisect_right(self.course.far, low), bisect.bisect_left(self.course.far, high)):
             if shape.distance(self.course.points[k], 0, len(shape.far) - 1) > self.tolerance:
                 return None
-        self.following.add(number)
+        self.following[number] = shape.length
         return (total / count + self.other(number, low, high)) * length + 1e-4
 
-    def is_same_course(self, points: List[Place], low: float) -> bool:
-        """Whether these points are those of the course from a position on."""
+    def cost_of_all(self, number: int, low: float, high: float) -> Optional[float]:
+        """The same for a whole line: if its coordinates are those of the course from a position on, it needn't be compared."""
+        points, far = self.lines[number].points, self.course.far
         k = self.at.get(points[0])
-        return k is not None and abs(self.course.far[k] - low) < SAME and self.course.points[k : k + len(points)] == points
+        if k is None or abs(far[k] - low) >= SAME or self.places[k : k + len(points)] != points:
+            return self.cost(number, 0.0, self.shape(number).length, low, high)
+        length = far[k + len(points) - 1] - far[k]
+        if abs(length - high + low) > max(SHARE * max(length, high - low), 2 * self.tolerance):
+            return None
+        self.following[number] = length
+        return self.other(number, low, high) * length + 1e-4
 
     def other(self, number: int, low: float, high: float) -> float:
         """The added mean distance of a line that isn't wanted as much as another one."""
@@ -360,25 +384,27 @@ class Follower:
     def ends(self) -> Dict[str, Dict[int, float]]:
         """The parts of lines on which the course starts and ends: (distance along the line, distance from it) by number."""
         found: Dict[str, Dict[int, float]] = {}
-        for name, point in ((START, self.course.points[0]), (END, self.course.points[-1])):
-            found[name] = {}
-            for number in self.near(point):
-                shape = self.shape(number)
-                far, at = min(shape.project(point))
-                if far <= self.tolerance and self.wish.snap < at < shape.length - self.wish.snap:
-                    found[name][number] = at
+        for name, k in ((START, 0), (END, -1)):
+            found[name], place, point = {}, self.places[k], self.course.points[k]
+            for number in self.near(place):
+                if self.lines[number].points[0] != place:
+                    shape = self.shape(number)
+                    far, at = min(shape.project(point))
+                    if far <= self.tolerance and self.wish.snap < at < shape.length - self.wish.snap:
+                        found[name][number] = at
         return found
 
     def from_start(self, ends: Mapping[str, Mapping[int, float]]) -> Iterator[Tuple[float, Label, Optional[Step]]]:
         """The labels at which a route begins: (cost, label, lines)."""
         start = self.course.points[0]
-        for node in {it for number in self.near(start) for it in (self.lines[number].start, self.lines[number].end)}:
+        near = [self.lines[it] for it in self.near(self.places[0])]
+        for node in {node for it in near for node in (it.start, it.end)}:
             far = math.dist(self.node(node), start)
             if far <= self.tolerance:
                 yield far * far, (node, 0.0), None
         forced = FORCED if self.wish.ends.start else 0.0
         for number, begin in ends[START].items():
-            yield from ((forced + cost, label, step) for cost, label, step in self.steps(number, begin, 0.0))
+            yield from ((forced + cost, label, step) for cost, label, step in self.steps(number, self.lines[number].end, begin, 0.0))
             if number in ends[END] and ends[END][number] > begin:
                 for cost, step in self.last_step(number, begin, ends[END][number], 0.0):
                     yield forced + cost, END, step
@@ -389,15 +415,28 @@ class Follower:
         if cost is not None:
             yield cost + (FORCED if self.wish.ends.end else 0.0), (number, begin, self.shape(number).length - end)
 
-    def steps(self, number: int, begin: float, low: float) -> Iterator[Tuple[float, Label, Optional[Step]]]:
-        """The labels that a line leads to from a distance along it, where the course is at this position."""
-        node = self.lines[number].end
+    def steps(self, number: int, node: int, begin: float, low: float) -> Iterator[Tuple[float, Label, Optional[Step]]]:
+        """The labels that a line to a node leads to from a distance along it, where the course is at this position."""
         for high in self.positions_of(node):
             if low - high > SNAP:
                 continue
-            cost = self.cost(number, begin, self.shape(number).length, low, high)
+            cost = self.cost(number, begin, self.shape(number).length, low, high) if begin else self.cost_of_all(number, low, high)
             if cost is not None:
                 yield cost, (node, high), (number, begin, 0.0)
+
+    def onward(self, node: int, low: float, has_lines: bool, ends: Mapping[int, float]) -> Iterator[Tuple[float, Label, Optional[Step]]]:
+        """The labels that a label leads to, and the end, if it is near, or on one of the lines: (cost, label, lines)."""
+        if has_lines and self.course.length - low <= 2 * self.tolerance:
+            last = math.dist(self.node(node), self.course.points[-1])
+            if last <= self.tolerance:
+                yield last * last, END, (None, 0.0, 0.0)
+        positions = self.positions
+        for number, end in self.network.leaving.get(node, ()):
+            highs = positions[end] if end in positions else self.positions_of(end)
+            if highs and low - highs[-1] <= SNAP:
+                yield from self.steps(number, end, 0.0, low)
+            if number in ends:
+                yield from ((cost, END, step) for cost, step in self.last_step(number, 0.0, ends[number], low))
 
     def search(self) -> Union[Found, Lost]:
         """The found lines, or why there are none."""
@@ -424,19 +463,9 @@ class Follower:
                 continue
             if isinstance(label, str):
                 return self.found(best)
-            node, low = label
-            furthest = max(furthest, low)
-            last = math.dist(self.node(node), self.course.points[-1])
-            if last <= self.tolerance and self.course.length - low <= 2 * self.tolerance and best[label].step:
-                relax(cost + last * last, END, (None, 0.0, 0.0), label)
-            for number in self.network.leaving.get(node, ()):
-                highs = self.positions_of(self.lines[number].end)
-                if highs and low - highs[-1] <= SNAP:
-                    for more, after, step in self.steps(number, 0.0, low):
-                        relax(cost + more, after, step, label)
-                if number in ends[END]:
-                    for more, step in self.last_step(number, 0.0, ends[END][number], low):
-                        relax(cost + more, END, step, label)
+            furthest = max(furthest, label[1])
+            for more, after, step in self.onward(*label, best[label].step is not None, ends[END]):
+                relax(cost + more, after, step, label)
         words = "no lines follow it from here on" if furthest else "no lines follow it from its start"
         return Lost(words, self.plane.degrees(self.course.at(furthest)))
 
@@ -456,10 +485,10 @@ class Follower:
         if tie:
             place = self.lines[tie[0]].points[0]
             return Lost(f"two lines follow it equally near, of {self.name(tie[0])} and {self.name(tie[1])}", place)
-        twice = next((it for k, it in enumerate(numbers) if it in numbers[:k]), None)
-        if twice is not None:
+        if len(set(numbers)) < len(numbers):
+            twice = next(it for k, it in enumerate(numbers) if it in numbers[:k])
             return Lost(f"it leads over {self.name(twice)} twice in the same direction", self.lines[twice].points[0])
-        length = sum(self.shape(it).length for it in numbers) - steps[0][1] - steps[-1][2]
+        length = sum(self.following[it] for it in numbers) - steps[0][1] - steps[-1][2]
         if abs(length - self.course.length) > max(SHARE * self.course.length, 2 * self.tolerance):
             return Lost("the lines that follow it have another length", self.plane.degrees(self.course.points[0]))
         return Found(numbers, self.cut(numbers[0], steps[0][1]), self.cut(numbers[-1], steps[-1][2]))
@@ -470,12 +499,12 @@ class Follower:
 
     def cut(self, number: int, metres: float) -> int:
         """Decimetres of a line for metres of the plane."""
-        return round(metres / (self.shape(number).length or 1) * self.lines[number].length)
+        return round(metres / (self.shape(number).length or 1) * self.lines[number].length) if metres else 0
 
 
     def with_rival(self, found: Found) -> Found:
         """The same lines, with a road that follows the course too, if there is one: another route that avoids them finds it."""
-        others = self.following - set(found.lines)
+        others = self.following.keys() - set(found.lines)
         if not any(self.lines[it].length > 20 * self.tolerance for it in others):
             return found
         self.avoided = frozenset(found.lines)
@@ -491,8 +520,6 @@ class Follower:
 def follow(course: Sequence[Tuple[float, float]], lines: Union[Network, Mapping[int, Line]], tolerance: float = 20.0,
            wish: Wish = Wish()) -> Union[Found, Lost]:
     """The lines that follow a course, or why there are none: `Found` or `Lost`."""
-    if len(course) < 2 or len(set(course)) < 2:
-        return Lost("its course has no two different coordinates", course[0] if course else (0.0, 0.0))
-    follower = Follower(course, lines if isinstance(lines, Network) else Network(lines), tolerance, wish)
-    found = follower.search()
-    return follower.with_rival(found) if wish.has_rivals and isinstance(found, Found) else found
+    if not course:
+        return Lost("its course has no two different coordinates", (0.0, 0.0))
+    return Follower(course, lines if isinstance(lines, Network) else Network(lines), tolerance).follow(wish)

@@ -6,11 +6,14 @@ import os
 import pickle
 import select
 import signal
-from typing import Callable, Generic, Optional, TypeVar
+from collections import deque
+from itertools import islice
+from typing import Callable, Deque, Generator, Generic, Iterator, Optional, Tuple, TypeVar
 
 Result = TypeVar("Result")
 PIECE = 1 << 20  # bytes that are read at once
 TICK = 1.0  # seconds
+PROCESSES = 2  # children that work at the same time
 
 
 class Forked(Generic[Result]):
@@ -59,3 +62,24 @@ class Forked(Generic[Result]):
         """Waits for the end of the child, and returns its status."""
         os.close(self.reading)
         return os.waitpid(self.process, 0)[1]
+
+
+def processes() -> int:
+    """How many children work at the same time."""
+    return min(PROCESSES, len(os.sched_getaffinity(0)))
+
+
+def in_order(works: Iterator[Callable[[], Result]], tick: Callable[[], None]) -> Generator[Result, None, None]:
+    """The results of functions, in their order. Each is called in a child process, while the results before are used; one whose
+    child was killed is called here."""
+    working: Deque[Tuple[Callable[[], Result], Forked[Result]]] = deque()
+    try:
+        working.extend((it, Forked(it)) for it in islice(works, processes()))
+        while working:
+            work, forked = working.popleft()
+            found = forked.result(tick)
+            working.extend((it, Forked(it)) for it in islice(works, 1))
+            yield work() if found is None else found
+    finally:
+        for _, forked in working:
+            forked.end()

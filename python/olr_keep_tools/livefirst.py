@@ -1,46 +1,20 @@
-"""The map of a first load: all streets are read before any is cut, so that nothing of the map is read again, and what is cut is
-written while the next streets are."""
+"""The map of a first load: all streets are read before any is cut, so that nothing of the map is read again."""
 from __future__ import annotations
 
+import contextlib
 import io
 import marshal
 from collections import Counter
-from concurrent.futures import Future, ThreadPoolExecutor
-from typing import Any, Callable, Dict, Iterable, List, Optional, Sequence, Set
+from functools import partial
+from typing import Any, Callable, Dict, Iterator, List, Mapping, Sequence, Set, Tuple
 
-from .livemap import LINE_COLUMNS, Affected, MapUpdate, Numbers, copy_line, point_hex
+from .forked import in_order
+from .livemap import ESCAPES, LINE_COLUMNS, NODE_COLUMNS, Affected, MapUpdate, Numbers, point_hex
 from .liveread import Block
-from .streets import Made, Street, cut_places, lines_of, stretches_of, wkb_hex
+from .livesession import Savepoint, psycopg2
+from .streets import WAYS, Street, Stretches, lines_of, stretches_of, wkb_hex
 
-NODES = 50_000  # nodes that are written at once
-
-
-class Writer:
-    """Copies rows into tables in another thread, one table after the other. Meanwhile nothing else may use the cursor."""
-
-    def __init__(self, cursor: Any) -> None:
-        self.cursor, self.pool = cursor, ThreadPoolExecutor(1)
-        self.running: Optional[Future[None]] = None
-
-    def copy(self, table: str, columns: str, rows: Iterable[Sequence[object]]) -> None:
-        """Copies rows, when those before are."""
-        file = io.StringIO()
-        file.writelines(map(copy_line, rows))
-        file.seek(0)
-        self.wait()
-        self.running = self.pool.submit(self.cursor.copy_expert, f"copy olr_keep.{table} ({columns}) from stdin", file, 1 << 18)
-
-    def wait(self) -> None:
-        """Waits until the rows are copied."""
-        if self.running:
-            self.running.result()
-        self.running = None
-
-    def __enter__(self) -> Writer:
-        return self
-
-    def __exit__(self, *_: object) -> None:
-        self.pool.shutdown()
+NODES, BLOCKS = 50_000, 3  # nodes, and blocks of streets, that are written at once
 
 
 class Places:
@@ -61,49 +35,92 @@ class FirstLoad:
         self.cursor, self.numbers, self.affected = cursor, numbers, affected
         self.kept: List[bytes] = []
         self.node_at: Dict[int, int] = {}
-        self.ending: Counter[int] = Counter()
+        self.ending: Counter[int] = Counter()  # the stretches that end at each place
+        self.has_indexes = True
+        self.drop_indexes()
+
+    def drop_indexes(self) -> None:
+        """Drops the indexes of the map until all is written, if nobody reads it, and this role may."""
+        try:
+            with Savepoint(self.cursor):
+                self.cursor.execute("select olr_keep.set_indexes(false)")
+                self.has_indexes = False
+        except psycopg2.Error:
+            if self.cursor.connection.closed:
+                raise
 
     def read(self, block: Block) -> None:
         """Writes the streets of a block, and keeps those that can be lines."""
         update = MapUpdate(self.cursor, block, self.numbers, self.affected, 0.0, False)
         self.affected.keys |= update.keys
         self.affected.fresh |= update.rows.keys()
-        update.write_streets()
+        update.add_streets()
         update.write_unfit()
         self.kept.append(marshal.dumps([(key, *it) for key, it in update.after.items()]))
 
     def cut(self, tell: Callable[[int], None]) -> None:
-        """Cuts all streets at the places that they share, and writes nodes and lines; `tell` gets how many are cut."""
+        """Cuts all streets at the places that they share, and writes nodes and lines, whose rows other processes make; `tell` gets
+        how many are cut."""
+        for table, columns, works in ("line", LINE_COLUMNS, self.line_works(tell)), ("node", NODE_COLUMNS, self.node_works()):
+            with contextlib.closing(in_order(works, self.tick)) as made:
+                for rows in made:
+                    self.cursor.copy_expert(f"copy olr_keep.{table} ({columns}) from stdin", io.StringIO(rows), 1 << 18)
+        if not self.has_indexes:
+            self.cursor.execute("select olr_keep.set_indexes(true)")
+
+    def line_works(self, tell: Callable[[int], None]) -> Iterator[Callable[[], str]]:
+        """What makes the rows of the lines, block by block."""
         places, done = Places(), 0
         self.cursor.copy_expert("copy (select place from olr_keep.vertex group by place having count(*) > 1) to stdout", places)
         self.kept.reverse()
-        with Writer(self.cursor) as writer:
-            while self.kept:
-                streets = {key: Street(*it) for key, *it in marshal.loads(self.kept.pop())}
-                lines = self.cut_block(streets, places.found)
-                numbers = self.numbers.take("line", len(lines))
-                writer.copy("line", LINE_COLUMNS, ((number, *it[:9], wkb_hex(it.places)) for number, it in zip(numbers, lines)))
-                done += len(streets)
-                tell(done)
-            nodes = [*self.node_at.items()]
-            for first in range(0, len(nodes), NODES):
-                writer.copy("node", "node, place, geom, is_end", ((node, place, point_hex(place), self.ending[node] == 1)
-                                                                  for place, node in nodes[first : first + NODES]))
-            writer.wait()
+        while self.kept:
+            blocks = [marshal.loads(self.kept.pop()) for _ in range(min(BLOCKS, len(self.kept)))]
+            streets = {key: Street(*it) for block in blocks for key, *it in block}
+            cut = {key: stretches_of(it, places.found) for key, it in streets.items()}
+            self.number_nodes(streets, cut)
+            count = sum(len(WAYS[it.direction]) * sum(map(len, cut[key])) for key, it in streets.items())
+            yield partial(line_rows, streets, cut, self.node_at, self.numbers.take("line", count))
+            done += len(streets)
+            tell(done)
 
-    def cut_block(self, streets: Dict[str, Street], meeting: Set[int]) -> List[Made]:
-        """The lines of some streets. Counts how many stretches end at each node."""
-        found = {key: stretches_of(it, meeting) for key, it in streets.items()}
-        cuts = set().union(*(cut_places(it, found[key]) for key, it in streets.items()))
-        fresh = sorted(cuts - self.node_at.keys())
+    def number_nodes(self, streets: Mapping[str, Street], cut: Mapping[str, Stretches]) -> None:
+        """Numbers the nodes of some streets, and counts how many stretches end at each."""
+        ends = [part[k] for key, street in streets.items() for part, pairs in zip(street.parts, cut[key])
+                for pair in pairs for k in pair]
+        self.ending.update(ends)
+        fresh = sorted(it for it in {*ends} if it not in self.node_at)
         self.node_at.update(zip(fresh, self.numbers.take("node", len(fresh))))
-        lines = [line for key, street in streets.items() for line in lines_of(key, street, found[key], self.node_at)]
-        ends = {(it.street, it.part, it.k): (it.start, it.end) for it in lines}
-        self.ending.update(node for pair in ends.values() for node in pair)
-        return lines
+
+    def node_works(self) -> Iterator[Callable[[], str]]:
+        """What makes the rows of the nodes, block by block."""
+        nodes = [*self.node_at.items()]
+        for first in range(0, len(nodes), NODES):
+            yield partial(node_rows, nodes[first : first + NODES], self.ending)
+
+    def tick(self) -> None:
+        """Asks something, so that the session isn't taken for one that is stopped."""
+        self.cursor.execute("select 1")
+
+
+def line_rows(streets: Mapping[str, Street], cut: Mapping[str, Stretches], node_at: Mapping[int, int],
+              numbers: Sequence[int]) -> str:
+    """The rows of the lines of some streets, as COPY reads them."""
+    rows, number = [], iter(numbers)
+    for key, street in streets.items():
+        name = key.translate(ESCAPES)
+        for _, part, k, along, start, end, nth, length, fields, places in lines_of(key, street, cut[key], node_at):
+            rows.append(f"{next(number)}\t{name}\t{part}\t{k}\t{along}\t{start}\t{end}\t{nth}\t{length}\t{fields}\t"
+                        f"{wkb_hex(places)}\n")
+    return "".join(rows)
+
+
+def node_rows(nodes: Sequence[Tuple[int, int]], ending: Mapping[int, int]) -> str:
+    """The rows of nodes with their places, as COPY reads them."""
+    return "".join([f"{node}\t{place}\t{point_hex(place)}\t{ending[place] == 1}\n" for place, node in nodes])
 
 
 def is_first(cursor: Any) -> bool:
     """Whether there is no map and no path yet."""
-    cursor.execute("select not exists (select from olr_keep.street) and not exists (select from olr_keep.string)")
+    tables = "street", "vertex", "node", "line", "string"
+    cursor.execute("select " + " and ".join(f"not exists (select from olr_keep.{it})" for it in tables))
     return bool(cursor.fetchone()[0])

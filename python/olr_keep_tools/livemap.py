@@ -18,6 +18,7 @@ NEAR = 0.005  # degrees of the cells in which changes are near each other
 MOST_CELLS = 20_000  # changed streets of a round of which cells are kept
 GAP = 1.0  # metres between the end of a street and another street that are taken for a fault
 LAST = (1 << 32) - 1  # the greatest number of a node or a line
+NODE_COLUMNS = "node, place, geom, is_end"
 LINE_COLUMNS = "line, street, part, k, along, from_node, to_node, nth, length, fields, geom"
 AHEAD = 1 << 24  # numbers of a preview beyond the last ones
 ESCAPES = str.maketrans({"\\": "\\\\", "\t": "\\t", "\n": "\\n", "\r": "\\r"})  # of COPY
@@ -174,7 +175,7 @@ class MapUpdate:
         self.cursor.execute("select exists (select from olr_keep.string)")
         if self.cursor.fetchone()[0]:
             names = self.over_lines(looked) | self.over_streets()
-            self.remember_roads(names - affected.roads.keys())
+            self.remember_roads({it for it in names if it not in affected.roads})
             affected.names |= names
 
     def over_lines(self, numbers: Set[int]) -> Set[str]:
@@ -225,6 +226,10 @@ class MapUpdate:
         keys = text_array(self.keys)
         self.cursor.execute("delete from olr_keep.vertex where street = any(%s::text[])", (keys,))
         self.cursor.execute("delete from olr_keep.street where street = any(%s::text[])", (keys,))
+        self.add_streets()
+
+    def add_streets(self) -> None:
+        """Adds the streets and their vertices."""
         rows, vertices = [], []
         for key, it in self.rows.items():
             street, name = self.after.get(key), key.translate(ESCAPES)
@@ -243,7 +248,7 @@ class MapUpdate:
         update(self.cursor, """update olr_keep.node set place = it.place::bigint, geom = it.geom::geometry
             from (values %s) as it(node, place, geom) where node.node = it.node""",
                [(node, place, point_hex(place)) for node, place in cut.moved.items()])
-        copy(self.cursor, "node", "node, place, geom, is_end",
+        copy(self.cursor, "node", NODE_COLUMNS,
              ((node, place, point_hex(place), node in cut.ends) for node, place in cut.new_nodes.items()))
         self.cursor.execute("update olr_keep.node set is_end = not is_end where node = any(%s::bigint[]) and not is_end",
                             (number_array(cut.ends),))

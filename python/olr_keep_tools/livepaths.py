@@ -14,7 +14,7 @@ from .liveread import Change
 from .pathlines import (Course, Edited, Finder, Known, PathSearch, Place, Placement, Road, State, Unread, Wanted, coordinates,
                         course_of, marked_street, number_array, point, text_array)
 
-PART = 500  # paths that are read at once
+PART = 1000  # paths that are read at once
 LEAST = 50  # paths that are sought in the process itself
 SEARCHING = 2  # processes that search for paths, if there are several parts
 LONG = 50_000  # coordinates of courses
@@ -43,6 +43,16 @@ class Placed(NamedTuple):
 
 
 Before = Tuple[Known, int, int]  # a path as it was found, and the two offsets of its record
+
+
+class Sought(NamedTuple):
+    """A path that was sought: what a round needs of it later, its row, and its record, or nothing if it stays."""
+
+    placed: Placed
+    row: Tuple[object, ...]
+    record: str
+
+
 # The paths that are not found as said, and are over some streets or near some boxes; each part has an index of its own, since
 # they may be very many.
 NEAR_OPEN = """with near as materialized (
@@ -140,12 +150,12 @@ class PathsUpdate:
     def write(self, search: Search) -> None:
         """Writes the rows of the paths of a search."""
         rows = []
-        for name, placed in search.result().items():
+        for name, it in search.result().items():
             before = search.known.get(name)
-            if placed is not None:
-                self.found[name] = placed._replace(course=None, said_course=None, roads=[])
-                self.record(name, placed, before)
-                rows.append(row_of(name, placed))
+            if it is not None:
+                self.found[name] = it.placed
+                self.records += [it.record] if it.record else []
+                rows.append(it.row)
             elif before is not None:
                 self.gone.add(name)
                 self.records += [f"drop-path,{name}"] if before[0].lines else []
@@ -154,18 +164,6 @@ class PathsUpdate:
     def tick(self) -> None:
         """Asks something, so that the session isn't taken for one that is stopped."""
         self.cursor.execute("select 1")
-
-    def record(self, name: str, placed: Placed, before: Optional[Before]) -> None:
-        """Adds the record of a path, if it differs."""
-        had_lines = bool(before and before[0].lines)
-        if placed.lines:
-            fields = ",".join(map(str, (placed.positive, placed.negative, *placed.lines)))
-            if not had_lines:
-                self.records.append(f"path,{name},{fields}")
-            elif before and (before[1:] != (placed.positive, placed.negative) or before[0].lines != placed.lines):
-                self.records.append(f"repath,{name},{fields}")
-        elif had_lines:
-            self.records.append(f"drop-path,{name}")
 
     def read(self, names: Sequence[str], finder: Finder) -> Tuple[Dict[str, Wanted], Dict[str, Before]]:
         """The paths of these names as operators give them, and as they were found last, with their two offsets."""
@@ -230,7 +228,7 @@ class Search:
                  known: Dict[str, Before]) -> None:
         self.update, self.finder, self.edited = update, finder, edited
         self.names, self.wanted, self.known = names, wanted, known
-        self.forked: Optional[Forked[Dict[str, Optional[Placed]]]] = None
+        self.forked: Optional[Forked[Dict[str, Optional[Sought]]]] = None
 
     def is_long(self) -> bool:
         """Whether the search may take so long that the session has to be asked something meanwhile."""
@@ -240,7 +238,7 @@ class Search:
         """Searches in a process of its own."""
         self.forked = Forked(self.without_database)
 
-    def without_database(self) -> Dict[str, Optional[Placed]]:
+    def without_database(self) -> Dict[str, Optional[Sought]]:
         """The paths that can be found with what is read."""
         self.finder.cursor = None
         found = {}
@@ -251,12 +249,16 @@ class Search:
                 pass
         return found
 
-    def place(self, name: str) -> Optional[Placed]:
+    def place(self, name: str) -> Optional[Sought]:
         """Where a path is on the map now."""
         wanted, before = self.wanted.get(name), self.known.get(name)
-        return wanted and self.update.place(self.finder, wanted, before and before[0], self.edited)
+        if wanted is None:
+            return None
+        it = self.update.place(self.finder, wanted, before and before[0], self.edited)
+        rest = it._replace(lines=it.lines[:1], streets=[], course=None, said_course=None, roads=[])
+        return Sought(rest, row_of(name, it), record_of(name, it, before))
 
-    def result(self) -> Dict[str, Optional[Placed]]:
+    def result(self) -> Dict[str, Optional[Sought]]:
         """Where the paths are."""
         found = (self.forked.result(self.update.tick) if self.forked else None) or {}
         return {name: found[name] if name in found else self.place(name) for name in self.names}
@@ -311,12 +313,23 @@ ROW = ("name, lines, streets, start_offset, end_offset, start_cut, end_cut, star
        "found_elsewhere, geom, said_course, said_roads, lost_at, at_junctions")
 
 
+def record_of(name: str, placed: Placed, before: Optional[Before]) -> str:
+    """The record of a path, or nothing if it is as it was."""
+    had_lines = before is not None and bool(before[0].lines)
+    if not placed.lines:
+        return f"drop-path,{name}" if had_lines else ""
+    offsets = placed.positive, placed.negative
+    if before is not None and had_lines and (before[1:], before[0].lines) == (offsets, placed.lines):
+        return ""
+    return ",".join(map(str, ("repath" if had_lines else "path", name, *offsets, *placed.lines)))
+
+
 def row_of(name: str, it: Placed) -> Tuple[object, ...]:
     """The row of a path."""
     roads = json.dumps([[road.length, road.street, *road.kind] for road in it.roads]) if it.roads else None
-    return (name, it.lines, it.streets, it.positive, it.negative, it.start, it.end, *it.nodes, it.definition,
+    return (name, number_array(it.lines), text_array(it.streets), it.positive, it.negative, it.start, it.end, *it.nodes, it.definition,
             it.state is State.LOST, it.state is State.ELSEWHERE, course_hex(it.course), course_hex(it.said_course), roads,
-            places_hex(it.lost_at), None if it.ends is None else list(it.ends))
+            places_hex(it.lost_at), None if it.ends is None else number_array(it.ends))
 
 
 def write_rows(cursor: Any, rows: Sequence[Sequence[object]]) -> None:

@@ -1,6 +1,8 @@
 """The program olr-keep as tools/live uses it: with the map and the paths of the tables."""
 from __future__ import annotations
 
+import contextlib
+import fcntl
 import select
 import time
 from typing import Any, Callable, Dict, List, Sequence, Tuple
@@ -10,6 +12,8 @@ from .program import Program, ProgramFailed
 MOST_HELD = 100_000  # changes of a batch
 HANGING = 600.0  # seconds without a reply after which the program is ended
 BLOCK = 1 << 18  # bytes that are sent at once
+PIPE = 1 << 20  # bytes that wait for the program
+SET_SIZE = 1031  # of fcntl: F_SETPIPE_SZ of Linux
 TICK = 1.0  # seconds between two calls of `tick` while replies are awaited
 
 
@@ -19,6 +23,9 @@ class LiveProgram(Program):
     def __init__(self, command: Sequence[str], tick: Callable[[], None]) -> None:
         super().__init__(command, HANGING)
         self.tick = tick
+        if self.process.stdin:
+            with contextlib.suppress(OSError):
+                fcntl.fcntl(self.process.stdin, SET_SIZE, PIPE)
 
     def move(self) -> None:
         """Writes and reads what is possible now, and waits until something is."""
@@ -30,6 +37,16 @@ class LiveProgram(Program):
     def carry_out(self, text: bytes, count: int) -> List[str]:
         """Sends so many records, which all have to be accepted, and returns the lines of their replies."""
         self.send(text)
+        return self.accepted(count)
+
+    def begin(self, text: bytes) -> None:
+        """Sends records, and leaves their replies for later."""
+        self.send(text)
+        while self.unsent:
+            self.move()
+
+    def accepted(self, count: int) -> List[str]:
+        """The lines of so many replies, which all have to accept their records."""
         lines = []
         for run in self.runs(count):
             if not run.reply.accepted:
@@ -49,8 +66,9 @@ class LiveProgram(Program):
     def load(self, cursor: Any) -> Dict[str, str]:
         """Loads the tables' map and paths, and returns all answers."""
         sent = Sent(self)
-        cursor.copy_expert("copy (select olr_keep.records()) to stdout", sent)
-        sent.flush()
+        cursor.execute("set local max_parallel_workers_per_gather = 0")
+        cursor.copy_expert("copy (select * from olr_keep.records()) to stdout", sent)
+        sent.finish()
         return dict(answer_of(line) for line in self.carry_out(b"report\n", 1))
 
 
@@ -61,10 +79,11 @@ def answer_of(line: str) -> Tuple[str, str]:
 
 
 class Sent:
-    """A file whose lines are sent to a program, as records that have to be accepted."""
+    """A file whose lines are sent to a program, as records that have to be accepted. While it carries out a block, the next one
+    is collected."""
 
     def __init__(self, program: LiveProgram) -> None:
-        self.program, self.size = program, 0
+        self.program, self.size, self.waiting = program, 0, 0
         self.parts: List[bytes] = []
 
     def write(self, part: bytes) -> None:
@@ -75,7 +94,14 @@ class Sent:
             self.flush()
 
     def flush(self) -> None:
-        """Sends what was added."""
+        """Sends what was added, when the block before is carried out."""
+        self.program.accepted(self.waiting)
         text = b"".join(self.parts)
-        self.parts, self.size = [], 0
-        self.program.carry_out(text, text.count(b"\n"))
+        self.parts, self.size, self.waiting = [], 0, text.count(b"\n")
+        self.program.begin(text)
+
+    def finish(self) -> None:
+        """Sends what was added, and waits until all is carried out."""
+        self.flush()
+        self.program.accepted(self.waiting)
+        self.waiting = 0

@@ -74,12 +74,12 @@ class Change:
 
 class Reader:
     """Reads the changes of the tables that can be read; `stale` are sources of which all rows are compared. A preview leaves the
-    notes where they are."""
+    notes where they are. `has_streets` is whether streets may have been read before."""
 
     def __init__(self, cursor: Any, tables: Sequence[Table], stale: Container[int], is_preview: bool = False) -> None:
         self.cursor, self.tables, self.stale, self.is_preview = cursor, tables, stale, is_preview
         self.sources = {it.source.source: it.source for it in tables if it.state is Readable.READY}
-        self.change = Change()
+        self.change, self.has_streets = Change(), True
 
     def read(self) -> Change:
         """What there is to do."""
@@ -321,9 +321,11 @@ class Reader:
 
     def known(self, streets: Sequence[str], block: Block) -> Dict[str, Known]:
         """What was read of these streets last, or in this block from another table."""
-        self.cursor.execute("""select street, source, digest, shape, class is not null from olr_keep.street
-            where street = any(%s::text[])""", (text_array(streets),))
-        found = {street: Known(*rest) for street, *rest in self.cursor if street not in block.gone}
+        found = {}
+        if self.has_streets:
+            self.cursor.execute("""select street, source, digest, shape, class is not null from olr_keep.street
+                where street = any(%s::text[])""", (text_array(streets),))
+            found = {street: Known(*rest) for street, *rest in self.cursor if street not in block.gone}
         found.update((it, Known(block.rows[it].source, 0, 0, False)) for it in streets if it in block.rows)
         return found
 

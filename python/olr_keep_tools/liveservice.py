@@ -118,6 +118,7 @@ class Attempt:
         count, done, self.said = change.count, 0, time.monotonic()
         analyzed, is_cut = max(MANY, session.analyzed_streets(self.cursor)), False
         first = FirstLoad(self.cursor, self.numbers, self.affected) if self.is_first_load(count) else None
+        self.reader.has_streets = not first or len(change.keys) > 1
         margin = max(30, 2 * self.settings.tolerance) * METRE
         for block in self.reader.blocks():
             if first:

@@ -11,17 +11,17 @@ from collections import defaultdict
 from typing import Any, Container, Dict, FrozenSet, Iterable, Iterator, List, Mapping, NamedTuple, Optional, Sequence, Set, Tuple
 from typing import Union
 
-from .courses import CELL, DRAWN, Ends, Found, Line, Lost, Network, Plane, Polyline, Strip, Wish, follow
+from .courses import CELL, DRAWN, Box, Ends, Follower, Found, Line, Lost, Network, Plane, Polyline, Strip, Wish
 from .geo import METRES, between
 from .routes import Waiting
-from .streets import is_inside
+from .streets import LATITUDES, LONGITUDES, are_between
 
 AGAINST = 1e6  # the cost of a street against its geometry where its direction isn't given
 STRAY = 10.0  # the cost of a metre between an end of the path and that of its lines
 SAME_ROAD = 5.0  # metres from where a path was, within which a line of the same kind is the same road
-RUN = 8  # cells of a row that are read at once
-FAR = 100_000.0  # metres between two coordinates of a course
-COUNT = struct.Struct("<I")
+RUN = 8  # cells of a row, and rows, that are read at once
+FAR, WIDE = 100_000.0, 0.6  # metres between two coordinates of a course, and degrees that may be so far
+COUNT, COORDINATE = struct.Struct("<I"), struct.Struct("<dd")  # of WKB
 
 
 Place = Tuple[float, float]
@@ -45,16 +45,18 @@ class Wanted(NamedTuple):
         """Why nothing can be found for it: `Lost`, or None."""
         if self.streets is not None and not all(it and it not in ("<", ">") for it in self.streets):
             return Lost("its streets have an empty or NULL id", None)
-        if self.course is not None and not all(map(is_inside, self.course)):
+        lons, lats = zip(*self.course) if self.course else ((), ())
+        if not (are_between(lons, *LONGITUDES) and are_between(lats, *LATITUDES)):
             return Lost("its course is beyond the longitudes -180 to 179.9999 or the latitudes -89.9999 to 89.9999", None)
-        if self.course is not None and any(is_far(a, b) for a, b in zip(self.course, self.course[1:])):
+        is_wide = any(it and max(it) - min(it) > WIDE for it in (lons, lats))
+        if self.course and is_wide and any(is_far(a, b) for a, b in zip(self.course, self.course[1:])):
             return Lost("two coordinates of its course are more than 100 km apart", self.course[0])
         return None
 
 
 def is_far(a: Place, b: Place) -> bool:
     """Whether two coordinates are more than FAR apart."""
-    return max(abs(a[0] - b[0]), abs(a[1] - b[1])) > 0.6 and apart(a, b) > FAR
+    return max(abs(a[0] - b[0]), abs(a[1] - b[1])) > WIDE and apart(a, b) > FAR
 
 
 class Road(NamedTuple):
@@ -146,6 +148,7 @@ FIELDS = """line.line, from_node, to_node, split_part(fields, ',', 1), split_par
     street.direction, part, k, along"""
 COLUMNS = f"{FIELDS}, ST_AsBinary(geom, 'NDR')"
 ONE_WAY = f"{FIELDS}, case when along or street.direction <> 'both' then ST_AsBinary(geom, 'NDR') end"
+BOXES = "unnest(%s::float8[], %s::float8[], %s::float8[], %s::float8[]) with ordinality as box(w, s, e, n, number)"
 LINES = "olr_keep.line join olr_keep.street on street.street = line.street"
 
 
@@ -177,34 +180,104 @@ def number_array(items: Iterable[object]) -> str:
     return "{" + ",".join(map(str, items)) + "}"
 
 
+def reach(course: Sequence[Place], tolerance: float) -> Place:
+    """Somewhat more than the tolerance, in degrees east and north of a course."""
+    high = 1.1 * tolerance / METRES
+    return high / max(0.01, math.cos(math.radians(max([abs(it[1]) for it in course])))), high
+
+
 def cells_near(course: Sequence[Place], tolerance: float) -> Set[Cell]:
     """The cells in which lines near a course may have points."""
-    high = 1.1 * tolerance / METRES
-    wide = high / max(0.01, math.cos(math.radians(max(abs(it[1]) for it in course))))
+    wide, high = reach(course, tolerance)
     places = list(course[:1])
     for a, b in zip(course, course[1:]):
         count = int(max(abs(b[0] - a[0]), abs(b[1] - a[1])) / CELL) + 1
         places += [between(a, b, k / count) for k in range(1, count)] if count > 1 else ()
         places.append(b)
     boxes = [((x - wide) // CELL, (x + wide) // CELL, (y - high) // CELL, (y + high) // CELL) for x, y in places]
-    ranges = {(min(a[0], b[0]), max(a[1], b[1]), min(a[2], b[2]), max(a[3], b[3])) for a, b in zip(boxes, boxes[1:])}
+    ranges = {(min(a[0], b[0]), max(a[1], b[1]), min(a[2], b[2]), max(a[3], b[3])) for a, b in {*zip(boxes, boxes[1:])}}
     return {(x, y) for w, e, s, n in ranges for x in range(int(w), int(e) + 1) for y in range(int(s), int(n) + 1)}
 
 
-def boxes_of(cells: Iterable[Cell]) -> Iterator[Tuple[float, float, float, float]]:
-    """The boxes of cells in degrees; a few that are beside each other have one box."""
-    ordered = sorted((y, x) for x, y in cells)
-    k = 0
-    while k < len(ordered):
-        (y, x), count = ordered[k], 1
-        while count < RUN and k + count < len(ordered) and ordered[k + count] == (y, x + count):
-            count += 1
-        yield x * CELL, y * CELL, (x + count) * CELL, (y + 1) * CELL
-        k += count
+def consecutive(numbers: Sequence[int]) -> Iterator[Tuple[int, int]]:
+    """The first and the last of each run of consecutive numbers among ascending ones."""
+    ends = [k for k, (a, b) in enumerate(zip(numbers, numbers[1:]), 1) if b != a + 1]
+    for first, last in zip([0, *ends], [*ends, len(numbers)]):
+        yield numbers[first], numbers[last - 1]
+
+
+def boxes_of(cells: Iterable[Cell]) -> Iterator[Box]:
+    """The boxes of cells in degrees. In a square of RUN cells on a side, rows that have the same cells have one box."""
+    squares: Dict[Cell, Dict[int, List[int]]] = defaultdict(lambda: defaultdict(list))
+    for y, x in sorted([(y, x) for x, y in cells]):
+        squares[x // RUN, y // RUN][y].append(x)
+    for rows in squares.values():
+        same: Dict[Tuple[int, int], List[int]] = defaultdict(list)
+        for y, row in rows.items():
+            for run in consecutive(row):
+                same[run].append(y)
+        for (west, east), several in same.items():
+            for south, north in consecutive(several):
+                yield west * CELL, south * CELL, (east + 1) * CELL, (north + 1) * CELL
+
+
+def sides_of(boxes: Iterable[Box]) -> List[str]:
+    """The texts of four arrays with the sides of boxes."""
+    return [number_array(f"{it:.7f}" for it in side) for side in zip(*boxes)]
 
 
 class Unread(Exception):
     """Something isn't read yet, and can't be read here."""
+
+
+class Rows(Dict[int, Row]):
+    """Lines of the table by number, as they were read: most are only beside the paths, so the row of one is made when it is asked
+    for. A line without coordinates has those of its stretch's other direction."""
+
+    def __init__(self) -> None:
+        super().__init__()
+        self.read: Dict[int, Tuple[Any, ...]] = {}
+        self.shapes: Dict[Tuple[Any, ...], bytes] = {}
+
+    def __contains__(self, number: object) -> bool:
+        return number in self.read
+
+    def __missing__(self, number: int) -> Row:
+        it = self.read[number]
+        points = coordinates(it[11]) or (coordinates(self.shapes[it[6:10]]) or ())[::-1]
+        self[number] = row = Row._make((*it[:11], points))
+        return row
+
+
+class Ways(Network):
+    """The lines that were read, and those near the ends of the courses that are sought."""
+
+    def __init__(self) -> None:
+        super().__init__({})
+        self.lines = self.rows = Rows()
+        self.beside: Dict[Place, List[int]] = {}
+
+    def take(self, found: Iterable[Tuple[Any, ...]]) -> None:
+        """Adds what a query found."""
+        read, shapes, leaving, nodes = self.rows.read, self.rows.shapes, self.leaving, self.nodes
+        for it in found:
+            number, start, end, shape = it[0], it[1], it[2], it[11]
+            if number in read:
+                continue
+            read[number] = it
+            leaving[start].append((number, end))
+            if shape is not None:
+                shapes[it[6:10]] = shape
+                if start not in nodes:
+                    lon, lat = COORDINATE.unpack_from(shape, 9)
+                    nodes[start] = lon, lat
+                if end not in nodes:
+                    lon, lat = COORDINATE.unpack_from(shape, len(shape) - 16)
+                    nodes[end] = lon, lat
+
+    def near(self, place: Place, east: float, north: float) -> List[int]:
+        """The lines near an end of a course."""
+        return [it for it in self.beside[place] if it in self.rows]
 
 
 class Finder:
@@ -212,33 +285,25 @@ class Finder:
 
     def __init__(self, cursor: Any, tolerance: float) -> None:
         self.cursor, self.tolerance = cursor, tolerance
-        self.rows: Dict[int, Row] = {}
-        self.network = Network({})
+        self.network = Ways()
+        self.rows: Mapping[int, Row] = self.network.rows
         self.cells: Set[Cell] = set()
         self.courses: Set[Course] = set()
         self.unused: List[Tuple[Any, ...]] = []
-        self.streets: Dict[str, List[Row]] = {}
+        self.streets: Dict[str, List[int]] = {}
 
-    def read(self, where: str, values: Sequence[object]) -> List[Row]:
-        """The lines of the table for which a condition holds."""
+    def read(self, where: str, values: Sequence[object]) -> List[Tuple[Any, ...]]:
+        """Reads the lines of the table for which a condition holds."""
         self.ask(f"select {COLUMNS} from {LINES} where {where}", values)
-        return self.take(self.cursor)
+        found: List[Tuple[Any, ...]] = self.cursor.fetchall()
+        self.network.take(found)
+        return found
 
     def ask(self, query: str, values: Sequence[object]) -> None:
         """Asks the database."""
         if self.cursor is None:
             raise Unread
         self.cursor.execute(query, values)
-
-    def take(self, found: Iterable[Tuple[Any, ...]]) -> List[Row]:
-        """The lines that a query found. A line without coordinates has those of its stretch's other direction, which is there."""
-        read = [(it, coordinates(it[11])) for it in found]
-        there = {it[6:10]: points for it, points in read if points}
-        rows = [self.rows.get(it[0]) or Row._make((*it[:11], points or there[it[6:10]][::-1])) for it, points in read]
-        new = {it.number: it for it in rows}
-        self.rows.update(new)
-        self.network.add(new)
-        return rows
 
     def read_numbers(self, numbers: Iterable[int]) -> None:
         """Reads the lines with these numbers."""
@@ -247,37 +312,41 @@ class Finder:
     def read_near(self, courses: Iterable[Course]) -> None:
         """Reads the lines near courses, by cells. What was read is used when it is needed."""
         new = {*courses} - self.courses
-        cells = set().union(*(cells_near(it, self.tolerance) for it in new)) - self.cells
         self.courses |= new
-        if not cells:
-            return
-        sides = [number_array(f"{it:.7f}" for it in side) for side in zip(*boxes_of(cells))]
-        self.ask(
-            f"""select {ONE_WAY} from (
-                select distinct other.line
-                from unnest(%s::float8[], %s::float8[], %s::float8[], %s::float8[]) as box(w, s, e, n) cross join lateral (
-                    select line from olr_keep.line where geom && ST_MakeEnvelope(w, s, e, n, 4326) offset 0
-                ) as other
-            ) as found cross join lateral (select * from olr_keep.line where line.line = found.line offset 0) as line
-            join olr_keep.street on street.street = line.street""", sides)
-        self.unused += self.cursor.fetchall()
-        self.cells |= cells
+        cells = set().union(*(cells_near(it, self.tolerance) for it in new)) - self.cells
+        if cells:
+            self.ask(f"""select {ONE_WAY} from {BOXES} cross join lateral (
+                select * from olr_keep.line where geom && ST_MakeEnvelope(w, s, e, n, 4326) offset 0
+            ) as line join olr_keep.street on street.street = line.street""", sides_of(boxes_of(cells)))
+            self.unused += self.cursor.fetchall()
+            self.cells |= cells
+        self.read_beside(new)
+
+    def read_beside(self, courses: Iterable[Course]) -> None:
+        """Reads which lines are near the ends of courses."""
+        boxes: Dict[Place, Box] = {}
+        for it in courses:
+            (wide, high), places = reach(it, self.tolerance), (it[0], it[-1])
+            boxes.update((place, (place[0] - wide, place[1] - high, place[0] + wide, place[1] + high)) for place in places)
+        if boxes:
+            self.ask(f"""select array(select line from olr_keep.line where geom && ST_MakeEnvelope(w, s, e, n, 4326))
+                from {BOXES} order by number""", sides_of(boxes.values()))
+            self.network.beside.update(zip(boxes, (it for (it,) in self.cursor)))
 
     def near(self, course: Course) -> Network:
         """The lines near a course, and others."""
         self.read_near([course])
-        self.take(self.unused)
+        self.network.take(self.unused)
         self.unused.clear()
         return self.network
 
     def read_streets(self, streets: Set[str]) -> None:
         """Reads the lines of streets."""
-        new = streets - self.streets.keys()
+        new = {it for it in streets if it not in self.streets}
         if new:
-            rows = self.read("line.street = any(%s::text[])", (text_array(new),))
             self.streets.update((it, []) for it in new)
-            for row in rows:
-                self.streets[row.street].append(row)
+            for it in self.read("line.street = any(%s::text[])", (text_array(new),)):
+                self.streets[it[6]].append(it[0])
 
     def by_streets(self, streets: Sequence[str], last: Optional[LastEnds], tolerance: float) -> Result:
         """The lines of streets in this order; each is left where it meets the next. The ends are sought within the tolerance
@@ -287,7 +356,8 @@ class Finder:
         for _, street in marked:
             if not self.streets[street]:
                 return Lost(f"street {street} has no line", None)
-        return Route(marked, self.streets, last, tolerance).search()
+        by_street = {it: [self.rows[number] for number in self.streets[it]] for _, it in marked}
+        return Route(marked, by_street, last, tolerance).search()
 
 
 def marked_street(text: str) -> Tuple[str, str]:
@@ -340,6 +410,7 @@ class PathSearch:
         if self.known is not None and self.known.said_course:
             self.was = WhereItWas(self.known, self.known.said_course, edited)
         self.other_road: Optional[Found] = None
+        self.followers: Dict[Course, Follower] = {}
         self.lost: List[Lost] = []
 
     def run(self) -> Placement:
@@ -428,7 +499,10 @@ class PathSearch:
 
     def follow(self, course: Course, wish: Wish) -> Result:
         """The lines that follow a course."""
-        found = follow(list(course), self.finder.near(course), self.finder.tolerance, wish)
+        network = self.finder.near(course)
+        if course not in self.followers:
+            self.followers[course] = Follower(course, network, self.finder.tolerance)
+        found = self.followers[course].follow(wish)
         if isinstance(found, Lost):
             self.lost.append(found)
         return found

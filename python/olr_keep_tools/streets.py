@@ -9,6 +9,7 @@ from __future__ import annotations
 import difflib
 import itertools
 import math
+import operator
 import struct
 from collections import Counter, defaultdict
 from typing import (Any, Callable, Collection, Container, Dict, Hashable, Iterable, Iterator, List, Mapping, NamedTuple, Optional,
@@ -18,13 +19,15 @@ from .geo import AXIS, RADIAN, onto_segment
 from .records import UNITS
 
 EAST, NORTH = 180 * UNITS, 90 * UNITS
+LONGITUDES, LATITUDES = (-180.0, 179.9999), (-89.9999, 89.9999)  # of nodes
 LOW = (1 << 31) - 1
 METRES = AXIS * RADIAN / UNITS  # of a unit of longitude at the equator
 LONGEST = 14_900.0  # metres; between two location reference points are 15 km at most
 WIDEST = 3_200_000  # units; between two location reference points is a third of a degree at most
 SHORT = 1_300_000  # units east or west and north or south up to which no course is too long for a line
 MOST_SHAPE = 990  # shape points of a line; the program takes 1,000
-DIRECTIONS = ("both", "along", "against")
+WAYS = {"both": (True, False), "along": (True,), "against": (False,)}  # whether the lines of a direction are along the geometry
+COORDINATE, LINE_HEAD = struct.Struct("<dd"), struct.Struct("<BIII")  # of EWKB
 MOST_SHOWN = 40  # characters of a wrong value
 COLLECTION = 7  # of WKB, as are these: where the coordinates of points, lines, arcs, polygons and triangles begin
 BEGIN = {1: 5, 2: 9, 8: 9, 3: 13, 17: 13}
@@ -123,13 +126,14 @@ def street_of(frc: Optional[str], fow: Optional[str], direction: Optional[str], 
 def read_street(frc: Optional[str], fow: Optional[str], direction: Optional[str], kind: Optional[str], srid: Optional[int],
                 shape: Optional[bytes]) -> Union[Street, Unfit]:
     """The same, but without its place."""
-    missing = [name for name, it in (("class", frc), ("form", fow), ("direction", direction), ("geometry", kind)) if it is None]
     if frc is None or fow is None or direction is None or kind is None:
+        given = ("class", frc), ("form", fow), ("direction", direction), ("geometry", kind)
+        missing = [name for name, it in given if it is None]
         return Unfit(f"{' and '.join(missing)} {'is' if len(missing) == 1 else 'are'} NULL")
     for name, text in (("class", frc), ("form", fow)):
         if text not in ("0", "1", "2", "3", "4", "5", "6", "7"):
             return Unfit(f"{name} is {text[:MOST_SHOWN]}, and has to be 0 to 7")
-    if direction not in DIRECTIONS:
+    if direction not in WAYS:
         return Unfit(f"direction is {direction[:MOST_SHOWN]}, and has to be both, along or against")
     if kind not in ("ST_LineString", "ST_MultiLineString"):
         return Unfit(f"the geometry is of type {kind[3:]}, and has to be a LineString or a MultiLineString")
@@ -138,18 +142,25 @@ def read_street(frc: Optional[str], fow: Optional[str], direction: Optional[str]
     if shape is None:
         return Unfit(f"the geometry of SRID {srid} has no coordinates in degrees")
     found = []
-    for points in wkb_parts(shape):
-        if not all(map(is_inside, points)):
+    for lons, lats in wkb_parts(shape):
+        if not (are_between(lons, *LONGITUDES) and are_between(lats, *LATITUDES)):
             return Unfit("the geometry is beyond the longitudes -180 to 179.9999 or the latitudes -89.9999 to 89.9999")
-        places = [round(lon * UNITS) + EAST << 31 | round(lat * UNITS) + NORTH for lon, lat in points]
-        found.append(tuple(subdivided([it for k, it in enumerate(places) if k == 0 or it != places[k - 1]])))
+        places = [round(lon * UNITS) + EAST << 31 | round(lat * UNITS) + NORTH for lon, lat in zip(lons, lats)]
+        if any(map(operator.eq, places, places[1:])):
+            places = [it for k, it in enumerate(places) if k == 0 or it != places[k - 1]]
+        found.append(tuple(places if is_short(places) else subdivided(places)))
     parts = tuple(it for it in found if len(it) > 1)
     return Street(int(frc), int(fow), direction, parts) if parts else Unfit("the geometry has no two different vertices")
 
 
 def is_inside(point: Place) -> bool:
     """Whether a map can have a node at a coordinate in degrees; NaN is nowhere."""
-    return -180 <= point[0] <= 179.9999 and -89.9999 <= point[1] <= 89.9999
+    return are_between(point[:1], *LONGITUDES) and are_between(point[1:], *LATITUDES)
+
+
+def are_between(numbers: Sequence[float], least: float, most: float) -> bool:
+    """Whether all numbers are between two others; NaN is not, and makes their sum one."""
+    return not numbers or math.isfinite(sum(numbers)) and least <= min(numbers) and max(numbers) <= most
 
 
 def first_place(shape: bytes) -> Optional[Place]:
@@ -164,8 +175,8 @@ def first_place(shape: bytes) -> Optional[Place]:
     return (lon, lat) if is_inside((lon, lat)) else None
 
 
-def wkb_parts(shape: bytes) -> Iterator[List[Place]]:
-    """The coordinates of each part of a little-endian WKB LineString or MultiLineString."""
+def wkb_parts(shape: bytes) -> Iterator[Tuple[Sequence[float], Sequence[float]]]:
+    """The longitudes and the latitudes of each part of a little-endian WKB LineString or MultiLineString."""
     _, kind, count = struct.unpack_from("<BII", shape)
     at = 9
     for _ in range(count if kind == 5 else 1):
@@ -176,13 +187,13 @@ def wkb_parts(shape: bytes) -> Iterator[List[Place]]:
             size = count
         numbers = struct.unpack_from(f"<{2 * size}d", shape, at)
         at += 16 * size
-        yield list(zip(numbers[::2], numbers[1::2]))
+        yield numbers[::2], numbers[1::2]
 
 
 def wkb_hex(places: Sequence[int]) -> str:
     """The LineString of these places, as hexadecimal EWKB in degrees."""
-    numbers = [it / UNITS for place in places for it in ((place >> 31) - EAST, (place & LOW) - NORTH)]
-    return struct.pack(f"<BIII{len(numbers)}d", 1, 0x20000002, 4326, len(places), *numbers).hex()
+    points = [COORDINATE.pack(((place >> 31) - EAST) / UNITS, ((place & LOW) - NORTH) / UNITS) for place in places]
+    return (LINE_HEAD.pack(1, 0x20000002, 4326, len(points)) + b"".join(points)).hex()
 
 
 def subdivided(places: Sequence[int]) -> Iterator[int]:
@@ -201,8 +212,10 @@ def subdivided(places: Sequence[int]) -> Iterator[int]:
 
 def is_short(places: Sequence[int]) -> bool:
     """Whether a course is surely not too long for a line."""
-    ways = zip(places, places[1:])
-    return sum(abs((b >> 31) - (a >> 31)) + abs((b & LOW) - (a & LOW)) for a, b in ways) <= SHORT
+    far = 0
+    for a, b in zip(places, places[1:]):
+        far += abs((b >> 31) - (a >> 31)) + abs((b & LOW) - (a & LOW))
+    return far <= SHORT
 
 
 def distances(places: Sequence[int]) -> List[float]:
@@ -268,18 +281,17 @@ def fields_of(street: Street, places: Sequence[int]) -> Tuple[int, str, str]:
     for place, metres in zip(places[1:-1], far[1:-1]):
         at = round(10 * metres)
         if before < at < length:
-            lon, lat = degrees(place)
-            shape.append((at, f",{lon:.7f},{lat:.7f}"))
+            shape.append((at, f"{((place >> 31) - EAST) / UNITS:.7f},{((place & LOW) - NORTH) / UNITS:.7f}"))
             before = at
     head = f"{street.frc},{street.fow},{length}"
-    along = head + "".join(f",{at}{text}" for at, text in shape)
-    return length, along, head + "".join(f",{length - at}{text}" for at, text in reversed(shape))
+    along = ",".join([head, *[f"{at},{text}" for at, text in shape]])
+    return length, along, ",".join([head, *[f"{length - at},{text}" for at, text in shape[::-1]]])
 
 
 def lines_of(key: str, street: Street, found: Stretches, node_at: Mapping[int, int]) -> Iterator[Made]:
     """The lines of a street with these stretches."""
     counts: Dict[Hashable, int] = Counter()
-    ways = [it for it in (True, False) if street.direction in ("both", "along" if it else "against")]
+    ways = WAYS[street.direction]
     for index, (part, pairs) in enumerate(zip(street.parts, found)):
         for k, (begin, end) in enumerate(pairs):
             places, first, last = part[begin : end + 1], node_at[part[begin]], node_at[part[end]]

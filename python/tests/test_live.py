@@ -12,10 +12,10 @@ from collections import Counter
 from typing import Any, Dict, Iterator, List, Mapping, Optional, Sequence, Set, Tuple
 
 from olr_keep_tools.courses import CELL, DRAWN, Ends, Found, Ground, Lost, Network, Strip, Wish, cells_along, follow
-from olr_keep_tools.forked import Forked
+from olr_keep_tools.forked import Forked, in_order
 from olr_keep_tools.liveambiguous import Obstacle, named_places, obstacles, write_ambiguities
 from olr_keep_tools.livedraft import Was, verdict
-from olr_keep_tools.livefirst import FirstLoad, Writer
+from olr_keep_tools.livefirst import FirstLoad, line_rows, node_rows
 from olr_keep_tools.liveprogram import LiveProgram, Sent
 from olr_keep_tools.livemap import LAST, Affected, Numbers, cell_of, copy_line
 from olr_keep_tools.livepaths import PathsUpdate, Search, is_there, parts_of, places_hex
@@ -24,11 +24,12 @@ from olr_keep_tools.liverounds import DROPPED, Answer, Clusters, Counts, Effect,
 from olr_keep_tools.liveservice import Attempt, Live, Night, words_of
 from olr_keep_tools.livesession import Readable, Source, Table, psycopg2, row_query
 from olr_keep_tools.pathlines import Known as KnownPath
-from olr_keep_tools.pathlines import (Edited, Finder, PathSearch, Road, Row, State, Wanted, WhereItWas, boxes_of, cells_near,
-                                      marked_street, text_array)
+from olr_keep_tools.pathlines import (Edited, Finder, PathSearch, Road, Row, State, Wanted, WhereItWas, Ways, boxes_of, cells_near,
+                                      consecutive, marked_street, text_array)
 from olr_keep_tools.program import ProgramFailed
-from olr_keep_tools.streets import (LONGEST, SHORT, Old, Recut, Street, Unfit, distances, first_place, is_short, place_of, street_of,
-                                    subdivided, wkb_hex)
+from olr_keep_tools.streets import (LONGEST, SHORT, Old, Recut, Street, Unfit, are_between, distances, first_place, is_short,
+                                    place_of, street_of, stretches_of, subdivided, wkb_hex)
+from olr_keep_tools.streets import lines_of as made_lines
 
 
 def place(east: int, north: int = 0) -> int:
@@ -149,6 +150,10 @@ class Cutting(unittest.TestCase):
         self.assertEqual(street_of("9" * 90, "3", "both", "ST_LineString", 4326, line),
                          Unfit(f"class is {'9' * 40}, and has to be 0 to 7", (6.1, 49.6)))
 
+    def test_between(self) -> None:
+        given = [(), (1.0,), (0.0, 2.0), (0.0, 2.1), (float("nan"), 1.0), (1.0, float("nan")), (float("inf"), -float("inf"))]
+        self.assertEqual([are_between(it, 0, 2) for it in given], [True, True, True, False, False, False, False])
+
     def test_unfit(self) -> None:
         self.assertEqual(street_of("9", "3", "both", "ST_LineString", 4326, b""), Unfit("class is 9, and has to be 0 to 7"))
         self.assertEqual(street_of("3", None, None, "ST_LineString", 4326, b""), Unfit("form and direction are NULL"))
@@ -174,24 +179,22 @@ class FirstLoads(unittest.TestCase):
         load = FirstLoad(FakeCursor(), numbers, Affected())
         counts = Counter(it for street in self.STREETS.values() for part in street.parts for it in part)
         meeting = {it for it, count in counts.items() if count > 1}
-        made = [it for key, street in self.STREETS.items() for it in load.cut_block({key: street}, meeting)]
+        found = {key: stretches_of(it, meeting) for key, it in self.STREETS.items()}
+        for key, street in self.STREETS.items():
+            load.number_nodes({key: street}, found)
+        made = [it for key, street in self.STREETS.items() for it in made_lines(key, street, found[key], load.node_at)]
         places = {node: it for it, node in load.node_at.items()}
         self.assertEqual(self.lines(made, places), self.lines(cut.added.values(), cut.new_nodes))
-        ends = {places[node] for node, count in load.ending.items() if count == 1}
-        self.assertEqual(ends, {cut.new_nodes[it] for it in cut.ends})
+        self.assertEqual({it for it, count in load.ending.items() if count == 1}, {cut.new_nodes[it] for it in cut.ends})
 
-    def test_rows_are_copied_in_order(self) -> None:
-        cursor = FakeCursor()
-        with Writer(cursor) as writer:
-            for k in range(5):
-                writer.copy("line", "line", [(k,), (None,)])
-            writer.wait()
-        self.assertEqual([it[2] for it in cursor.copied], [f"{k}\n\\N\n" for k in range(5)])
-
-    def test_a_failure_is_raised(self) -> None:
-        with Writer(None) as writer, self.assertRaises(AttributeError):
-            writer.copy("line", "line", [(1,)])
-            writer.wait()
+    def test_rows(self) -> None:
+        streets, stretches = {"a\tb": self.STREETS["a"]}, {"a\tb": [[(0, 2)]]}
+        node_at = {place(0): 1, place(100): 2}
+        made = list(made_lines("a\tb", self.STREETS["a"], stretches["a\tb"], node_at))
+        wanted = "".join(copy_line((number, *it[:9], wkb_hex(it.places))) for number, it in zip((7, 8), made))
+        self.assertEqual(line_rows(streets, stretches, node_at, [7, 8]), wanted)
+        nodes = node_rows([(place(0), 1), (place(100), 2)], Counter([place(0)])).splitlines()
+        self.assertEqual([it.split("\t")[::3] for it in nodes], [["1", "True"], ["2", "False"]])
 
 
 # ---- reading
@@ -233,15 +236,15 @@ class Reading(unittest.TestCase):
 
 
 class Failing(FakeCursor):
-    """A cursor for which rows with the id 3 can't be read."""
+    """A cursor for which rows with the id 3 can't be read, nor the indexes dropped."""
 
     connection: Any = argparse.Namespace(closed=False)
 
     def execute(self, query: str, values: Any = None) -> None:
-        """Fails if the row with id 3 is asked for."""
+        """Fails if the row with id 3 is asked for, or the indexes are."""
         super().execute(query, values)
         ids = values["ids"] if isinstance(values, dict) and "ids" in values else ""
-        if '"3"' in ids:
+        if '"3"' in ids or "set_indexes" in query:
             raise psycopg2.DataError("invalid input")
         if len(ids) > 2 and not self.found:
             shape = bytes.fromhex(wkb_hex((place(0), place(9)))[:2] + "02000000" + wkb_hex((place(0), place(9)))[18:])
@@ -284,6 +287,11 @@ class ReadingRows(unittest.TestCase):
         self.assertEqual(reader.near_each_other(1, {"a", "b", "c", "d"}), ["b", "a", "c", "d"])
         self.assertEqual(reader.near_each_other(-1, {"c", "d"}), ["c", "d"])
         self.assertEqual(reader.near_each_other(1, {"3", "2", "c"}), ["c", "2", "3"])
+
+    def test_indexes_stay_where_the_map_is_read(self) -> None:
+        numbers: Any = FakeNumbers()
+        for cursor, has_indexes in (FakeCursor(), False), (Failing(), True):
+            self.assertEqual(FirstLoad(cursor, numbers, Affected()).has_indexes, has_indexes)
 
     def test_a_bad_row_is_found(self) -> None:
         rows = Reader(Failing(), [], set()).rows(SOURCE, {str(k) for k in range(8)})
@@ -499,9 +507,11 @@ class Grids(unittest.TestCase):
         self.assertGreater(len(cells_near(course, 500.0)), 20)
 
     def test_boxes(self) -> None:
-        self.assertEqual(list(boxes_of([(1, 5), (2, 5), (4, 5), (1, 6)])),
-                         [(it[0] * CELL, it[1] * CELL, it[2] * CELL, it[3] * CELL) for it in
-                          ((1, 5, 3, 6), (4, 5, 5, 6), (1, 6, 2, 7))])
+        given = [(1, 5), (2, 5), (4, 5), (1, 6), (1, 7), (2, 7), (7, 5), (8, 5), (1, 8), (-1, 5)]
+        self.assertEqual(sorted(boxes_of(given)), sorted((it[0] * CELL, it[1] * CELL, it[2] * CELL, it[3] * CELL) for it in (
+            (1, 5, 3, 6), (4, 5, 5, 6), (1, 6, 2, 7), (1, 7, 3, 8), (7, 5, 8, 6), (8, 5, 9, 6), (1, 8, 2, 9), (-1, 5, 0, 6))))
+        self.assertEqual(list(boxes_of([(x, y) for x in range(8) for y in range(8)])), [(0, 0, 8 * CELL, 8 * CELL)])
+        self.assertEqual(list(consecutive([1, 2, 3, 5, 7, 8])), [(1, 3), (5, 5), (7, 8)])
 
 
 def known(**changes: Any) -> KnownPath:
@@ -609,7 +619,8 @@ class Searches(unittest.TestCase):
         search = Search(PathsUpdate(FakeCursor(), Affected(), 20.0), ["p", "q", "gone"], finder, self.NOTHING, wanted, {})
         search.fork()
         found = search.result()
-        self.assertEqual([(name, it and it.lines) for name, it in found.items()], [("p", [1]), ("q", [1]), ("gone", None)])
+        lines = [(name, it and it.placed.lines) for name, it in found.items()]
+        self.assertEqual(lines, [("p", [1]), ("q", [1]), ("gone", None)])
 
     def test_long_courses_are_sought_beside_the_session(self) -> None:
         wanted = self.COURSE._replace(course=tuple((6.1, 49.6 + 1e-7 * k) for k in range(50_001)))
@@ -618,8 +629,23 @@ class Searches(unittest.TestCase):
             self.assertEqual(Search(update, ["p"], FakeFinder(), self.NOTHING, {"p": course}, {}).is_long(), is_long)
 
     def test_parts(self) -> None:
-        sizes = {count: [len(it) for it in parts_of([str(k) for k in range(count)])] for count in (0, 50, 51, 300, 1100)}
-        self.assertEqual(sizes, {0: [], 50: [50], 51: [50, 1], 300: [150, 150], 1100: [500, 500, 100]})
+        sizes = {count: [len(it) for it in parts_of([str(k) for k in range(count)])] for count in (0, 50, 51, 300, 2100)}
+        self.assertEqual(sizes, {0: [], 50: [50], 51: [50, 1], 300: [150, 150], 2100: [1000, 1000, 100]})
+
+    def test_records(self) -> None:
+        wanted, was = {"p": self.COURSE}, (known(), 0, 0)
+        search = Search(PathsUpdate(FakeCursor(), Affected(), 20.0), ["p"], FakeFinder(row(1, "a")), self.NOTHING, wanted, {})
+        given: List[Any] = [None, was, (known(lines=[]), 0, 0), (known(lines=[2]), 0, 0), (known(), 1, 0)]
+        records = []
+        for it in given:
+            search.known = {"p": it} if it else {}
+            sought = search.place("p")
+            records.append(sought and sought.record)
+        self.assertEqual(records, ["path,p,0,0,1", "", "path,p,0,0,1", "repath,p,0,0,1", "repath,p,0,0,1"])
+        search.wanted = {"p": self.COURSE._replace(definition="other", streets=["b"], course=None)}
+        search.known = {"p": was}
+        sought = search.place("p")
+        self.assertEqual((sought and sought.record, sought and sought.row[1:3]), ("drop-path,p", ("{}", "{}")))
 
     def test_a_killed_search_is_made_again(self) -> None:
         search = Search(PathsUpdate(FakeCursor(), Affected(), 20.0), ["p"], FakeFinder(row(1, "a")), self.NOTHING,
@@ -628,7 +654,7 @@ class Searches(unittest.TestCase):
         if search.forked:
             os.kill(search.forked.process, signal.SIGKILL)
         found = search.result()["p"]
-        self.assertEqual(found and found.lines, [1])
+        self.assertEqual(found and found.placed.lines, [1])
 
     def test_what_is_not_read_is_left(self) -> None:
         search = Search(PathsUpdate(FakeCursor(), Affected(), 20.0), ["p"], Finder(FakeCursor(), 20.0), self.NOTHING,
@@ -639,8 +665,17 @@ class Searches(unittest.TestCase):
     def test_both_directions_have_one_shape(self) -> None:
         shape = bytes.fromhex("0102000000" + wkb_hex((place(0), place(9)))[18:])
         along = (1, 5, 6, "3", "3", 100, "a", "both", 0, 0, True, shape)
-        rows = Finder(FakeCursor(), 20.0).take([(2, 6, 5, "3", "3", 100, "a", "both", 0, 0, False, None), along])
-        self.assertEqual([it.points for it in rows], [(degrees(9), degrees(0)), (degrees(0), degrees(9))])
+        ways = Ways()
+        ways.take([(2, 6, 5, "3", "3", 100, "a", "both", 0, 0, False, None), along])
+        self.assertEqual([ways.rows[it].points for it in (1, 2)], [(degrees(0), degrees(9)), (degrees(9), degrees(0))])
+        self.assertEqual((ways.nodes, ways.leaving), ({5: degrees(0), 6: degrees(9)}, {5: [(1, 6)], 6: [(2, 5)]}))
+        self.assertEqual([it in ways.rows for it in (1, 2, 3)], [True, True, False])
+
+    def test_lines_beside_the_ends_of_courses(self) -> None:
+        finder = Finder(FakeCursor({"select array": [([1],), ([],)]}), 20.0)
+        finder.read_near([(degrees(0), degrees(100))])
+        self.assertEqual(finder.network.beside, {degrees(0): [1], degrees(100): []})
+        self.assertEqual(finder.network.near(degrees(0), 0.0, 0.0), [])
 
     def test_is_there(self) -> None:
         finder = FakeFinder(row(1, "a"))
@@ -676,6 +711,20 @@ class Forks(unittest.TestCase):
 
     def test_failure(self) -> None:
         self.assertIsNone(Forked(lambda: 1 // 0).result(lambda: None))
+
+    def test_in_order(self) -> None:
+        works = (functools.partial(pow, k, 2) for k in range(9))
+        self.assertEqual(list(in_order(works, lambda: None)), [k * k for k in range(9)])
+
+    def test_what_a_killed_child_did_is_done_here(self) -> None:
+        here = os.getpid()
+
+        def work() -> bool:
+            if os.getpid() != here:
+                os.kill(os.getpid(), signal.SIGKILL)
+            return True
+
+        self.assertEqual(list(in_order(iter([work, work]), lambda: None)), [True, True])
 
     def test_killed(self) -> None:
         child = Forked(lambda: time.sleep(100))
@@ -856,12 +905,17 @@ class Programs(unittest.TestCase):
     def test_rejected(self) -> None:
         with self.assertRaisesRegex(ProgramFailed, "fault,1,Syntax"):
             self.program.carry_out(b"bad\n", 1)
+        sent = Sent(self.program)
+        sent.write(b"bad\n")
+        with self.assertRaisesRegex(ProgramFailed, "fault,1,Syntax"):
+            sent.finish()
 
     def test_sent(self) -> None:
         sent = Sent(self.program)
         sent.write(b"node,1,0,0\n")
-        sent.write(b"node,2,0,0\n")
         sent.flush()
+        sent.write(b"node,2,0,0\n")
+        sent.finish()
         self.assertEqual(self.program.carry_out(b"report\n", 1), ["a,text,X", "b,refused,1,7"])
 
     def test_ticks_while_it_works(self) -> None:
