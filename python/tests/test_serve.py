@@ -7,11 +7,14 @@ import random
 import socket
 import sqlite3
 import tempfile
+import threading
 import unittest
-from typing import Any, Deque, List, Optional, Tuple
+from concurrent.futures import ThreadPoolExecutor
+from typing import Any, Deque, List, Optional, Tuple, Union
 from unittest import mock
 
-from olr_keep_tools.serve import exchange, logfile, table
+from olr_keep_tools.command import Failure
+from olr_keep_tools.serve import exchange, logfile, sockets, table
 from olr_keep_tools.serve.framing import NoReply, Replies
 from olr_keep_tools.serve.jobs import Change, Job, Kind, batch, dropped, preview, question_about
 from olr_keep_tools.serve.lines import Input, Sort
@@ -49,6 +52,31 @@ class Source(Owner):
 
     def sent(self, size: int) -> None:
         """Nothing is noted."""
+
+
+class Sockets(unittest.TestCase):
+    """Who gets a socket of a name."""
+
+    def test_one_of_several_at_once(self) -> None:
+        with tempfile.TemporaryDirectory() as folder:
+            for k in range(20):
+                with socket.socket(socket.AF_UNIX) as left:
+                    left.bind(f"{folder}/{k}")
+                begin = threading.Barrier(4)
+                with ThreadPoolExecutor(4) as pool:
+                    found = [it.result() for it in [pool.submit(self.listening, f"{folder}/{k}", begin) for _ in range(4)]]
+                served = [it for it in found if isinstance(it, socket.socket)]
+                self.assertEqual([it for it in found if it not in served], 3 * [sockets.IN_USE])
+                served[0].close()
+
+    @staticmethod
+    def listening(name: str, begin: threading.Barrier) -> Union[socket.socket, int]:
+        """The socket, or the status of a service that doesn't get it."""
+        begin.wait()
+        try:
+            return sockets.listening(name, 0o600, "")
+        except Failure as why:
+            return why.status
 
 
 class Windows(unittest.TestCase):
