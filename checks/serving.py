@@ -2,9 +2,9 @@
 import contextlib
 import glob
 import os
+import queue
 import random
 import re
-import select
 import shutil
 import signal
 import socket
@@ -21,6 +21,7 @@ from olr_keep_tools.replies import read_reply  # noqa: E402
 
 PYTHON = "/usr/bin/python3" if os.access("/usr/bin/python3", os.X_OK) else sys.executable
 SERVED = os.environ.get("SERVED_PROGRAM", PROGRAM)
+LIMIT = 120  # seconds for what takes a moment, unless the machine is busy
 ACCEPTED, REJECTED, NOT_SERVED, NOT_KNOWN = "accepted", "rejected", "not served", "not known"
 
 
@@ -36,11 +37,7 @@ class Served:
     def __init__(self, folder, *options, log="log.csv", env=None, program=SERVED):
         self.folder, self.options, self.env, self.command = folder, options, env or {}, program
         self.log, self.errors = f"{folder}/{log}", f"{folder}/errors"
-        self.notified, self.process = [], None
-        self.systemd = socket.socket(socket.AF_UNIX, socket.SOCK_DGRAM)
-        with contextlib.suppress(FileNotFoundError):
-            os.unlink(f"{folder}/notify")
-        self.systemd.bind(f"{folder}/notify")
+        self.reported, self.process, self.starts = queue.SimpleQueue(), None, 0
 
     @property
     def table(self):
@@ -49,26 +46,46 @@ class Served:
     def start(self, wait=True):
         """Starts it, and waits until it serves."""
         command = [PYTHON, "-B", f"{TOP}/tools/serve", *self.options, self.log, self.command]
-        self.notified.clear()
         with open(self.errors, "ab") as errors:
             self.process = subprocess.Popen(command, stdin=subprocess.DEVNULL, stderr=errors, stdout=errors,
-                                            env={**os.environ, "NOTIFY_SOCKET": f"{self.folder}/notify", **self.env})
+                                            env={**os.environ, "NOTIFY_SOCKET": self.listen(), **self.env})
         self.started.append(self.process)
         if wait:
             self.wait_for("READY=1")
         return self
 
-    def wait_for(self, word, seconds=30):
-        """Waits until this is reported to systemd, from now on."""
-        until = time.monotonic() + seconds
+    def listen(self):
+        """The name of the socket where systemd would listen, of one start alone. What is reported is read as it arrives, so that there
+        is room for more."""
+        self.starts += 1
+        name, reported = f"{self.folder}/notify{self.starts}", queue.SimpleQueue()
+        with contextlib.suppress(FileNotFoundError):
+            os.unlink(name)
+        systemd = socket.socket(socket.AF_UNIX, socket.SOCK_DGRAM)
+        systemd.bind(name)
+
+        def read():
+            while True:
+                reported.put(systemd.recv(65536).decode())
+
+        threading.Thread(target=read, daemon=True).start()
+        self.reported = reported
+        return name
+
+    def wait_for(self, word):
+        """Waits until this is reported to systemd, after what was waited for before."""
+        until, last = time.monotonic() + LIMIT, ""
         while time.monotonic() < until:
-            if select.select([self.systemd], [], [], 0.05)[0]:
-                self.notified += (text := self.systemd.recv(65536).decode()).split("\n")
-                if word in text:
+            has_ended = self.process.poll() is not None
+            try:
+                last = self.reported.get(timeout=5 if has_ended else 0.05)
+            except queue.Empty:
+                if has_ended:
+                    raise Failed(f"the service ended with status {self.process.returncode}: {self.said()}") from None
+            else:
+                if word in last:
                     return
-            if self.process.poll() is not None:
-                raise Failed(f"the service ended with status {self.process.returncode}: {self.said()}")
-        raise Failed(f"{word} was not reported to systemd: {self.notified[-5:]} {self.said()}")
+        raise Failed(f"{word} was not reported to systemd: {last} {self.said()}")
 
     def said(self):
         """The last messages."""
@@ -102,12 +119,12 @@ class Served:
         if self.process.poll() is None:
             self.process.terminate()
         try:
-            return self.process.wait(20)
+            return self.process.wait(LIMIT)
         except subprocess.TimeoutExpired:
             self.process.kill()
             raise Failed(f"the service doesn't end: {self.said()}") from None
 
-    def ask(self, text, name="socket", timeout=20):
+    def ask(self, text, name="socket", timeout=LIMIT):
         """What a connection gets that sends this and then ends its input."""
         return asked(f"{self.log}.{name}", text, timeout)
 
@@ -121,9 +138,9 @@ class Served:
         """Waits until its health has no trouble."""
         self.wait_until_health("OK: ")
 
-    def wait_until_health(self, wanted, seconds=40):
+    def wait_until_health(self, wanted):
         """Waits until its line has this."""
-        until, line = time.monotonic() + seconds, ""
+        until, line = time.monotonic() + LIMIT, ""
         while time.monotonic() < until:
             with contextlib.suppress(OSError):
                 line = self.health()
@@ -140,7 +157,7 @@ class Served:
             return [it for it in file.read().partition("\r")[0].split("\n") if it]
 
 
-def asked(name, text, timeout=20):
+def asked(name, text, timeout=LIMIT):
     """What a connection gets that sends this and then ends its input."""
     with connected(name, timeout) as to:
         to.sendall(text.encode("latin-1"))
@@ -148,16 +165,28 @@ def asked(name, text, timeout=20):
         return b"".join(iter(lambda: to.recv(1 << 16), b"")).decode("latin-1")
 
 
-def connected(name, timeout=20):
-    """A connection."""
-    found = socket.socket(socket.AF_UNIX)
+def connected(name, timeout=LIMIT):
+    """A connection. While as many wait as the system lets wait, it is tried again."""
+    found, until = socket.socket(socket.AF_UNIX), time.monotonic() + timeout
     found.settimeout(timeout)
     try:
-        found.connect(name)
+        while not has_connected(found, name, until):
+            time.sleep(0.02)
     except OSError:
         found.close()
         raise
     return found
+
+
+def has_connected(to, name, until):
+    """Whether a socket is connected now. After a moment it has to be."""
+    try:
+        to.connect(name)
+    except BlockingIOError:
+        if time.monotonic() > until:
+            raise
+        return False
+    return True
 
 
 class Database:
@@ -181,10 +210,10 @@ class Database:
 
     def start(self):
         options = f"-c listen_addresses='' -c unix_socket_directories={self.folder} -c fsync=off"
-        self.run("pg_ctl", "-D", f"{self.folder}/data", "-w", "-o", options, "-l", f"{self.folder}/log", "start")
+        self.run("pg_ctl", "-D", f"{self.folder}/data", "-w", "-t", f"{LIMIT}", "-o", options, "-l", f"{self.folder}/log", "start")
 
     def stop(self):
-        self.run("pg_ctl", "-D", f"{self.folder}/data", "-m", "immediate", "stop")
+        self.run("pg_ctl", "-D", f"{self.folder}/data", "-t", f"{LIMIT}", "-m", "immediate", "stop")
 
     def rows(self, query="select name, answer from published"):
         """The rows of a query, as lines."""
@@ -231,7 +260,7 @@ class Manager:
             shutil.copy(f"{TOP}/packaging/{name}", f"{folder}/units/{name}")
         for name in self.targets:
             write(f"{folder}/units/{name}.target", "[Unit]\nDefaultDependencies=no\n")
-        write(f"{folder}/units/olr-keep.service.d/soon.conf", "[Service]\nWatchdogSec=2\nRestartSec=0.1\n")
+        write(f"{folder}/units/olr-keep.service.d/soon.conf", "[Service]\nWatchdogSec=10\nRestartSec=0.1\n")
         for name, more in (("passwd", "olr-keep:x:61111:61111::/:/bin/false\n"), ("group", "olr-keep:x:61111:\nolr-keep-edit:x:61112:\n")):
             with open(f"/etc/{name}", encoding="utf-8") as file:
                 write(f"{folder}/{name}", file.read() + more)
@@ -242,7 +271,7 @@ class Manager:
         namespaces = ("--fork", "--pid", "--mount", "--ipc", "--uts", "--net", "--cgroup")
         self.process = subprocess.Popen(["unshare", *namespaces, "bash", "-c", self.script, "bash", self.folder],
                                         stdin=subprocess.DEVNULL, stdout=subprocess.DEVNULL, stderr=subprocess.DEVNULL)
-        until = time.monotonic() + 10
+        until = time.monotonic() + LIMIT
         while time.monotonic() < until and self.process.poll() is None:
             with contextlib.suppress(OSError, ValueError, IndexError):
                 pid = self.process.pid
@@ -255,7 +284,7 @@ class Manager:
 
     def call(self, *words):
         """Runs a command beside it."""
-        return subprocess.run(["nsenter", "-t", str(self.init), "-m", "-p", *words], capture_output=True, text=True, timeout=60,
+        return subprocess.run(["nsenter", "-t", str(self.init), "-m", "-p", *words], capture_output=True, text=True, timeout=LIMIT,
                               stdin=subprocess.DEVNULL)
 
     def show(self, name, unit="olr-keep.service"):
@@ -264,7 +293,7 @@ class Manager:
 
     def wait(self, name, wanted, unit="olr-keep.service"):
         """Waits until a property of the service, or of another unit, is this."""
-        until, found = time.monotonic() + 60, None
+        until, found = time.monotonic() + LIMIT, None
         while time.monotonic() < until:
             if (found := self.show(name, unit)) == wanted:
                 return
@@ -311,7 +340,7 @@ class Writer(threading.Thread):
     def run(self):
         while not self.stopped.is_set():
             try:
-                with connected(f"{self.served.log}.socket", 60) as to, to.makefile("r", encoding="latin-1", newline="\n") as replies:
+                with connected(f"{self.served.log}.socket") as to, to.makefile("r", encoding="latin-1", newline="\n") as replies:
                     for _ in range(self.rnd.randrange(1, 30)):
                         if self.stopped.is_set() or not self.step(to, replies):
                             break
@@ -408,7 +437,7 @@ def check_records(sent, records):
 
 def check_table(served, rows):
     """Whether the table and the program say the same, and a run over the log does. `rows` returns the rows of the table."""
-    until = time.monotonic() + 20
+    until = time.monotonic() + LIMIT
     while True:
         report = served.ask("report\n").split("\n")[1:-1]
         table = sorted(rows())
@@ -424,13 +453,13 @@ def check_table(served, rows):
 
 def sqlite_rows(name):
     """The rows of a table in a file."""
-    with contextlib.closing(sqlite3.connect(name, timeout=20)) as file:
+    with contextlib.closing(sqlite3.connect(name, timeout=LIMIT)) as file:
         return [f"{path},{answer}" for path, answer in file.execute("select name, answer from published")]
 
 
 def history_is_right(name):
     """Whether the history of a table leads to its rows, without a gap."""
-    with contextlib.closing(sqlite3.connect(name, timeout=20)) as file:
+    with contextlib.closing(sqlite3.connect(name, timeout=LIMIT)) as file:
         last = {}
         for number, (position, path, answer) in enumerate(file.execute("select position, name, answer from history order by 1"), 1):
             if position != number:
