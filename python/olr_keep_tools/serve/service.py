@@ -22,7 +22,7 @@ from olr_keep_tools.serve.table import Table
 from olr_keep_tools.serve.writer import Limits, Writer
 
 FINAL = (2, 5, 7)  # statuses of the program after which another start doesn't help
-IN_USE, LOCK_WAIT = 7, 5.0  # a program that was killed holds the lock for a moment
+IN_USE, LOCK_WAIT = 7, 20.0  # a program that was killed holds the lock until its last write is on the disk
 TICK, NOTE_EVERY = 0.25, 10.0
 FIRST_PAUSE, LONGEST_PAUSE, GOOD_RUN = 0.1, 5.0, 60.0
 LAST_MOMENTS = 5.0  # in which connections may read their last replies
