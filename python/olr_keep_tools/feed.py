@@ -18,7 +18,8 @@ from .rejected import advice
 from .stream import IN_USE, LOST_STREAMS
 
 BYTES = 1 << 16
-LOCK_SECONDS, HOUR, MINUTE = 3, 3600, 60
+# A feed that was killed has its lock until the broker notices it.
+LOCK_SECONDS, HOUR, MINUTE = 15, 3600, 60
 WHY = {
     "NotPlain": "it is not printed ASCII, or has a quote",
     "NoQuestion": "workers answer no questions: query the table",

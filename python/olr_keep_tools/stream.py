@@ -42,6 +42,7 @@ END = 2**31
 KINDS = "rejected", "changes", "whole"
 REJECTED, CHANGES, WHOLE = range(3)
 MANY = 20
+PATIENCE = 10.0  # seconds without a message after which a stream has ended before the one that is expected
 # What is raised when a connection is lost or cannot be made. The second is for a broker that accepts it and does not answer.
 LOST = (AMQPError, AMQPConnectorException, ConnectionError, socket.timeout, socket.gaierror, ssl.SSLError)
 # What the broker says if the same would be refused again.
@@ -155,15 +156,16 @@ def newest(connection: Connection, name: str, until: int = -1, start: str = "las
 
     count = declare(channel, name)
     consume(channel, name, start, take)
-    for _ in range(100 if count else 15 if until >= 0 else 1):
+    for _ in range(100 if count else 33 if until >= 0 else 1):
         if not found:
             connection.process_data_events(0.3)
     if count and not found:
         raise ConnectionError(f"the broker delivers nothing of the stream {name}")
-    seen = 0
-    while seen < len(found) and found[-1].offset < until:
-        seen = len(found)
+    seen, moved = len(found), time.monotonic()
+    while found and found[-1].offset < until and time.monotonic() - moved < PATIENCE:
         connection.process_data_events(0.5)
+        if seen < len(found):
+            seen, moved = len(found), time.monotonic()
     has_ended = True
     return found[-1] if found else None
 
