@@ -15,7 +15,7 @@ import psycopg2
 from whole import PROGRAM, TOP, run
 
 BINS = sorted(glob.glob("/usr/lib/postgresql/*/bin"), key=lambda it: int(it.split("/")[4]))
-LIMIT = 60  # seconds for one round
+LIMIT = 300  # seconds for one round, which takes a moment unless the machine is busy
 PATIENCE = 3  # seconds after which a stopped process is replaced
 
 
@@ -28,7 +28,7 @@ class Server:
         self.name = "postgres" if self.user else None
         if self.user:
             shutil.chown(folder, "postgres")
-        self.call("initdb", "-A", "trust", "-D", "data")
+        self.call("initdb", "-A", "trust", "-D", "data", "--no-sync")
         self.start()
 
     def call(self, command, *arguments):
@@ -40,16 +40,16 @@ class Server:
     def start(self, *settings):
         """Starts it, with these settings."""
         options = " -c ".join([f"-k {self.folder}", "listen_addresses=", "fsync=off", *settings])
-        self.call("pg_ctl", "-D", "data", "-w", "-o", options, "-l", "server.log", "start")
+        self.call("pg_ctl", "-D", "data", "-w", "-t", f"{LIMIT}", "-o", options, "-l", "server.log", "start")
 
     def restart(self, *settings):
         """Ends its sessions, and starts it with these settings."""
-        self.call("pg_ctl", "-D", "data", "-w", "-m", "fast", "stop")
+        self.call("pg_ctl", "-D", "data", "-w", "-t", f"{LIMIT}", "-m", "fast", "stop")
         self.start(*settings)
 
     def stop(self):
         """Stops it at once, as a loss of power does."""
-        self.call("pg_ctl", "-D", "data", "-m", "immediate", "stop")
+        self.call("pg_ctl", "-D", "data", "-t", f"{LIMIT}", "-m", "immediate", "stop")
 
     def url(self, database):
         """The connection string of a database."""
@@ -57,7 +57,7 @@ class Server:
 
     def connect(self, database):
         """A session in which each statement is committed."""
-        for _ in range(100):
+        for _ in range(10 * LIMIT):
             try:
                 connection = psycopg2.connect(self.url(database))
                 connection.autocommit = True
