@@ -16,11 +16,11 @@ import time
 
 KEYS = {"Tab": 9, "Enter": 13, "Escape": 27, "ArrowLeft": 37, "ArrowUp": 38, "ArrowRight": 39, "ArrowDown": 40}
 TEXTS = {"Enter": "\r"}
-SECONDS = 60
+SECONDS = 300
 
 
 class Browser:
-    """A page of headless Chromium, whose profile is in a folder. All calls raise RuntimeError if one takes a minute."""
+    """A page of headless Chromium, whose profile is in a folder. All calls raise RuntimeError if one takes minutes."""
 
     def __init__(self, folder, width=1100, height=700):
         (read, self.to), (self.back, write) = os.pipe(), os.pipe()
