@@ -320,6 +320,9 @@ class Logs(unittest.TestCase):
             os.replace(f"{name}.new", name)
             found = scan.update()
             self.assertEqual((found.nodes, found.lines, found.paths, found.size), (1, 0, 0, 12))
+            self.assertFalse(scan.was_cut)
+            os.truncate(name, 0)
+            self.assertEqual((scan.update().nodes, scan.was_cut), (0, True))
 
     def test_findings(self) -> None:
         """Each byte of an own log that is replaced by another sort of byte is found, and each cut within a record."""

@@ -52,11 +52,12 @@ class Last:
 
 
 class Scan:
-    """Counts the records of a log that grows. A log that was replaced by a dump is counted from its start again."""
+    """Counts the records of a log that grows. A log that was replaced by a dump, or was cut, is counted from its start again."""
 
     def __init__(self, name: str) -> None:
         self.name = name
         self.contents, self.at, self.inode = Contents(), 0, 0
+        self.was_cut = False  # the same file became shorter
 
     def is_continued(self) -> bool:
         """Whether the log is the file that was counted, and has not become shorter."""
@@ -71,6 +72,7 @@ class Scan:
         with open(self.name, "rb") as file:
             status = os.fstat(file.fileno())
             if status.st_ino != self.inode or status.st_size < self.at:
+                self.was_cut |= status.st_ino == self.inode
                 self.contents, self.at, self.inode = Contents(), 0, status.st_ino
             is_counted = True
             while is_counted:

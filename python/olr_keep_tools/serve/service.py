@@ -14,7 +14,7 @@ from olr_keep_tools.serve.exchange import Exchange
 from olr_keep_tools.serve.framing import NoReply
 from olr_keep_tools.serve.jobs import Change, Job, Kind
 from olr_keep_tools.serve.keeper import Events, Keeper
-from olr_keep_tools.serve.logfile import NOT_SERVED, Contents, Last, Scan, look, read_last, refusal, write_last
+from olr_keep_tools.serve.logfile import NOT_SERVED, Contents, Last, Scan, fewer, look, read_last, refusal, write_last
 from olr_keep_tools.serve.metrics import Health, State, size_of, write_metrics
 from olr_keep_tools.serve.notify import Systemd
 from olr_keep_tools.serve.program import Ended, Program
@@ -392,9 +392,11 @@ class Service:
             self.noted_at = time.monotonic()
 
     async def note_contents(self, seconds: float = 0.0) -> None:
-        """Counts what the log has, and notes it."""
+        """Counts what the log has, and notes it. One that was cut stays noted as it was: so it isn't served again."""
         async with self.noting:
-            self.note_log(await asyncio.get_running_loop().run_in_executor(None, self.scan.update), seconds)
+            found = await asyncio.get_running_loop().run_in_executor(None, self.scan.update)
+            if not (self.scan.was_cut and fewer(self.settings.log, found, self.last, self.settings.most_fewer)):
+                self.note_log(found, seconds)
 
     def note_log(self, found: Contents, seconds: float) -> None:
         """Notes what the log has, for the next start."""
