@@ -705,9 +705,20 @@ class Forks(unittest.TestCase):
         self.assertEqual([(it.result(lambda: None) or [])[:1] for it in several], [[0], [1]])
 
     def test_ticks(self) -> None:
-        ticks: List[int] = []
-        Forked(functools.partial(time.sleep, 1.5)).result(functools.partial(ticks.append, 1))
-        self.assertEqual(ticks[:1], [1])
+        """The child works until there was a tick."""
+        with tempfile.TemporaryDirectory() as folder:
+            os.mkdir(there := f"{folder}/there")
+
+            def work() -> None:
+                while os.path.exists(there):
+                    time.sleep(0.05)
+
+            def tick() -> None:
+                if os.path.exists(there):
+                    os.rmdir(there)
+
+            Forked(work).result(tick)
+            self.assertEqual(os.listdir(folder), [])
 
     def test_failure(self) -> None:
         self.assertIsNone(Forked(lambda: 1 // 0).result(lambda: None))
@@ -833,7 +844,7 @@ while read -r record; do
         ambiguous) printf 'ok,2\\na,0,sector,7\\na,1,node,9\\n' ;;
         report) printf 'ok,2\\na,text,X\\nb,refused,1,7\\n' ;;
         commit*) printf 'ok,1\\na,text,Y\\n' ;;
-        slow) sleep 1.5; echo ok,0 ;;
+        slow) until test -e "$0.ticked"; do sleep 0.1; done; echo ok,0 ;;
         *) echo ok,0 ;;
     esac
 done
@@ -869,17 +880,19 @@ class Programs(unittest.TestCase):
     """What is sent to the program, and its answers."""
 
     def setUp(self) -> None:
-        with tempfile.NamedTemporaryFile("w", suffix=".sh", delete=False) as file:
+        folder = tempfile.TemporaryDirectory()
+        self.addCleanup(folder.cleanup)
+        with open(f"{folder.name}/program", "w", encoding="ascii") as file:
             file.write(SCRIPT)
         os.chmod(file.name, 0o755)
-        self.addCleanup(os.unlink, file.name)
-        self.ticks = 0
+        self.ticked = f"{file.name}.ticked"
         self.program = LiveProgram([file.name], self.tick)
         self.addCleanup(self.close)
 
     def tick(self) -> None:
-        """Counts ticks."""
-        self.ticks += 1
+        """Notes a tick."""
+        with open(self.ticked, "w", encoding="ascii"):
+            pass
 
     def close(self) -> None:
         """Ends the program."""
@@ -919,8 +932,8 @@ class Programs(unittest.TestCase):
         self.assertEqual(self.program.carry_out(b"report\n", 1), ["a,text,X", "b,refused,1,7"])
 
     def test_ticks_while_it_works(self) -> None:
-        self.program.carry_out(b"slow\n", 1)
-        self.assertGreaterEqual(self.ticks, 1)
+        """A slow record is answered once there was a tick."""
+        self.assertEqual(self.program.carry_out(b"slow\n", 1), [])
 
 
 if __name__ == "__main__":

@@ -28,7 +28,7 @@ class Programs(unittest.TestCase):
     """Programs that are asked."""
 
     def test_ask(self) -> None:
-        with Program(script(ECHO), 10) as keep:
+        with Program(script(ECHO), 60) as keep:
             self.assertEqual(keep.ask("ok,a,b").lines, ["a", "b"])
             self.assertEqual(keep.ask("fault/4/NoNode")[:3], ("fault", 4, "NoNode"))
             for text in ("", "a\nb", '"a'):
@@ -38,7 +38,7 @@ class Programs(unittest.TestCase):
 
     def test_many(self) -> None:
         text = b"ok\n" * 100_000 + b"ok,x\n" + b"ok\n" * 3
-        with Program(script(ECHO), 10) as keep:
+        with Program(script(ECHO), 60) as keep:
             keep.send(text)
             runs = list(keep.runs(100_002))
             self.assertEqual(sum(it.times for it in runs), 100_002)
@@ -47,18 +47,18 @@ class Programs(unittest.TestCase):
 
     def test_dump(self) -> None:
         file = io.BytesIO()
-        with Program(script("print('ok,3', 'a', 'b', 'c', 'ok,0', sep='\\n')"), 10) as keep:
+        with Program(script("print('ok,3', 'a', 'b', 'c', 'ok,0', sep='\\n')"), 60) as keep:
             keep.write_dump(file)
         self.assertTrue(file.getvalue().startswith(b"a\nb\nc\n"))
 
     def test_ends(self) -> None:
         with self.assertRaisesRegex(ProgramFailed, "No such file"):
             Program(["/nonexistent/olr-keep"])
-        with self.assertRaises(ProgramEnded) as ended, Program(script("import sys; sys.exit(4)"), 10) as keep:
+        with self.assertRaises(ProgramEnded) as ended, Program(script("import sys; sys.exit(4)"), 60) as keep:
             keep.ask("node,1,0,0")
         self.assertEqual(ended.exception.exit_status, 4)
         hello = "this is no reply of olr-keep: 'hello'"
-        with self.assertRaisesRegex(ProgramFailed, hello), Program(script("print('hello')"), 10) as keep:
+        with self.assertRaisesRegex(ProgramFailed, hello), Program(script("print('hello')"), 60) as keep:
             keep.ask("node,1,0,0")
 
     def test_deadline(self) -> None:
@@ -66,10 +66,10 @@ class Programs(unittest.TestCase):
         late = "no reply within 0.2 seconds"
         with self.assertRaisesRegex(ProgramFailed, late), Program(script("input(); input()"), 0.2) as keep:
             keep.ask("node,1,0,0")
-        self.assertLess(time.monotonic() - began, 5)
+        self.assertLess(time.monotonic() - began, 60)
 
     def test_share(self) -> None:
-        with Program(script(ECHO), 10) as keep:
+        with Program(script(ECHO), 60) as keep:
             share = Share(keep, 0, Shares(1), {})
             found = list(share.carry_out(b"ok\nok,a\nfault/4/NoNode\nreport\n\xff\n"))
             shown = [(it.at, it.record, it.reply.number) for it in found]
