@@ -230,7 +230,7 @@ class Feed:
         while marker.offset < 0:
             connection.process_data_events(None)
         if not any(found) and (first := stream.newest(connection, self.stream, start="first")):
-            found.append(stream.identity_of(*first))
+            found.append(first.identity)
         identity = next(filter(None, found), None)
         if identity != (self.identity or identity):
             raise Failure(LOST_STREAMS, f"the stream {self.stream} is another one than before: {identity}, not {self.identity}")

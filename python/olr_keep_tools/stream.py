@@ -52,10 +52,11 @@ LOST_STREAMS, REFUSED, IN_USE = 5, 6, 7
 
 
 class Newest(NamedTuple):
-    """The newest message of a stream: its offset and its properties."""
+    """The newest message of a stream: its offset, its properties, and the stream's identity as far as it or those before it have it."""
 
     offset: int
     properties: Properties
+    identity: Optional[str]
 
 
 def arguments(text: Optional[str], usage: Optional[str] = None) -> argparse.ArgumentParser:
@@ -151,7 +152,8 @@ def newest(connection: Connection, name: str, until: int = -1, start: str = "las
 
     def take(offset: int, tag: int, properties: Properties, _: bytes) -> None:
         if not has_ended:
-            found.append(Newest(offset, properties))
+            identity = found[-1].identity if found and found[-1].identity else identity_of(offset, properties)
+            found.append(Newest(offset, properties, identity))
             channel.basic_ack(tag)
 
     count = declare(channel, name)

@@ -239,7 +239,9 @@ class Publisher:
             raise Failure(LOST_STREAMS, f"the stream {self.options.stream} ends at {last}, before offset {self.fed}: it is not the"
                                         " stream of before, or not that of the snapshot")
         if commands:
-            self.check_identity(stream.identity_of(*commands), self.options.stream)
+            # Markers of feeds don't have it; the first message does.
+            first = None if commands.identity else stream.newest(self.connection, self.options.stream, start="first")
+            self.check_identity(first.identity if first else commands.identity, self.options.stream)
         answers = stream.newest(self.connection, self.answers)
         if answers:
             self.check_identity((answers.properties.headers or {}).get("identity"), self.answers)
