@@ -189,8 +189,17 @@ async def ask_together():
 
         ticking = asyncio.ensure_future(tick())
         text = await keep.text("".join(f"node,{n},6,49\n" for n in range(1000, 30000)))
+        same("the replies", text.count(b"ok,0\n"), 29000)
+        # On a busy machine the loop may have no processor during a call.
+        most = 0
+        for _ in range(100):
+            before = len(ticks)
+            await keep.text("".join(f"move,{n},6,49\n" for n in range(1000, 30000)))
+            most = max(most, len(ticks) - before)
+            if most > 3:
+                break
         ticking.cancel()
-        same("the loop goes on", (len(ticks) > 3, text.count(b"ok,0\n")), (True, 29000))
+        same("the loop goes on", most > 3, True)
         async with keep.batch() as batch:
             await keep.drop_node(1)
             await keep.line(1, 2, 3, 3, 3, 500)
