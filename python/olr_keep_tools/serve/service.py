@@ -23,6 +23,7 @@ from olr_keep_tools.serve.writer import Limits, Writer
 
 FINAL = (2, 5, 7)  # statuses of the program after which another start doesn't help
 IN_USE, LOCK_WAIT = 7, 20.0  # a program that was killed holds the lock until its last write is on the disk
+ENDING = signal.SIGTERM, signal.SIGINT
 TICK, NOTE_EVERY = 0.25, 10.0
 FIRST_PAUSE, LONGEST_PAUSE, GOOD_RUN = 0.1, 5.0, 60.0
 LAST_MOMENTS = 5.0  # in which connections may read their last replies
@@ -184,7 +185,7 @@ class Service:
     async def run(self) -> int:
         """Serves until it is asked to end, and returns the exit status."""
         loop = asyncio.get_running_loop()
-        for number in (signal.SIGTERM, signal.SIGINT):
+        for number in ENDING:
             loop.add_signal_handler(number, self.stop_asked.set)
         loop.add_signal_handler(signal.SIGHUP, self.reload)
         self.keeper.start()
@@ -193,6 +194,8 @@ class Service:
             return await self.serve()
         finally:
             ticking.cancel()
+            # One that arrives once the loop is closed would change the status.
+            signal.pthread_sigmask(signal.SIG_BLOCK, {*ENDING, signal.SIGHUP})
 
     async def serve(self) -> int:
         """Starts the program again and again, and serves as soon as the map was loaded for the first time."""
