@@ -1,28 +1,15 @@
--- What stands in the way of the strings of a register's paths, path by path; and the steps of the question.
-use Rattle.olr_register.proofs.Common.{◌≡◌, ℕ, suc, List, [], ◌∷◌, ◌++◌, map, Some, None, Ok, Err, refl, sym, ap, ◌∙◌}
-use Rattle.olr_register.proofs.Common.{subst, append_assoc, append-nil, slice_get, take, ◌+◌, Map, Margin, Path, Named}
-use Rattle.olr_register.proofs.Common.{Content, step, Item, Made, AreEncodings, IsEncodingOf, all_named, named_of}
-use Rattle.olr_register.proofs.Common.{path_named, No_path, option_map, Option, IsMap, is_path, length}
-use Rattle.olr_spec.proofs.ListLemmas.{take_more_at}
-use Rattle.olr_spec.specs.Queries.{AreKnownWith}
-use Rattle.olr_commands.specs.State.{Ambiguous}
-use Rattle.olr_commands.specs.Ambiguities.{NamedObstacle, named, obstacles_of, Ambiguity, Ambiguities}
-use Rattle.olr_answers.specs.Answers.{answer_of}
-use Rattle.olr_answers.specs.declared.answer.Answer.{Answer}
+-- What stands in the way of the strings of a register's paths, path by path.
+use Rattle.olr_register.proofs.Common.{◌≡◌, ℕ, List, [], ◌∷◌, ◌++◌, map, Some, refl, sym, ap, ◌∙◌, subst, append_assoc}
+use Rattle.olr_register.proofs.Common.{append-nil, slice_get, take, ◌+◌, Map, Margin, Path, Named, Item, Made}
+use Rattle.olr_register.proofs.Common.{AreEncodings, IsEncodingOf, all_named, named_of, option_map, Option, IsMap}
+use Rattle.olr_register.proofs.Common.{is_path, length, take_more_at, AreKnownWith, NamedObstacle, named, obstacles_of}
+use Rattle.olr_register.proofs.Common.{Ambiguity, Ambiguities, answer_of, has_line, Reference, Obstacle, at_position}
+use Rattle.olr_register.proofs.Common.{known_in, slice_get-map, All, IsTrue}
 use Rattle.olr_answers.specs.declared.answer.Answer.TheVariants.{Points}
 use Rattle.olr_refs.specs.declared.encoding.Encoding.{Encoding}
 use Rattle.olr_refs.specs.Referring.{IsEncoding}
 use Rattle.olr_refs.proofs.OwnLines.{own_known, own_many}
-use Rattle.olr_spec.specs.Map.{has_line}
-use Rattle.olr_spec.specs.Reference.{Reference}
 use Rattle.olr_spec.specs.Receiver.{last_number}
-use Rattle.olr_spec.specs.Encoding.{EncodesWith}
-use Rattle.olr_spec.specs.Recovery.{OwnLinesOfWith}
-use Rattle.olr_spec.specs.Ambiguity.{Obstacle}
-use Rattle.olr_register.proofs.States.{state}
-use Rattle.olr_paths.specs.Items.{known_in}
-use Rattle.std.proofs.lemmas.Option.{slice_get-map}
-use Rattle.std.proofs.Common.{All, IsTrue, zero}
 
 -- ---- of one path
 
@@ -32,18 +19,13 @@ module _ (g : Margin) (M : Map) (P : Path) (e : Encoding) (h : IsEncoding g M P 
       Ambiguity g M (record { name = name; path = P }) (map (named name) os)
   is_ambiguity name os is = (answer_of e.answer, e.own.items, h.answer, h.own, ap (map (named name)) is)
 
-  module _ (m : IsMap M) (is : IsTrue (is_path P.lines)) (r : Reference) (points : e.answer ≡ Points r) where
-    answer : EncodesWith g M P (answer_of (Points r))
-    answer = subst (λ (a : Answer). EncodesWith g M P (answer_of a)) points h.answer
-
-    own : OwnLinesOfWith g M P (answer_of (Points r)) e.own.items
-    own = subst (λ (a : Answer). OwnLinesOfWith g M P (answer_of a) e.own.items) points h.own
-
-    pub own_lines_known : All (λ x. IsTrue (has_line M x)) e.own.items
-    own_lines_known = own_known g M m P is r answer e.own.items own
-
-    pub own_lines_many : length e.own.items ≡ last_number r + 1
-    own_lines_many = own_many g M m P is r answer e.own.items own
+  -- its own lines are on the map, one more than the number of the last LRP
+  pub own_lines : IsMap M → IsTrue (is_path P.lines) → (r : Reference) → e.answer ≡ Points r →
+      All (λ x. IsTrue (has_line M x)) e.own.items × (length e.own.items ≡ last_number r + 1)
+  own_lines m is r points =
+      let answer = rw points at h.answer in
+      let own = rw points at h.own in
+      (own_known g M m P is r answer e.own.items own, own_many g M m P is r answer e.own.items own)
 
 -- ---- path by path
 
@@ -68,27 +50,10 @@ module _ (g : Margin) (M : Map) (is : List Item) (k : ℕ) (i : Item) (at : slic
 
 -- ---- what is known of a path
 
-encoded_at : (g : Margin) (M : Map) (is : List Item) (k : ℕ) (i : Item) → AreEncodings g M is → slice_get is k ≡ Some i →
-    (m : Made) × (i.made ≡ Some m) × IsEncodingOf g M i.path m
-encoded_at g M [] k i a h = absurd cc
-encoded_at g M (j ∷ is) zero i a h =
-    let same : j ≡ i = cc in
-    subst (λ (z : Item). (m : Made) × (z.made ≡ Some m) × IsEncodingOf g M z.path m) same a.0
-encoded_at g M (j ∷ is) (suc k) i a h = encoded_at g M is k i a.1 h
-
 pub known_at : (g : Margin) (M : Map) (is : List Item) (k : ℕ) (i : Item) → AreEncodings g M is → slice_get is k ≡ Some i →
     AreKnownWith g M i.path.lines (known_in i.made)
 known_at g M is k i a at =
-    let e = encoded_at g M is k i a at in
+    let P : Item → Type 0 = λ x. (m : Made) × (x.made ≡ Some m) × IsEncodingOf g M x.path m in
+    let e = at_position (AreEncodings g M) P (λ x is h. h) is k i a at in
     subst (λ (o : Option Made). AreKnownWith g M i.path.lines (known_in o)) (sym e.1)
     (λ j d lt. (e.2.known j d lt).right)
-
--- ---- steps, if no batch is open
-
-module _ (c : Content) where
-  pub none_asked : (name : List ℕ) → path_named c.paths name ≡ None → step (state c None) (Ambiguous (Some name)) ≡ Err No_path
-  none_asked name none = rw none refl
-
-  pub one_asked : (name : List ℕ) (P : Path) → path_named c.paths name ≡ Some P →
-      step (state c None) (Ambiguous (Some name)) ≡ Ok (state c None)
-  one_asked name P there = rw there refl

@@ -1,14 +1,10 @@
 -- What the register shows of its paths.
-use Rattle.olr_register.proofs.Common.{◌≡◌, ◌≢◌, ℕ, true, false, List, [], ◌∷◌, map, length, Option, Some, None, refl}
-use Rattle.olr_register.proofs.Common.{sym, ap, ◌∙◌, subst, ◌==◌, option_map, option_and_then, MatchOption, IsSomeAnd}
-use Rattle.olr_register.proofs.Common.{result_ok, ne_eqb, length-map, Map, Margin, Answer, EncodesWith, Path, Named}
-use Rattle.olr_register.proofs.Common.{Content, path_named, published_text, Made, Item, IsEncodingOf, AreEncodings}
-use Rattle.olr_register.proofs.Common.{named_of, all_named, made_in, answer_in, content_on, is_some, items, map_kept}
-use Rattle.olr_register.proofs.Common.{IsKeptRight}
-use Rattle.olr_commands.specs.Reply.{Published, PublishedText}
-use Rattle.olr_paths.specs.Changes.{AreEncoded}
-use Rattle.olr_register.specs.Registered.{HaveEncodings}
-use Rattle.olr_register.specs.declared.register.Register.TheInside.{Inside}
+use Rattle.olr_register.proofs.Common.{subst, ◌≡◌, ◌≢◌, ℕ, true, false, List, [], ◌∷◌, map, length, Option, Some, None}
+use Rattle.olr_register.proofs.Common.{refl, sym, ap, ◌∙◌, ◌==◌, option_map, option_and_then, MatchOption, IsSomeAnd}
+use Rattle.olr_register.proofs.Common.{result_ok, ne_eqb, length-map, Map, Margin, Answer, EncodesWith, Path, Content}
+use Rattle.olr_register.proofs.Common.{path_named, published_text, Made, Item, IsEncodingOf, AreEncodings, named_of}
+use Rattle.olr_register.proofs.Common.{all_named, made_in, answer_in, content_on, is_some, items, map_kept, IsKeptRight}
+use Rattle.olr_register.proofs.Common.{Published, PublishedText, AreEncoded, HaveEncodings, Inside}
 use Rattle.olr_register.proofs.Replies.{made_found}
 
 answer_found : (g : Margin) (M : Map) (p : Option Path) (o : Option Made) →
@@ -16,7 +12,7 @@ answer_found : (g : Margin) (M : Map) (p : Option Path) (o : Option Made) →
     MatchOption p (option_map (λ (m : Made). m.answer) o ≡ None)
     (λ P. IsSomeAnd (option_map (λ (m : Made). m.answer) o) (λ A. EncodesWith g M P A))
 answer_found g M None o h = ap (option_map (λ (m : Made). m.answer)) h
-answer_found g M (Some P) None h = absurd h
+answer_found g M (Some P) None h = h
 answer_found g M (Some P) (Some m) h = h.answer
 
 -- of a register with this content
@@ -34,10 +30,6 @@ pub text_published : (g : Margin) (M : Map) (is : List Item) (c : Content) (name
     PublishedText c name text
 text_published g M is c name text o e made of there =
     (_, answer_published g M is c name _ e made (ap (option_map (λ (m : Made). m.answer)) of), there)
-
-pub names_of_all : (is : List Item) → map (λ (p : Named). p.name) (all_named is) ≡ map (λ (i : Item). i.name) is
-names_of_all [] = refl
-names_of_all (i ∷ is) = ap (λ (ns : List (List ℕ)). i.name ∷ ns) (names_of_all is)
 
 -- ---- if every path was encoded
 

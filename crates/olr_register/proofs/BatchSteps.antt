@@ -1,33 +1,24 @@
 -- Opening a batch, and one more change in an open batch, in terms of the definitions of commands.
-use Rattle.olr_register.proofs.Common.{◌≡◌, ℕ, suc, arith, Bool, true, false, not, List, [], ◌∷◌, ◌++◌, length, map}
-use Rattle.olr_register.proofs.Common.{Some, Result, Ok, Err, refl, sym, ap, ◌∙◌, subst, append_assoc, ◌==◌, ◌&&◌, ◌||◌}
-use Rattle.olr_register.proofs.Common.{nat_le, append-nil, list_any-append, flat_map-append, has, map_of, map_before}
-use Rattle.olr_register.proofs.Common.{RoadMap, Work, Named, Content, Fault, full, when, Change, On_map, Add_path}
-use Rattle.olr_register.proofs.Common.{Set_path, Drop_path, with_change, after, Make, step, IsRefusal, takes_memory}
-use Rattle.olr_register.proofs.Common.{may_want, is_reported_first, nodes_of_change, lines_of_change, all_nodes}
-use Rattle.olr_register.proofs.Common.{all_lines, Margin, command_fault_of, reply_of, Reply, CommandFault, Item}
-use Rattle.olr_register.proofs.Common.{under_batch, RegisterState, IsBatchOf, content_on, content_under, batch_of}
-use Rattle.olr_register.proofs.Common.{held_of, Answered, AreGiven, MayReport, ByContent, Lacks, HoldsChange, Batch}
-use Rattle.olr_register.proofs.Common.{None, Begin, IsContent, ByState, DistanceBounds, AreEncodingsIfAny, Begins}
-use Rattle.olr_register.proofs.Common.{Follows, nodes_of, lines_of, changed_of, follows_self, named_held, AreEditsNoted}
-use Rattle.olr_register.proofs.Common.{IsKeptRight, IsHeld, HasBounds, all_named, flat_map}
-use Rattle.std.proofs.lemmas.Bool.{eq-eqb}
-use Rattle.olr_commands.specs.State.{Commit, Batch_full, next, into_batch, Set_margin}
-use Rattle.olr_register.specs.RegisterState.{Batch as Outcome}
-use Rattle.std.proofs.lemmas.List.{length_push}
-use Rattle.olr_commands.proofs.StateLemmas.{next_ok, after_push}
-use Rattle.olr_register.specs.BatchChanges.{content_with}
+use Rattle.olr_register.proofs.Common.{◌≡◌, ℕ, suc, arith, Bool, true, false, List, [], ◌∷◌, ◌++◌, length, map, Some}
+use Rattle.olr_register.proofs.Common.{Result, Ok, Err, refl, sym, ap, ◌∙◌, subst, append_assoc, ◌==◌, ◌&&◌, nat_le}
+use Rattle.olr_register.proofs.Common.{append-nil, list_any-append, flat_map-append, has, map_of, map_before, RoadMap}
+use Rattle.olr_register.proofs.Common.{Work, Named, Content, Fault, full, when, Change, with_change, after, Make, step}
+use Rattle.olr_register.proofs.Common.{IsRefusal, takes_memory, may_want, is_reported_first, nodes_of_change}
+use Rattle.olr_register.proofs.Common.{lines_of_change, all_nodes, Margin, command_fault_of, reply_of, Reply}
+use Rattle.olr_register.proofs.Common.{CommandFault, Item, under_batch, RegisterState, IsBatchOf, content_on}
+use Rattle.olr_register.proofs.Common.{content_under, batch_of, held_of, Answered, AreGiven, MayReport, ByContent}
+use Rattle.olr_register.proofs.Common.{Lacks, HoldsChange, Batch, None, Begin, IsContent, ByState, DistanceBounds}
+use Rattle.olr_register.proofs.Common.{AreEncodingsIfAny, Begins, Follows, nodes_of, lines_of, changed_of, follows_self}
+use Rattle.olr_register.proofs.Common.{named_held, AreEditsNoted, IsKeptRight, IsHeld, HasBounds, all_named, flat_map}
+use Rattle.olr_register.proofs.Common.{Differences, IsRegister, IsRenewal, eq-eqb, Commit, Batch_full, next, into_batch}
+use Rattle.olr_register.proofs.Common.{Outcome, length_push, next_ok, after_push, content_with, room_of, all_node_puts}
+use Rattle.olr_register.proofs.Common.{all_line_puts, CanMakeAll, made_all, log_changes, entries_of, Renewed}
 use Rattle.olr_register.proofs.Listed.{named_twice, given_at_first}
 use Rattle.olr_register.proofs.Outcomes.{answered_uncounted, answered_refused, Keeps}
 use Rattle.olr_register.proofs.States.{state, register_of, of_parts, in_states, register_moved}
-use Rattle.olr_map.specs.Changes.{room_of, all_node_puts, all_line_puts}
-use Rattle.olr_map.specs.Undos.{CanMakeAll, made_all, log_changes}
-use Rattle.olr_register.proofs.Noted.{noted_none}
+use Rattle.olr_register.proofs.Noted.{noted_idle}
 use Rattle.olr_register.proofs.Renewed.{made_if_any}
 use Rattle.olr_commands.specs.Reply as replies
-use Rattle.olr_register.proofs.Common.{Differences, IsRegister, IsRenewal}
-use Rattle.olr_renewal.specs.Reencoded.{entries_of}
-use Rattle.olr_renewal.specs.declared.renewal.Renewed.{Renewed}
 use Rattle.olr_register.proofs.Renewed.{remade_made}
 use Rattle.olr_register.proofs.Replies.{planned_changes}
 
@@ -75,31 +66,22 @@ module _ (roads : RoadMap) (is : List Item) (b : Batch) (js : List Item) (n : Re
 
 held_when : (c : Content) (ys : List Change) (b : Bool) (f : Fault) (r : Result Content Fault) →
     when b f (into_batch c ys r) ≡ into_batch c ys (when b f r)
-held_when c ys true f r = refl
-held_when c ys false f r = refl
+held_when c ys b f r = grind arith
 
 step_given : (c : Content) (old : RoadMap) (is : List Item) (b : Batch) (xs : List Change) (x : Change) →
     IsBatchOf c (batch_of old is b) xs →
     step (state c (Some xs)) (Make x) ≡ into_batch c (xs ++ x ∷ []) (content_with old is b x)
 step_given c old is b xs x i =
-    ap (λ (n : ℕ). when (nat_le full n) Batch_full (into_batch c (xs ++ x ∷ []) (with_change (after c xs) x)))
-    (sym i.count)
-    ∙ ap (λ (d : Content). when (nat_le full b.count) Batch_full (into_batch c (xs ++ x ∷ []) (with_change d x)))
-    (held_content c old is b xs i)
-    ∙ held_when c (xs ++ x ∷ []) (nat_le full b.count) Batch_full (with_change (content_under old is b) x)
+    rw (← i.count, held_content c old is b xs i)
+    (held_when c (xs ++ x ∷ []) (nat_le full b.count) Batch_full (with_change (content_under old is b) x))
 
 may_by : (c : Content) (ys : List Change) (r : Result Content Fault) →
     ((g : Fault) → r ≡ Err g → is_reported_first g ≡ false) → may_want (into_batch c ys r) ≡ true
-may_by c ys (Ok d) first = refl
-may_by c ys (Err g) first = ap not (first g refl)
+may_by c ys r first = grind (arith, first)
 
 -- what is held takes memory
 held_takes : (x : Change) (xs : List Change) (bare : Bool) → takes_memory (Make x) (Some xs) bare ≡ true
-held_takes (On_map e) xs bare = refl
-held_takes (Add_path name path) xs bare = refl
-held_takes (Set_path name path) xs bare = refl
-held_takes (Drop_path name) xs bare = refl
-held_takes (Set_margin g) xs bare = refl
+held_takes x xs bare = grind arith
 
 module _ (c : Content) (old new : RoadMap) (is : List Item) (b d : Batch) (x : Change) where
   one_more : (r : Reply) (xs : List Change) → IsBatchOf c (batch_of old is b) xs →
@@ -112,20 +94,10 @@ module _ (c : Content) (old new : RoadMap) (is : List Item) (b d : Batch) (x : C
       let before = i.count in
       let later = h.count in
       record {
-        content =
-            ap (λ (ps : List Named). record { map = map_of new; paths = ps; margin = d.margin })
-            (named_twice (under_batch is d))
-            ∙ sym (after_push c xs x ∙ next_ok (after c xs) (content_under new is d) x there);
+        content = rw (after_push c xs x, next_ok (after c xs) (content_under new is d) x there, named_twice (under_batch is d)) refl;
         count = omega arith;
-        nodes = λ v.
-            h.made.nodes v ∙ ap (λ (t : Bool). t || has (nodes_of_change (map_of old) x) v) (i.nodes v)
-            ∙ ap (λ (e : Content). has (all_nodes c xs) v || has (nodes_of_change e.map x) v) (sym content)
-            ∙ sym (list_any-append (λ (y : ℕ). y == v) (all_nodes c xs) (nodes_of_change (after c xs).map x))
-            ∙ ap (λ (vs : List ℕ). has vs v) (sym (nodes_push c xs x));
-        lines = λ y.
-            h.made.lines y ∙ ap (λ (t : Bool). t || has (lines_of_change x) y) (i.lines y)
-            ∙ sym (list_any-append (λ (z : ℕ). z == y) (all_lines xs) (lines_of_change x))
-            ∙ ap (λ (ys : List ℕ). has ys y) (sym (flat_push lines_of_change xs x));
+        nodes = λ v. rw (h.made.nodes v, i.nodes v, nodes_push c xs x, content, list_any-append) refl;
+        lines = λ y. rw (h.made.lines y, i.lines y, flat_push lines_of_change xs x, list_any-append) refl;
         given = h.made.given xs i.given;
       }
 
@@ -188,7 +160,7 @@ module _ (g : Margin) (roads : RoadMap) (is : List Item) (b : Batch) (bounds : D
     sound = coe 0 1 (i. IsContent (content_on (sym e.margin i) (map_of roads) (sym (e.paths is) i))) h.register.content;
     noted =
         coe 0 1 (i. AreEditsNoted (sym same_before i) (map_of roads) (sym e.nodes i) (sym e.lines i)
-        (sym e.changed i)) (noted_none (map_of roads));
+        (sym e.changed i)) (noted_idle (map_of roads) [] [] [] refl);
     made =
         coe 0 1 (i. AreEncodingsIfAny (sym e.margin i) (sym same_before i) (sym (e.paths is) i))
         (made_if_any g (map_of roads) is h.register.made);

@@ -1,29 +1,21 @@
 -- The distance bounds that a register stores: with a source where each coverage query of its list begins, and right on its
 -- map once they are settled, if the nodes that edits touched are reopened before.
 use Rattle.olr_register.proofs.Common.{◌≡◌, ℕ, subst, List, [], Ok, inl, Map, Edit, edited, start, map_of, RoadMap}
-use Rattle.olr_register.proofs.Common.{DistanceBounds, Item, HasBounds, IsFalse, nodes_of}
-use Rattle.std.proofs.Common.{IsTrue}
-use Rattle.olr_spec.specs.Map.{has_node, end}
+use Rattle.olr_register.proofs.Common.{DistanceBounds, Item, HasBounds, IsFalse, nodes_of, IsTrue, has_node, end}
+use Rattle.olr_register.proofs.Common.{none_differs, slot_of, KeepsSlots, AddsNoNode, IsEdit, IsUnderWay, SameBut}
+use Rattle.olr_register.proofs.Common.{edit_under_way, AreBoundsOf, CanRenewUnder, under_overlay, Overlay, NamesDiffer}
+use Rattle.olr_register.proofs.Common.{CanUpdate, arith, IsMap, cases_eq, has_line, Err, Result, IsErrAnd, IsEditMade}
+use Rattle.olr_register.proofs.Common.{ChangeSet, Margin, Renewed}
 use Rattle.olr_spec.proofs.AgreeLemmas.{turned_round}
-use Rattle.olr_spec.proofs.ChangeLemmas.{none_differs}
-use Rattle.olr_map.specs.RoadMaps.{slot_of}
-use Rattle.olr_map.specs.Changes.{KeepsSlots, AddsNoNode}
-use Rattle.olr_renewal.specs.Bounds.{IsEdit, IsUnderWay, SameBut}
-use Rattle.olr_renewal.proofs.BoundLemmas.{edit_under_way}
-use Rattle.olr_renewal.specs.AffectedSearches.{AreBoundsOf}
-use Rattle.olr_renewal.specs.Reencoded.{CanRenewUnder}
 use Rattle.olr_renewal.specs.declared.update.MapUpdate.{MapUpdate}
-use Rattle.olr_paths.specs.Overlaid.{under_overlay}
-use Rattle.olr_paths.specs.declared.overlay.Overlay.{Overlay}
-use Rattle.olr_commands.specs.State.{NamesDiffer}
-use Rattle.olr_register.specs.Contents.{CanUpdate}
 use Rattle.olr_register.proofs.Listed.{named_to_renew}
-use Rattle.olr_register.proofs.EditedMaps.{starts_there, ends_there}
+use Rattle.olr_spec.proofs.EditLemmas.{edit_laws, left_other}
+use Rattle.std.specs.declared.alloc.AllocError.{AllocError}
 
 -- unknown bounds say nothing
-pub bounded_unknown : (roads : RoadMap) (T : List ℕ) (is : List Item) (bounds : DistanceBounds) → IsFalse bounds.known →
+pub bounded_unknown : {roads : RoadMap} {T : List ℕ} {is : List Item} {bounds : DistanceBounds} → IsFalse bounds.known →
     HasBounds roads T is bounds
-bounded_unknown roads T is bounds off =
+bounded_unknown off =
     record {
       under_way = λ on. let never : ⊥ = cc (on, off) in absurd never;
       sources = λ v b on. let never : ⊥ = cc (on, off) in absurd never;
@@ -57,6 +49,15 @@ can_renew u f g is o can settled =
     }
 
 -- ---- after an edit
+
+-- the ends of each line are nodes of the map before the edit
+starts_there : (M N : Map) (e : Edit) → IsMap M → edited M e ≡ Ok N → (x : ℕ) → IsTrue (has_line N x) →
+    IsTrue (has_node M (start N x))
+starts_there M N e sound done x known = grind (arith, edit_laws, left_other, cases_eq, sound.starts)
+
+ends_there : (M N : Map) (e : Edit) → IsMap M → edited M e ≡ Ok N → (x : ℕ) → IsTrue (has_line N x) →
+    IsTrue (has_node M (end N x))
+ends_there M N e sound done x known = grind (arith, edit_laws, left_other, cases_eq, sound.ends)
 
 module _ (old new : RoadMap) (slots : KeepsSlots old new) where
   abbrev M : Map
@@ -102,6 +103,14 @@ module _ (old new : RoadMap) (slots : KeepsSlots old new) where
 
     pub bounds_stay : N ≡ M → {T : List ℕ} → HasBounds old T is bounds → HasBounds new T is bounds
     bounds_stay same {T} h = record { under_way = under_way_stays same T bounds h.under_way; sources = h.sources }
+
+-- if it is not made, because an allocation fails, nothing changes but the bounds
+pub edit_unmade : {g : Margin} {old new : RoadMap} {e : Edit} {t : ChangeSet} {is js : List Item} {f : DistanceBounds}
+    {r : Result Renewed AllocError} (P : AllocError → Type 0) → IsErrAnd r P → HasBounds new [] js f → map_of new ≡ map_of old → js ≡ is →
+    IsEditMade g old new e t is js f r
+edit_unmade {r = Ok n} P failed bounded map list = absurd failed
+edit_unmade {r = Err error} P failed bounded map list =
+    record { done = tt; renewed = tt; bounded = bounded; same_map = map; same_list = list }
 
 -- ---- after edits were undone, none of which dropped a node
 

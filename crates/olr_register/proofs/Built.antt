@@ -1,51 +1,30 @@
 -- Changes of a register that is built, before any path is encoded.
-use Rattle.olr_register.proofs.Common.{◌≡◌, ℕ, true, false, not, List, [], ◌∷◌, ◌++◌, inl, inr, map, filter, length}
-use Rattle.olr_register.proofs.Common.{suc, Ok, Err, Result, None, refl, sym, ap, ◌∙◌, subst, IsErrAnd, Path, is_path}
-use Rattle.olr_register.proofs.Common.{same_name, set_item, has_name, Add_path, Change, Content, Drop_path}
-use Rattle.olr_register.proofs.Common.{Make, Set_path, with_change, CommandFault, Item, Map, Margin, MayReport}
-use Rattle.olr_register.proofs.Common.{command_fault_of, content_on, without_answer, ChangeSet, IsContent, IsRenewal, Named}
-use Rattle.olr_register.proofs.Common.{all_named, to_renew, changed_of, length-map, named_of}
-use Rattle.olr_commands.specs.Counts.{CountIs}
-use Rattle.olr_route.specs.Counts.{raised_count}
-use Rattle.olr_renewal.specs.declared.renewal.Renewed.{Renewed}
+use Rattle.olr_register.proofs.Common.{◌≡◌, ℕ, true, List, [], ◌∷◌, inl, inr, map, length, suc, Ok, Err, Result, refl}
+use Rattle.olr_register.proofs.Common.{sym, ap, ◌∙◌, subst, IsErrAnd, Change, Content, Make, with_change, CommandFault}
+use Rattle.olr_register.proofs.Common.{Item, Map, Margin, MayReport, command_fault_of, content_on, without_answer}
+use Rattle.olr_register.proofs.Common.{ChangeSet, IsContent, IsRenewal, Named, all_named, to_renew, changed_of}
+use Rattle.olr_register.proofs.Common.{length-map, named_of, CountIs, raised_count, Renewed, IsAffected}
 use Rattle.olr_register.proofs.Listed.{named_to_renew}
 use Rattle.olr_register.proofs.Noted.{can_set}
-use Rattle.olr_renewal.specs.Changes.{By_name, IsAffected}
-use Rattle.olr_register.proofs.Changing.{add_ok, set_ok, drop_ok}
+use Rattle.olr_renewal.specs.Changes.{By_name}
 use Rattle.olr_register.specs.Built.{Builds}
 
-pub built : (old new : Content) (x : Change) → with_change old x ≡ Ok new → Builds old (Make x) (Ok tt) new
-built old new x e = record {
+pub built : {old new : Content} {x : Change} → with_change old x ≡ Ok new → Builds old (Make x) (Ok tt) new
+built {old} {new} {x} e = record {
   made = λ y same. let one : x ≡ y = cc in subst (λ (z : Change). with_change old z ≡ Ok new) one e;
   refused = tt;
   unchanged = tt;
 }
 
-pub not_built : (old new : Content) (x : Change) (r : Result (Unit {0}) CommandFault) (f : CommandFault) → new ≡ old →
+pub not_built : {old new : Content} {x : Change} {r : Result (Unit {0}) CommandFault} (f : CommandFault) → new ≡ old →
     IsErrAnd r (λ g. g ≡ f) → MayReport (with_change old x) (command_fault_of f) → Builds old (Make x) r new
-not_built old new x (Ok u) f same failed may = absurd failed
-not_built old new x (Err g) f same failed may = record {
+not_built {r = Ok u} f same failed may = absurd failed
+not_built {old = old} {x = x} {r = Err g} f same failed may = record {
   made = tt;
   refused = rw failed (λ y is. let one : x ≡ y = cc in
       subst (λ (z : Change). MayReport (with_change old z) (command_fault_of f)) one may);
   unchanged = same;
 }
-
--- ---- accepted, with the list that it makes
-
-module _ (g : Margin) (M : Map) (is js : List Item) (name : List ℕ) where
-  pub add_made : (p q : Path) → p ≡ q → has_name is name ≡ false → is_path p.lines ≡ true →
-      js ≡ is ++ record { name = name; path = p; made = None } ∷ [] →
-      with_change (content_on g M is) (Add_path name q) ≡ Ok (content_on g M js)
-  add_made p q same free good list = rw (← same, list) (add_ok g M is name p None free good)
-
-  pub set_made : (p q : Path) → p ≡ q → has_name is name ≡ true → is_path p.lines ≡ true →
-      js ≡ map (set_item name p None) is → with_change (content_on g M is) (Set_path name q) ≡ Ok (content_on g M js)
-  set_made p q same there good list = rw (← same, list) (set_ok g M is name p None there good)
-
-  pub drop_made : has_name is name ≡ true → js ≡ filter (λ i. not (same_name i.name name)) is →
-      with_change (content_on g M is) (Drop_path name) ≡ Ok (content_on g M js)
-  drop_made there list = rw list (drop_ok g M is name there)
 
 -- ---- the end, where each path is encoded
 

@@ -1,30 +1,20 @@
 -- What a change makes of the content of a map and a list.
-use Rattle.olr_register.proofs.Common.{◌≡◌, ℕ, Bool, true, false, not, List, [], ◌∷◌, ◌++◌, map, Option, filter, Result}
-use Rattle.olr_register.proofs.Common.{Ok, Err, IsOk, refl, sym, ap, ◌∙◌, Map, Path, is_path, EditPlan, Named, Content}
-use Rattle.olr_register.proofs.Common.{same_name, has_path, Fault, Memory, No_path, when, Add_path, Set_path, Drop_path}
-use Rattle.olr_register.proofs.Common.{with_map, with_change, is_reported_first, Made, Item, set_item, has_name}
-use Rattle.olr_register.proofs.Common.{content_on, Margin, MayReport, Lacks}
-use Rattle.std.specs.Prelude.{MatchResult}
-use Rattle.olr_spec.specs.Map.{MapFault}
-use Rattle.olr_model.specs.Edits.{edit_fault_of}
+use Rattle.olr_register.proofs.Common.{arith, ◌≡◌, ℕ, Bool, true, false, not, List, [], ◌∷◌, ◌++◌, map, Option, filter}
+use Rattle.olr_register.proofs.Common.{Result, Ok, Err, IsOk, refl, sym, ap, ◌∙◌, Map, Path, is_path, EditPlan, Named}
+use Rattle.olr_register.proofs.Common.{Content, same_name, has_path, Fault, Memory, No_path, when, Add_path, Set_path}
+use Rattle.olr_register.proofs.Common.{Drop_path, with_map, with_change, is_reported_first, Made, Item, set_item}
+use Rattle.olr_register.proofs.Common.{has_name, content_on, Margin, MayReport, Lacks, MatchResult, MapFault}
+use Rattle.olr_register.proofs.Common.{edit_fault_of, Map_fault, Path_exists, Bad_path, map_fault_of}
 use Rattle.olr_model.specs.declared.edit.EditFault.{EditFault}
-use Rattle.olr_commands.specs.State.{Map_fault, Path_exists, Bad_path}
-use Rattle.olr_commands.specs.Words.{map_fault_of}
 use Rattle.olr_register.proofs.Listed.{names_add, names_set, names_drop}
-use Rattle.olr_spec.specs.Map as map_faults
 
 abbrev content_from : Margin → Map → List Named → Result Content Fault
 content_from g M ps = Ok (record { map = M; paths = ps; margin = g })
 
 -- ---- the fault of the name takes precedence, then that of the lines
 
-pub drop_missing : (c : Content) (name : List ℕ) → has_path c name ≡ false →
-    with_change c (Drop_path name) ≡ Err No_path
-drop_missing c name e = rw e
-
 pub bad_path_last : (b : Bool) (c : Content) (g : Fault) → when b Bad_path (Ok c) ≡ Err g → is_reported_first g ≡ false
-bad_path_last true c g e = let same : Bad_path ≡ g = cc in ap is_reported_first (sym same)
-bad_path_last false c g e = absurd cc
+bad_path_last b c g e = grind arith
 
 -- the fault of a path that is made after its name was tested
 abbrev pub PathFails : Bool → Fault → Path → Fault → Type 0
@@ -45,12 +35,7 @@ drop_lacks c name there = rw there (Lacks refl (λ g e. absurd cc))
 -- ---- faults of an edit, from the result of judging it
 
 reported_by_map : (g : MapFault) → map_fault_of (edit_fault_of g) ≡ Map_fault g
-reported_by_map map_faults.Node_exists = refl
-reported_by_map map_faults.No_node = refl
-reported_by_map map_faults.Line_exists = refl
-reported_by_map map_faults.No_line = refl
-reported_by_map map_faults.Node_in_use = refl
-reported_by_map map_faults.Bad_shape = refl
+reported_by_map g = grind arith
 
 pub edit_refused : (c : Content) (r : Result Map MapFault) (f : EditFault) →
     MatchResult r (λ _. IsOk {T = EditPlan} (Err f))

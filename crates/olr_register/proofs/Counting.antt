@@ -1,17 +1,13 @@
 -- How many paths the changes affect, counted by the stored results; none if there are no changes.
-use Rattle.olr_register.proofs.Common.{inl, inr, ◌≡◌, ℕ, true, List, [], ◌∷◌, map, Option, arith, Some, None, refl, sym}
-use Rattle.olr_register.proofs.Common.{ap, ◌∙◌, subst, is_none, list_any, has, Named, Content, Change, Affects, By_name}
-use Rattle.olr_register.proofs.Common.{By_node, By_line, all_nodes, all_lines, gives, Made, Item, Map, Margin, named_of}
-use Rattle.olr_register.proofs.Common.{all_named, held_of, AreGiven, Work, without_answer}
-use Rattle.olr_route.specs.Counts.{raised_count, raised_work}
-use Rattle.olr_commands.specs.Counts.{CountIs}
-use Rattle.olr_renewal.specs.Changes.{IsAffected}
-use Rattle.olr_register.specs.CountChanges.{NoneFalls}
+use Rattle.olr_register.proofs.Common.{Bool, false, IsFalse, to_renew, inl, inr, ◌≡◌, ℕ, true, List, [], ◌∷◌, map}
+use Rattle.olr_register.proofs.Common.{Option, arith, None, refl, sym, ap, ◌∙◌, is_none, list_any, has, Named, Content}
+use Rattle.olr_register.proofs.Common.{Change, Affects, By_name, By_node, By_line, all_nodes, all_lines, gives, Made}
+use Rattle.olr_register.proofs.Common.{Item, Map, Margin, named_of, all_named, held_of, AreGiven, Work, without_answer}
+use Rattle.olr_register.proofs.Common.{raised_count, raised_work, CountIs, IsAffected, NoneFalls}
 use Rattle.olr_renewal.specs.Changes as made
 
 none_made : (o : Option Made) → is_none o ≡ true → o ≡ None
-none_made None e = refl
-none_made (Some m) e = absurd cc
+none_made o e = grind arith
 
 -- ---- the items of a list, and the paths of a content
 
@@ -25,6 +21,15 @@ module _ (changes : List Change) (P : Item → Type 0) (Q : Named → Type 0)
   count_named [] n given count = count
   count_named (i ∷ is) n given (inl h) = inl (to i given.0 h.0, (h.1.0, count_named is h.1.0 given.1 h.1.1, h.1.2))
   count_named (i ∷ is) n given (inr h) = inr ((λ k. h.0 (back i given.0 k)), count_named is n given.1 h.1)
+
+-- where no path is encoded yet, each is affected
+pub counted_all : (g : Margin) (M : Map) (ns xs : List ℕ) (c : Content) (changes : List Change) (is : List Item) (n : ℕ) →
+    CountIs (IsAffected g M ns xs) (map without_answer is) n → AreGiven changes (map held_of (map without_answer is)) →
+    CountIs (Affects c changes) (all_named (map without_answer is)) n
+counted_all g M ns xs c changes [] n count given = count
+counted_all g M ns xs c changes (i ∷ is) n (inl h) given =
+    inl (By_name (sym given.0), (h.1.0, counted_all g M ns xs c changes is h.1.0 h.1.1 given.1, h.1.2))
+counted_all g M ns xs c changes (i ∷ is) n (inr h) given = absurd (h.0 (made.By_name refl))
 
 module _ (c : Content) (changes : List Change) (ns xs : List ℕ)
     (same_nodes : (v : ℕ) → has ns v ≡ has (all_nodes c changes) v)
@@ -40,20 +45,16 @@ module _ (c : Content) (changes : List Change) (ns xs : List ℕ)
   affects_back i given (By_line x h f) = made.By_line x (same_lines x ∙ h) f
 
   pub counted_changes : (is : List Item) (n : ℕ) → CountIs (IsAffected c.margin c.map ns xs) is n →
-      AreGiven changes (map held_of is) → (ps : List Named) → ps ≡ all_named is →
-      CountIs (Affects c changes) ps n
-  counted_changes is n count given ps same =
-      subst (λ (qs : List Named). CountIs (Affects c changes) qs n) (sym same)
-      (count_named changes _ _ affects_to affects_back is n given count)
+      AreGiven changes (map held_of is) → CountIs (Affects c changes) (all_named is) n
+  counted_changes is n count given = count_named changes _ _ affects_to affects_back is n given count
 
--- where no path is encoded yet, each is affected
-pub counted_all : (g : Margin) (M : Map) (ns xs : List ℕ) (c : Content) (changes : List Change) (is : List Item) (n : ℕ) →
-    CountIs (IsAffected g M ns xs) (map without_answer is) n → AreGiven changes (map held_of (map without_answer is)) →
-    CountIs (Affects c changes) (all_named (map without_answer is)) n
-counted_all g M ns xs c changes [] n count given = count
-counted_all g M ns xs c changes (i ∷ is) n (inl h) given =
-    inl (By_name (sym given.0), (h.1.0, counted_all g M ns xs c changes is h.1.0 h.1.1 given.1, h.1.2))
-counted_all g M ns xs c changes (i ∷ is) n (inr h) given = absurd (h.0 (made.By_name refl))
+  -- if the margin was set, of all paths
+  pub counted_held : (g : Margin) (all : Bool) → (IsFalse all → g ≡ c.margin) → (us : List Item) (n : ℕ) →
+      CountIs (IsAffected g c.map ns xs) (to_renew all us) n → AreGiven changes (map held_of (to_renew all us)) →
+      CountIs (Affects c changes) (all_named (to_renew all us)) n
+  counted_held g true same us n count given = counted_all g c.map ns xs c changes us n count given
+  counted_held g false same us n count given =
+      let alike = rw (same refl) at count in counted_changes us n alike given
 
 -- changes that affect no path
 pub none_affected : (c : Content) (xs : List Change) → ((p : Named) → ¬ Affects c xs p) → (ps : List Named) →

@@ -1,26 +1,19 @@
 -- Dumps: which maps records can encode, and the records of nodes, lines and paths.
-use Rattle.olr_register.proofs.Common.{inl, inr, ◌≡◌, ℕ, suc, ◌+◌, ◌<◌, Bool, true, false, cond, List, [], ◌∷◌, ◌++◌}
-use Rattle.olr_register.proofs.Common.{map, length, take, slice_get, Option, Some, None, is_some, refl, sym, ap, ◌∙◌}
-use Rattle.olr_register.proofs.Common.{subst, append_assoc, arith, list_all, concat, flat_map, AllByRecursion, entries}
+use Rattle.olr_register.proofs.Common.{inl, inr, ◌≡◌, ℕ, suc, ◌+◌, ◌<◌, Bool, true, false, List, [], ◌∷◌, ◌++◌, map}
+use Rattle.olr_register.proofs.Common.{length, take, slice_get, Option, Some, None, is_some, refl, sym, ap, ◌∙◌, subst}
+use Rattle.olr_register.proofs.Common.{append_assoc, arith, list_all, concat, flat_map, AllByRecursion, entries}
 use Rattle.olr_register.proofs.Common.{cases_Bool, both_ways, and_parts, append-nil, flat_map-append, Map, IsMap, has}
 use Rattle.olr_register.proofs.Common.{has_node, start, is_recordable_map, record_line, Content, Change, node_change}
 use Rattle.olr_register.proofs.Common.{line_change, path_change, dump_lines, is_recordable_line_at}
-use Rattle.olr_register.proofs.Common.{is_recordable_node_at}
-use Rattle.std.proofs.Common.{zero, get_or, unwrap_or, nat_cmp}
-use Rattle.std.specs.Ordering.{eq_by_cmp}
-use Rattle.std.specs.FinMap.{FinMap, get, entries_sorted, get-entries}
+use Rattle.olr_register.proofs.Common.{is_recordable_node_at, zero, get_or, unwrap_or, nat_cmp, FinMap, get}
+use Rattle.olr_register.proofs.Common.{entries_sorted, get-entries, and_from, map-append, concat-append, list_all_at}
+use Rattle.olr_register.proofs.Common.{list_all_more, slice_get-get_or, Line, has_line, coord_at, no_line, no_coord}
+use Rattle.olr_register.proofs.Common.{lines_out, take_more_at, is_recordable_coord, is_recordable_shape}
+use Rattle.olr_register.proofs.Common.{margin_changes}
 use Rattle.std.specs.FinMap.Entries.{find}
-use Rattle.std.proofs.lemmas.Bool.{and_from}
-use Rattle.std.proofs.lemmas.List.{map-append}
-use Rattle.std.proofs.lemmas.List.Folds.{concat-append, list_all_at, list_all_more}
-use Rattle.std.proofs.lemmas.Option.{slice_get-get_or}
 use Rattle.olr_spec.specs.Coordinates.{Coord}
-use Rattle.olr_spec.specs.Map.{Line, has_line, coord_at, no_line, no_coord, lines_out}
-use Rattle.olr_spec.proofs.ListLemmas.{has_cases, take_more_at}
 use Rattle.olr_spec.proofs.OrderLemmas.{exactly_out}
-use Rattle.olr_commands.specs.Recordable.{is_recordable_coord, is_recordable_shape}
 use Rattle.olr_commands.proofs.DumpLemmas.{of_entries}
-use Rattle.olr_commands.specs.Dump.{margin_changes}
 
 -- ---- a test of all values of a finite map
 
@@ -30,12 +23,7 @@ Tested q es = list_all (λ e. q e.1) es ≡ true
 module _ {X : Type 0} (q : X → Bool) where
   found_passes : (es : List (ℕ × X)) (k : ℕ) (x : X) → Tested q es → find nat_cmp k es ≡ Some x → q x ≡ true
   found_passes [] k x a h = absurd cc
-  found_passes (e ∷ es) k x a h =
-      let both = and_parts (q e.1) (list_all (λ e. q e.1) es) a in
-      elim (eq_by_cmp nat_cmp k e.0) as (λ t. cond t (Some e.1) (find nat_cmp k es) ≡ Some x → q x ≡ true) [
-        | true ↦ λ g. let same : e.1 ≡ x = cc in subst (λ (y : X). q y ≡ true) same both.0
-        | false ↦ λ g. found_passes es k x both.1 g
-      ] h
+  found_passes (e ∷ es) k x a h = grind (arith, found_passes es k x)
 
   all_from : (es : List (ℕ × X)) → AllByRecursion (λ e. q e.1 ≡ true) es → Tested q es
   all_from [] a = refl
@@ -55,12 +43,7 @@ all_true p (x ∷ xs) h = and_from (p x) (list_all p xs) (h x) (all_true p xs h)
 
 one_of_all : (p : ℕ → Bool) (xs : List ℕ) (x : ℕ) → list_all p xs ≡ true → has xs x ≡ true → p x ≡ true
 one_of_all p [] x a h = absurd cc
-one_of_all p (y ∷ ys) x a h =
-    let both = and_parts (p y) (list_all p ys) a in
-    elim (has_cases y ys x h) [
-      | inl is ↦ subst (λ (n : ℕ). p n ≡ true) is both.0
-      | inr later ↦ one_of_all p ys x both.1 later
-    ]
+one_of_all p (y ∷ ys) x a h = grind (arith, one_of_all p ys x)
 
 -- ---- a test of each element, by its index
 
@@ -155,7 +138,7 @@ key_at m (e ∷ es) (suc k) i a lt at = key_at m es k i a.1 (omega arith) at
 -- the same, for the value o that is read at the key
 module _ {X : Type 0} (m : FinMap nat_cmp X) (ids : List ℕ) (k id : ℕ) (o : Option X)
     (is : ids ≡ map (λ e. e.0) (entries m)) (lt : k < length ids) (at : id ≡ get_or ids k id) (read : o ≡ get m id) where
-  entry : (x : X) × (slice_get (entries m) k ≡ Some (id, x)) × (get m id ≡ Some x)
+  pub entry : (x : X) × (slice_get (entries m) k ≡ Some (id, x)) × (get m id ≡ Some x)
   entry =
       key_at m (entries m) k id
       (of_entries (λ e. get m e.0 ≡ Some e.1) (entries m) (entries_sorted m) (λ e there. get-entries m e.0 ∙ there))

@@ -2,10 +2,8 @@ pub mod Common
 pub mod Ambiguous
 pub mod Asking
 pub mod DumpTexts
-pub mod EditsMade
 pub mod BatchSteps
 pub mod Noted
-pub mod EditedMaps
 pub mod Bounded
 pub mod Changing
 pub mod Counting

@@ -1,52 +1,39 @@
 -- Lists of paths after one is added, replaced or dropped: their names, and what is true of each item.
-use Rattle.olr_register.proofs.Common.{inl, inr, ◌⊎◌, ◌≡◌, ℕ, Bool, true, false, cond, not, List, [], ◌∷◌, ◌++◌, map}
-use Rattle.olr_register.proofs.Common.{filter, Option, Some, None, is_some, length, arith, refl, sym, ap, ◌∙◌, ◌||◌}
-use Rattle.olr_register.proofs.Common.{is_none, IfSome, list_any, or-false, or_right, list_any-append, Map, Path, Named}
-use Rattle.olr_register.proofs.Common.{same_name, path_named, not_named, Made, Item, IsEncodingOf, AreEncodings}
-use Rattle.olr_register.proofs.Common.{AreEncodingsIfAny, named_of, all_named, answer_in, Reported, Follows, set_item}
-use Rattle.olr_register.proofs.Common.{named_held, held_of, AreGiven, Add_path, Change, Margin, Set_margin, Set_path}
-use Rattle.olr_register.proofs.Common.{to_renew, gives, without_answer}
-use Rattle.std.proofs.lemmas.List.{map-append}
+use Rattle.olr_register.proofs.Common.{inl, ◌⊎◌, ◌≡◌, ℕ, Bool, true, false, cond, not, List, [], ◌∷◌, ◌++◌, map, filter}
+use Rattle.olr_register.proofs.Common.{Option, Some, None, is_some, length, arith, refl, sym, ap, is_none, IfSome}
+use Rattle.olr_register.proofs.Common.{list_any, or-false, or_right, list_any-append, Map, Path, Named, same_name}
+use Rattle.olr_register.proofs.Common.{path_named, not_named, Made, Item, IsEncodingOf, AreEncodings, AreEncodingsIfAny}
+use Rattle.olr_register.proofs.Common.{named_of, all_named, answer_in, Reported, Follows, set_item, named_held, held_of}
+use Rattle.olr_register.proofs.Common.{AreGiven, Add_path, Change, Margin, Set_margin, Set_path, to_renew, gives}
+use Rattle.olr_register.proofs.Common.{without_answer, Answer, map-append, with_path, answer_made}
 use lib.Pointwise.{bytes_decides}
-use Rattle.olr_commands.specs.State.{with_path}
-use Rattle.olr_renewal.proofs.Following.{answer_made}
 
 -- ---- names and paths
 
 pub names_add : (is : List Item) (j : Item) → all_named (is ++ j ∷ []) ≡ all_named is ++ named_of j ∷ []
-names_add [] j = refl
-names_add (i ∷ is) j = ap (λ (ps : List Named). named_of i ∷ ps) (names_add is j)
+names_add is j = map-append named_of is (j ∷ [])
 
 pub names_set : (name : List ℕ) (path : Path) (made : Option Made) (is : List Item) →
     all_named (map (set_item name path made) is) ≡ map (with_path name path) (all_named is)
 names_set name path made [] = refl
-names_set name path made (i ∷ is) =
-    let one : named_of (set_item name path made i) ≡ with_path name path (named_of i) =
-    elim (same_name i.name name) as (λ b. named_of (cond b (record { name = i.name; path = path; made = made }) i)
-    ≡ cond b (record { name = i.name; path = path }) (named_of i)) [ true ↦ refl | false ↦ refl ] in
-    let rest = names_set name path made is in
-    λ k. one k ∷ rest k
+names_set name path made (i ∷ is) = grind (arith, names_set name path made is)
 
 pub names_drop : (name : List ℕ) (is : List Item) →
     all_named (filter (λ i. not (same_name i.name name)) is) ≡ filter (λ p. not (same_name p.name name)) (all_named is)
 names_drop name [] = refl
-names_drop name (i ∷ is) =
-    let rest = names_drop name is in
-    elim (not (same_name i.name name)) as (λ b.
-    all_named (cond b (i ∷ filter (λ j. not (same_name j.name name)) is) (filter (λ j. not (same_name j.name name)) is))
-    ≡ cond b (named_of i ∷ filter (λ p. not (same_name p.name name)) (all_named is))
-    (filter (λ p. not (same_name p.name name)) (all_named is))) [
-      | true ↦ ap (λ (ps : List Named). named_of i ∷ ps) rest
-      | false ↦ rest
-    ]
+names_drop name (i ∷ is) = grind (arith, names_drop name is)
 
 pub named_twice : (is : List Item) → map named_held (map held_of is) ≡ all_named is
 named_twice [] = refl
 named_twice (i ∷ is) = ap (λ (ps : List Named). named_of i ∷ ps) (named_twice is)
 
-pub no_items : (is : List Item) {n : ℕ} → n ≡ length is → n ≡ 0 → is ≡ []
-no_items [] size none = refl
-no_items (i ∷ is) size none = absurd (omega arith)
+pub names_of_all : (is : List Item) → map (λ (p : Named). p.name) (all_named is) ≡ map (λ (i : Item). i.name) is
+names_of_all [] = refl
+names_of_all (i ∷ is) = ap (λ (ns : List (List ℕ)). i.name ∷ ns) (names_of_all is)
+
+pub no_items : (is : List Item) → length (all_named is) ≡ 0 → is ≡ []
+no_items [] none = refl
+no_items (i ∷ is) none = absurd (omega arith)
 
 -- ---- what is true of each item
 
@@ -106,18 +93,12 @@ each_given xs = record { none = tt; more = λ i is p f. (p, f); first = λ i is 
 
 -- ---- with one change more
 
-one_change : (q : List ℕ) (xs : List Change) (x : Change) (b : Bool) → gives q x ≡ b →
-    list_any (gives q) (xs ++ x ∷ []) ≡ (list_any (gives q) xs || b)
-one_change q xs x b e =
-    list_any-append (gives q) xs (x ∷ [])
-    ∙ ap (λ (t : Bool). list_any (gives q) xs || t) (or-false (gives q x) ∙ e)
-
 given_here : (q : List ℕ) (xs : List Change) (x : Change) → gives q x ≡ true → true ≡ list_any (gives q) (xs ++ x ∷ [])
-given_here q xs x e = sym (one_change q xs x true e ∙ or_right (list_any (gives q) xs) true refl)
+given_here q xs x e = rw (list_any-append (gives q) xs (x ∷ []), e) (sym (or_right (list_any (gives q) xs) true refl))
 
 given_still : (q : List ℕ) (xs : List Change) (x : Change) (b : Bool) → gives q x ≡ false →
     b ≡ list_any (gives q) xs → b ≡ list_any (gives q) (xs ++ x ∷ [])
-given_still q xs x b e h = h ∙ sym (one_change q xs x false e ∙ or-false (list_any (gives q) xs))
+given_still q xs x b e h = rw (list_any-append (gives q) xs (x ∷ []), e, or-false (list_any (gives q) xs)) h
 
 -- one that gives no path
 pub given_none : (xs : List Change) (x : Change) (is : List Item) → ((q : List ℕ) → gives q x ≡ false) →
@@ -169,45 +150,23 @@ pub to_renew_add : (all : Bool) (is : List Item) (name : List ℕ) (path : Path)
 to_renew_add false is name path = refl
 to_renew_add true is name path = map-append without_answer is (record { name = name; path = path; made = None } ∷ [])
 
-set_without : (name : List ℕ) (path : Path) (i : Item) →
-    without_answer (set_item name path None i) ≡ set_item name path None (without_answer i)
-set_without name path i =
-    elim (same_name i.name name) as (λ b. without_answer (cond b (record { name = i.name; path = path; made = None }) i)
-    ≡ cond b (record { name = i.name; path = path; made = None }) (without_answer i)) [ true ↦ refl | false ↦ refl ]
-
 pub to_renew_set : (all : Bool) (name : List ℕ) (path : Path) (is : List Item) →
     to_renew all (map (set_item name path None) is) ≡ map (set_item name path None) (to_renew all is)
 to_renew_set false name path is = refl
 to_renew_set true name path [] = refl
-to_renew_set true name path (i ∷ is) =
-    let one = set_without name path i in
-    let rest = to_renew_set true name path is in
-    λ k. one k ∷ rest k
+to_renew_set true name path (i ∷ is) = grind (arith, to_renew_set true name path is)
 
 pub to_renew_drop : (all : Bool) (name : List ℕ) (is : List Item) →
     to_renew all (filter (λ i. not (same_name i.name name)) is) ≡ filter (λ i. not (same_name i.name name)) (to_renew all is)
 to_renew_drop false name is = refl
 to_renew_drop true name [] = refl
-to_renew_drop true name (i ∷ is) =
-    let rest = to_renew_drop true name is in
-    elim (not (same_name i.name name)) as (λ b.
-    map without_answer (cond b (i ∷ filter (λ j. not (same_name j.name name)) is) (filter (λ j. not (same_name j.name name)) is))
-    ≡ cond b (without_answer i ∷ filter (λ j. not (same_name j.name name)) (map without_answer is))
-    (filter (λ j. not (same_name j.name name)) (map without_answer is))) [
-      | true ↦ ap (λ (js : List Item). without_answer i ∷ js) rest
-      | false ↦ rest
-    ]
+to_renew_drop true name (i ∷ is) = grind (arith, to_renew_drop true name is)
+
+pub still_told : {o : Option Answer} {p : Option Made} (m : Made) → p ≡ Some m → (p ≡ None) ⊎ (o ≡ answer_made p) → o ≡ Some m.answer
+still_told m made h = grind arith
 
 -- if each path was encoded, nothing is reported
 pub follows_untold : (g : Margin) (M : Map) (before js : List Item) → AreEncodings g M js → Follows before js → Reported before js []
 follows_untold g M before [] a f = refl
 follows_untold g M before (j ∷ js) a f =
-    let made : (j.made ≡ Some a.0.0) = a.0.1 in
-    let is : answer_made j.made ≡ Some a.0.0.answer = ap answer_made made in
-    let was : answer_in before j.name ≡ Some a.0.0.answer =
-    elim f.0 [
-      | inl e ↦ absurd (let no : ◌≡◌ {A = Option Made} None (Some a.0.0) = sym e ∙ made in cc)
-      | inr e ↦ e
-          ∙ is
-    ] in
-    (a.0.0.answer, [], is, follows_untold g M before js a.1 f.1, inl (was, refl))
+    (a.0.0.answer, [], ap answer_made a.0.1, follows_untold g M before js a.1 f.1, inl (still_told a.0.0 a.0.1 f.0, refl))

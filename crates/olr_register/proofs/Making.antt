@@ -4,33 +4,27 @@ use Rattle.olr_register.proofs.Common.{Map, Edit, edited, touched_nodes, touched
 use Rattle.olr_register.proofs.Common.{CoverageQuery, map_of, map_before, RoadMap, IsContent, Change, On_map, Make}
 use Rattle.olr_register.proofs.Common.{HasCoords, with_map, with_change, nodes_of_change, lines_of_change}
 use Rattle.olr_register.proofs.Common.{command_fault_of, CommandFault, changes_keep, Item, AreEncodingsIfAny, Follows}
-use Rattle.olr_register.proofs.Common.{Begins, under_overlay, nodes_of, lines_of, changed_of, ChangeSet, Bool, Margin}
-use Rattle.olr_register.proofs.Common.{to_renew, content_on, content_under, under_batch, AreEditsNoted, all_named, ◌∷◌}
-use Rattle.olr_register.proofs.Common.{Set_margin, follows_without, is_margin, true, Named, held_of, IsHeld, AreGiven}
-use Rattle.olr_register.proofs.Common.{MayReport, Batch, Result, IsErrAnd, or_right, slot_of, KeepsSlots, IsUnderWay}
-use Rattle.std.proofs.Common.{IsTrue}
-use Rattle.olr_map.specs.RoadMaps.{CanUndoAll}
+use Rattle.olr_register.proofs.Common.{Begins, under_overlay, nodes_of, lines_of, changed_of, ChangeSet, Margin}
+use Rattle.olr_register.proofs.Common.{to_renew, content_on, content_under, under_batch, AreEditsNoted, ◌∷◌, Set_margin}
+use Rattle.olr_register.proofs.Common.{follows_without, is_margin, true, held_of, IsHeld, AreGiven, MayReport, Batch}
+use Rattle.olr_register.proofs.Common.{Result, IsErrAnd, or_right, slot_of, KeepsSlots, IsUnderWay, IsTrue, CanUndoAll}
+use Rattle.olr_register.proofs.Common.{Overlay, IsHeldAs, IsMade, Makes, StaysUnderWay, or_left, edit_differs}
+use Rattle.olr_register.proofs.Common.{edit_under_way}
 use Rattle.olr_map.specs.declared.undo.UndoLog.{UndoLog}
-use Rattle.olr_paths.specs.declared.overlay.Overlay.{Overlay}
-use Rattle.olr_register.specs.Contents.{IsHeldAs}
-use Rattle.olr_register.specs.BatchChanges.{IsMade, Makes, StaysUnderWay}
-use Rattle.std.proofs.lemmas.Bool.{or_left}
-use Rattle.olr_spec.proofs.ChangeLemmas.{edit_differs}
-use Rattle.olr_renewal.proofs.BoundLemmas.{edit_under_way}
 use Rattle.olr_register.proofs.Bounded.{is_edit}
 use Rattle.olr_register.proofs.Noted.{begins_none, noted_more, without_if_any}
 use Rattle.olr_register.proofs.Listed.{given_all, given_none, named_to_renew}
 
 -- a change that is not made leaves the batch as it was
-pub without_answer : (old new : RoadMap) (is : List Item) (b : Batch) (log : UndoLog) (l : Overlay) (t : ChangeSet) (x : Change)
-    (r : Result (Unit {0}) CommandFault) (f : CommandFault) → IsErrAnd r (λ g. g ≡ f) →
+pub without_answer : {old new : RoadMap} {is : List Item} {b : Batch} {log : UndoLog} {l : Overlay} {t : ChangeSet} {x : Change}
+    {r : Result (Unit {0}) CommandFault} (f : CommandFault) → IsErrAnd r (λ g. g ≡ f) →
     (IsHeld old is b → CanUndoAll new log) → map_before new log ≡ map_before old b.log → map_of new ≡ map_of old →
     to_renew b.all (under_overlay is l) ≡ under_batch is b → nodes_of t ≡ nodes_of b.touched →
     lines_of t ≡ lines_of b.touched → changed_of t ≡ changed_of b.touched →
     StaysUnderWay old new b b → MayReport (with_change (content_under old is b) x) (command_fault_of f) →
     Makes old new is b (record b { log = log; overlay = l; touched = t }) x r
-without_answer old new is b log l t x (Ok u) f failed undo before same list nodes lines changed stays may = absurd failed
-without_answer old new is b log l t x (Err g) f failed undo before same list nodes lines changed stays may = record {
+without_answer {r = Ok u} f failed undo before same list nodes lines changed stays may = absurd failed
+without_answer {new = new} {is = is} {b = b} {r = Err g} f failed undo before same list nodes lines changed stays may = record {
   count = refl;
   before = before;
   made = tt;
@@ -57,14 +51,12 @@ without_answer old new is b log l t x (Err g) f failed undo before same list nod
 
 -- ---- a change of a path, which makes another overlay
 
-module _ (roads : RoadMap) (is : List Item) (b : Batch) (l : Overlay) (x : Change) where
-  pub path_unmade : (r : Result (Unit {0}) CommandFault) (f : CommandFault) → IsErrAnd r (λ g. g ≡ f) →
-      to_renew b.all (under_overlay is l) ≡ under_batch is b →
-      MayReport (with_change (content_under roads is b) x) (command_fault_of f) →
-      Makes roads roads is b (record b { overlay = l }) x r
-  path_unmade r f failed same may =
-      without_answer roads roads is b b.log l b.touched x r f failed (λ h. h.undo) refl refl same refl refl refl (λ f h. h) may
+pub path_unmade : {roads : RoadMap} {is : List Item} {b : Batch} {l : Overlay} {x : Change} {r : Result (Unit {0}) CommandFault}
+    (f : CommandFault) → IsErrAnd r (λ g. g ≡ f) → to_renew b.all (under_overlay is l) ≡ under_batch is b →
+    MayReport (with_change (content_under roads is b) x) (command_fault_of f) → Makes roads roads is b (record b { overlay = l }) x r
+path_unmade f failed same may = without_answer f failed (λ h. h.undo) refl refl same refl refl refl (λ f h. h) may
 
+module _ (roads : RoadMap) (is : List Item) (b : Batch) (l : Overlay) (x : Change) where
   pub path_made : (ls : List Item) → to_renew b.all (under_overlay is l) ≡ ls →
       with_change (content_under roads is b) x ≡ Ok (content_on b.margin (map_of roads) ls) → HasCoords (Make x) →
       nodes_of_change (map_of roads) x ≡ [] → lines_of_change x ≡ [] →
@@ -147,17 +139,12 @@ module _ (old new : RoadMap) (is : List Item) (b : Batch) (log : UndoLog) (t : C
 
 -- ---- the margin
 
--- of the paths of a list under changes, as they are or none of them encoded yet
-named_all : (all : Bool) (is : List Item) → all_named (to_renew all is) ≡ all_named (to_renew true is)
-named_all all is = named_to_renew all is ∙ sym (named_to_renew true is)
-
 pub margin_made : (g : Margin) → IsTrue (is_margin g) → (roads : RoadMap) (is : List Item) (b : Batch) →
     Makes roads roads is b (record b { margin = g; all = true }) (Set_margin g) (Ok tt)
 margin_made g most roads is b =
     let us = under_overlay is b.overlay in
-    let content : with_change (content_under roads is b) (Set_margin g)
-    ≡ Ok (content_on g (map_of roads) (to_renew true us)) =
-    ap (λ (ps : List Named). Ok (record { map = map_of roads; paths = ps; margin = g })) (named_all b.all us) in
+    let content : with_change (content_under roads is b) (Set_margin g) ≡ Ok (content_on g (map_of roads) (to_renew true us)) =
+    rw (named_to_renew b.all us, named_to_renew true us) refl in
     record {
       count = refl;
       before = refl;

@@ -1,60 +1,40 @@
 -- What is recorded of edits: the maps before and after them have no other difference.
 use Rattle.olr_register.proofs.Common.{inl, inr, ◌≡◌, ℕ, false, true, List, [], ◌∷◌, ◌++◌, Ok, refl, sym, ◌∙◌, subst}
 use Rattle.olr_register.proofs.Common.{arith, ◌||◌, AllByRecursion, or_right, list_any-append, Map, IsMap, Edit, edited}
-use Rattle.olr_register.proofs.Common.{start, touched_nodes, touched_lines, has, is_path, ChangedLine, changes_of}
-use Rattle.olr_register.proofs.Common.{EditPlan, Item, AreEncodingsIfAny, all_named, nodes_of, lines_of, changed_of}
-use Rattle.olr_register.proofs.Common.{ChangeSet, IsNotedOf, AreEditsNoted, Some, RoadMap, map_of, map_before}
-use Rattle.olr_register.proofs.Common.{under_batch, IsRegister, CanRenew, Batch, ◌==◌, Contains, Margin, IsContent}
-use Rattle.olr_register.proofs.Common.{to_renew, content_on, follows_without, is_margin, map, without_answer, Begins, CoverageQuery}
-use Rattle.std.proofs.Common.{IsTrue, Bool, cond}
-use Rattle.olr_register.proofs.Common.{DistanceBounds, IsKeptRight}
-use Rattle.olr_register.specs.Contents.{CanRenewTo}
+use Rattle.olr_register.proofs.Common.{touched_nodes, touched_lines, has, is_path, ChangedLine, changes_of, EditPlan}
+use Rattle.olr_register.proofs.Common.{Item, AreEncodingsIfAny, all_named, nodes_of, lines_of, changed_of, ChangeSet}
+use Rattle.olr_register.proofs.Common.{IsNotedOf, AreEditsNoted, Some, RoadMap, map_of, map_before, under_batch}
+use Rattle.olr_register.proofs.Common.{IsRegister, CanRenew, Batch, ◌==◌, Contains, Margin, IsContent, to_renew}
+use Rattle.olr_register.proofs.Common.{content_on, follows_without, is_margin, map, without_answer, Begins}
+use Rattle.olr_register.proofs.Common.{CoverageQuery, DistanceBounds, IsKeptRight, IsTrue, CanRenewTo, option_to_list}
+use Rattle.olr_register.proofs.Common.{or_left, Contains-append_cases, Add_node, Move_node, Drop_node, Add_line}
+use Rattle.olr_register.proofs.Common.{Set_line, Drop_line, Contains-cases, edit_differs, none_differs, differences_add}
+use Rattle.olr_register.proofs.Common.{ArePaths, NamesDiffer, IsBefore}
 use Rattle.olr_register.proofs.Listed.{named_to_renew}
-use Rattle.std.specs.Option.{option_to_list}
-use Rattle.std.proofs.lemmas.Bool.{or_left, cases_Bool}
-use Rattle.std.proofs.lemmas.List.Elements.{Contains-append_cases}
-use Rattle.olr_spec.specs.Map.{Add_node, Move_node, Drop_node, Add_line, Set_line, Drop_line, end, dm}
-use Rattle.olr_spec.proofs.ListLemmas.{has_here, Contains-cases}
-use Rattle.olr_spec.proofs.ChangeLemmas.{edit_differs, none_differs, differences_add}
-use Rattle.olr_commands.specs.State.{ArePaths, NamesDiffer}
 use Rattle.olr_map.specs.EditPlans.{IsEditPlan, planned_changes}
-use Rattle.olr_renewal.specs.Changes.{IsBefore}
 
 -- ---- where changed lines begin
 
 none_contained : {X : Type 0} (x : X) → ¬ Contains [] x
 none_contained x c = let h = c.1 in absurd (omega arith)
 
-starts_of_one : (T : List ℕ) (d c : ChangedLine) → has T d.from ≡ true → Contains (d ∷ []) c → has T c.from ≡ true
-starts_of_one T d c h k =
-    elim (Contains-cases d c [] k) [
-      | inl e ↦ subst (λ (b : ChangedLine). has T b.from ≡ true) e h
-      | inr n ↦
-          absurd (none_contained c n)
-    ]
-
-listed_unless : (same : Bool) (d c : ChangedLine) → Contains (cond same [] (d ∷ [])) c → Contains (d ∷ []) c
-listed_unless same d c k = grind (arith, none_contained, cases_Bool same)
+only_one : (d c : ChangedLine) → Contains (d ∷ []) c → d ≡ c
+only_one d c k = grind (arith, Contains-cases d c [] k, none_contained)
 
 starts_of : (M : Map) (e : Edit) (c : ChangedLine) → Contains (changes_of M e) c → has (touched_nodes M e) c.from ≡ true
 starts_of M (Add_node v p) c k = absurd (none_contained c k)
 starts_of M (Move_node v p) c k = absurd (none_contained c k)
 starts_of M (Drop_node v) c k = absurd (none_contained c k)
-starts_of M (Add_line x l) c k = starts_of_one (l.from ∷ l.to ∷ []) _ c (has_here l.from (l.to ∷ [])) k
-starts_of M (Set_line x frc fow len shape) c k =
-    starts_of_one (start M x ∷ end M x ∷ []) _ c (has_here (start M x) (end M x ∷ []))
-    (listed_unless (dm M x == len) _ c k)
-starts_of M (Drop_line x) c k = starts_of_one (start M x ∷ end M x ∷ []) _ c (has_here (start M x) (end M x ∷ [])) k
+starts_of M (Add_line x l) c k = grind (arith, only_one _ c k)
+starts_of M (Set_line x frc fow len shape) c k = grind (arith, only_one, none_contained)
+starts_of M (Drop_line x) c k = grind (arith, only_one _ c k)
 
 -- ---- no edit, and one edit more
 
-pub noted_none : (M : Map) → AreEditsNoted M M [] [] []
-noted_none M = record { difference = none_differs M; starts = λ c k. absurd (none_contained c k) }
-
--- nor is more said of nodes and lines that nothing touched
+-- nothing, or only nodes and lines that nothing touched
 pub noted_idle : (M : Map) (ns xs : List ℕ) (cs : List ChangedLine) → cs ≡ [] → AreEditsNoted M M ns xs cs
 noted_idle M ns xs cs none =
-    let idle = (noted_none M).difference in
+    let idle = none_differs M in
     rw none (record {
       difference = record {
         nodes = λ v off. idle.nodes v refl;
@@ -96,7 +76,7 @@ pub noted_edit : (M N : Map) (e : Edit) (ns xs : List ℕ) (cs : List ChangedLin
     → ((v : ℕ) → has ns v ≡ has (touched_nodes M e) v) → ((x : ℕ) → has xs x ≡ has (touched_lines e) x) →
     cs ≡ changes_of M e → AreEditsNoted M N ns xs cs
 noted_edit M N e ns xs cs ok nodes lines changes =
-    noted_more M M N e [] [] ns xs [] cs (noted_none M) ok nodes lines changes
+    noted_more M M N e [] [] ns xs [] cs (noted_idle M [] [] [] refl) ok nodes lines changes
 
 -- an edit that was judged, recorded in an empty record r
 pub noted_plan : (M : Map) (slot : ℕ → ℕ) (e : Edit) (j : EditPlan) (r t : ChangeSet) → IsEditPlan M slot e j →

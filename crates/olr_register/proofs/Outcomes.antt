@@ -1,23 +1,19 @@
 -- What it takes to answer a command: one that is accepted, one that raises no count, and one that is rejected; and which
 -- reference a text encodes, or why it encodes none.
-use Rattle.olr_register.proofs.Common.{◌≡◌, ℕ, true, List, [], Option, Some, None, is_some, Ok, Err, refl, sym}
-use Rattle.olr_register.proofs.Common.{subst, IsFalse, IsErrAnd, Content, Change, Command, State, changes_made}
-use Rattle.olr_register.proofs.Common.{text_fault, IsOutcome, IsRefusal, ByState, may_want, reply_of, command_fault_of}
-use Rattle.olr_register.proofs.Common.{Reply, CommandFault, RegisterState, Represents, Affects}
-use Rattle.olr_register.proofs.Common.{Registered, Answered, encodes, ap, ◌∙◌, option_map, result_ok, Result}
-use Rattle.olr_commands.specs.State.{changes_made_in, unless_fault, Not_a_reference, bytes_fault}
+use Rattle.olr_register.proofs.Common.{◌≡◌, ℕ, true, List, [], Option, Some, None, is_some, Ok, Err, refl, sym, subst}
+use Rattle.olr_register.proofs.Common.{IsFalse, IsErrAnd, Content, Change, Command, State, changes_made, text_fault}
+use Rattle.olr_register.proofs.Common.{IsOutcome, IsRefusal, ByState, may_want, reply_of, command_fault_of, Reply}
+use Rattle.olr_register.proofs.Common.{CommandFault, RegisterState, Represents, Affects, Registered, Answered, encodes}
+use Rattle.olr_register.proofs.Common.{ap, ◌∙◌, result_ok, Result, changes_made_in, unless_fault, Not_a_reference}
+use Rattle.olr_register.proofs.Common.{unconcerned, CountIs, Reference, text_fault_of}
 use Rattle.olr_commands.specs.Reply.{Lacks}
-use Rattle.olr_commands.proofs.CountLemmas.{unconcerned}
-use Rattle.olr_commands.specs.Counts.{CountIs}
-use Rattle.olr_register.proofs.States.{state, register_of, InStates, in_states}
-use Rattle.olr_route.specs.declared.work.Work.{Work}
+use Rattle.olr_register.proofs.States.{state, InStates, in_states}
 use Rattle.olr_register.proofs.Counting.{Rise, none_affected, rise_none}
 use Rattle.base64.specs.Engines.{standard}
 use Rattle.base64.specs.GeneralPurpose.{decode_of, decoded_of}
 use Rattle.base64.specs.declared.decode.DecodeError.{DecodeError}
 use Rattle.base64.proofs.EngineFacts.{decode_of-encode_of}
-use Rattle.olr_spec.specs.Reference.{Reference}
-use Rattle.olr_spec.specs.Bytes.{reference_bytes, v3_fault}
+use Rattle.olr_spec.specs.Bytes.{reference_bytes}
 use Rattle.olr_spec.proofs.ReadLemmas.{encoded_passes}
 use Rattle.olr_binary.specs.declared.faults.V3Fault.TheVariants.{Length, Status, Flags, Reserved, Memory}
 use Rattle.olr_binary.specs.declared.faults.TextFault.{TextFault}
@@ -25,7 +21,6 @@ use Rattle.olr_binary.specs.declared.faults.TextFault.TheVariants.{Bytes, NotBas
 use Rattle.olr_binary.specs.Faults.{IsFaultOf}
 use Rattle.olr_binary.specs.Text.{IsTextOf, text_of}
 use Rattle.olr_binary.proofs.EncodedLemmas.{reference_bytes-bytes}
-use Rattle.olr_commands.specs.Words.{text_fault_of}
 use Rattle.olr_commands.specs.State as state
 use Rattle.olr_commands.specs.Reply as returned
 use Rattle.olr_spec.specs.Bytes as spec
@@ -85,15 +80,6 @@ answered_refused old new c (Err g) f same is h =
       unchanged = refl;
     })
 
--- a question that is answered only if no batch is open: it changes nothing
-pub answered_shut : (c : Content) (w : Work) (q : Command) (r : Reply) → changes_made_in None q ≡ [] →
-    IsOutcome (state c None) q (Ok (reply_of r)) (state c None) →
-    Answered (register_of c None w) q (Ok r) (register_of c None w)
-answered_shut c w q r none outcome =
-    let k : RegisterState = record { content = c; batch = None } in
-    answered_uncounted (register_of c None w) k q r
-    (in_states k (Keeps k q r) (none, (state c None, (refl, tt), outcome)))
-
 -- ---- questions: with a batch open or not, they change nothing
 
 pub answered_same : (x : Registered) (c : Command) (r : Reply) → changes_made_in None c ≡ [] →
@@ -119,12 +105,12 @@ refused_same x c r f failed all =
       | Some b ↦ λ xs i. all (Some xs)
     ])
 
-pub explain_refused : (x : Registered) (text : List ℕ) (f : CommandFault) (g : state.TextFault) →
+explain_refused : (x : Registered) (text : List ℕ) (f : CommandFault) (g : state.TextFault) →
     command_fault_of f ≡ Not_a_reference g → text_fault text ≡ Some g → Answered x (state.Explain text) (Err f) x
 explain_refused x text f g is fault = refused_same x (state.Explain text) (Err f) f refl (λ o. ByState (rw (fault, is)))
 
 -- out of memory may be reported instead of a fault of the text
-pub explain_lacks : (x : Registered) (text : List ℕ) (f : CommandFault) → command_fault_of f ≡ state.Memory →
+explain_lacks : (x : Registered) (text : List ℕ) (f : CommandFault) → command_fault_of f ≡ state.Memory →
     Answered x (state.Explain text) (Err f) x
 explain_lacks x text f is =
     refused_same x (state.Explain text) (Err f) f refl (λ o. Lacks is (may (state x.kept.content o) (text_fault text)))
@@ -148,23 +134,15 @@ pub explain_text : (x : Registered) (text : List ℕ) (r : Reply) (q : Reference
     IsTextOf q text → Answered x (state.Explain text) (Ok r) x
 explain_text x text r q is of =
     let bytes = decoded_text q text of in
-    let sound : text_fault text ≡ None =
-    ap bytes_fault bytes ∙ ap (option_map (λ (f : spec.V3Fault). state.Not_v3 f)) (encoded_passes q of.0) in
+    let sound : text_fault text ≡ None = rw (bytes, encoded_passes q of.0) in
     answered_same x (state.Explain text) r refl (λ xs. refl)
     (λ o. (rw sound, rw is (reference_bytes q, bytes, (of.0, refl))))
-
-bytes_refused : (x : Registered) (text b : List ℕ) (g : spec.V3Fault) (f : CommandFault) →
-    decode_of standard text ≡ Ok b → v3_fault b ≡ Some g → command_fault_of f ≡ state.Not_a_reference (state.Not_v3 g)
-    → Answered x (state.Explain text) (Err f) x
-bytes_refused x text b g f read fault is =
-    explain_refused x text f (state.Not_v3 g) is (ap bytes_fault (decoded text read)
-    ∙ ap (option_map (λ (h : spec.V3Fault). state.Not_v3 h)) fault)
 
 pub explain_fault : (x : Registered) (text : List ℕ) (fault : TextFault) (f : CommandFault) → IsFaultOf text fault →
     command_fault_of f ≡ text_fault_of fault → Answered x (state.Explain text) (Err f) x
 explain_fault x text (Bytes Memory) f is e = explain_lacks x text f e
-explain_fault x text (Bytes Length) f is e = bytes_refused x text is.0 spec.Length f is.1 is.2 e
-explain_fault x text (Bytes Status) f is e = bytes_refused x text is.0 spec.Status f is.1 is.2 e
-explain_fault x text (Bytes Flags) f is e = bytes_refused x text is.0 spec.Flags f is.1 is.2 e
-explain_fault x text (Bytes Reserved) f is e = bytes_refused x text is.0 spec.Reserved f is.1 is.2 e
-explain_fault x text NotBase64 f is e = explain_refused x text f state.Not_base64 e (ap bytes_fault (decoded text is.1))
+explain_fault x text (Bytes Length) f is e = explain_refused x text f (state.Not_v3 spec.Length) e (rw (decoded text is.1, is.2))
+explain_fault x text (Bytes Status) f is e = explain_refused x text f (state.Not_v3 spec.Status) e (rw (decoded text is.1, is.2))
+explain_fault x text (Bytes Flags) f is e = explain_refused x text f (state.Not_v3 spec.Flags) e (rw (decoded text is.1, is.2))
+explain_fault x text (Bytes Reserved) f is e = explain_refused x text f (state.Not_v3 spec.Reserved) e (rw (decoded text is.1, is.2))
+explain_fault x text NotBase64 f is e = explain_refused x text f state.Not_base64 e (rw (decoded text is.1))

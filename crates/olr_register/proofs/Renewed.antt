@@ -1,7 +1,6 @@
 -- After a renewal, the results of a list are right on the new map.
 use Rattle.olr_register.proofs.Common.{◌≡◌, List, [], ◌∷◌, Option, Some, refl, sym, subst, IfSome, Map, Made, Item}
-use Rattle.olr_register.proofs.Common.{IsEncodingOf, AreEncodings, AreEncodingsIfAny, Margin}
-use Rattle.olr_renewal.specs.Changes.{AreRemade}
+use Rattle.olr_register.proofs.Common.{IsEncodingOf, AreEncodings, AreEncodingsIfAny, Margin, AreRemade}
 
 abbrev MadeOn : Margin → Map → Item → Type 0
 MadeOn g N j = (m : Made) × (j.made ≡ Some m) × IsEncodingOf g N j.path m

@@ -1,13 +1,9 @@
 -- Whole runs.
 use Rattle.olr_register.proofs.Common.{◌≡◌, ◌∙◌, ◌+◌, ℕ, List, [], ◌∷◌, ◌++◌, map, Result, refl, sym, ap, subst}
 use Rattle.olr_register.proofs.Common.{IsContent, State, start_state, SoundOutcome, CommandFault, Represents}
-use Rattle.olr_register.proofs.Common.{Registered}
-use Rattle.std.proofs.Common.{length-append}
-use Rattle.std.proofs.lemmas.List.{map_push}
+use Rattle.olr_register.proofs.Common.{Registered, length-append, map_push, run_more, command_of, outcome_of, Applied}
+use Rattle.olr_register.proofs.Common.{nothing_registered}
 use Rattle.olr_commands.specs.History.{Whole}
-use Rattle.olr_commands.proofs.HistoryLemmas.{run_more}
-use Rattle.olr_commands.specs.Words.{command_of, outcome_of}
-use Rattle.olr_register.specs.Registered.{Applied, nothing_registered}
 use Rattle.olr_commands.specs.declared.command.Command.{Command as Asked}
 use Rattle.olr_commands.specs.declared.reply.Reply.{Reply as Answered}
 

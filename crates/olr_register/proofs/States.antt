@@ -1,12 +1,9 @@
 -- The states that a register represents, with a batch open or not.
-use Rattle.olr_register.proofs.Common.{◌≡◌, List, Option, Some, None, sym, subst, IfSome, Map, RoadMap, Work}
-use Rattle.olr_register.proofs.Common.{Content, IsContent, Change, State, Item, AreEncodings}
-use Rattle.olr_register.proofs.Common.{RegisterState, IsBatchOf, Represents, Registered, content_on, map_kept, kept_of}
-use Rattle.olr_register.proofs.Common.{IsHeld, IsKeptRight, IsRegister, Margin, items}
-use Rattle.olr_register.specs.Contents.{KeepsMargin}
-use Rattle.olr_register.specs.RegisterState.{Batch, RepresentsBatch}
-use Rattle.olr_register.specs.declared.batch.Batch.{Batch as Open}
-use Rattle.olr_register.specs.declared.register.Register.TheInside.{Inside}
+use Rattle.olr_register.proofs.Common.{◌≡◌, List, Option, Some, None, sym, subst, IfSome, Map, RoadMap, Work, Content}
+use Rattle.olr_register.proofs.Common.{IsContent, Change, State, Item, AreEncodings, RegisterState, IsBatchOf}
+use Rattle.olr_register.proofs.Common.{Represents, Registered, content_on, map_kept, kept_of, IsHeld, IsKeptRight}
+use Rattle.olr_register.proofs.Common.{IsRegister, Margin, items, KeepsMargin, RepresentsBatch, Open, Inside}
+use Rattle.olr_register.specs.RegisterState.{Batch}
 
 abbrev pub state : Content → Option (List Change) → State
 state c o = record { content = c; batch = o }

@@ -80,18 +80,12 @@ coded_held =
 
 abbrev pub coded_batch : Coded Batch
 coded_batch =
-    code_by (Map × (List Held × (Margin × (ℕ × (List ℕ × List ℕ)))))
-    (coded× coded_map (coded× (coded_list coded_held)
-    (coded× coded_margin (coded× coded_ℕ (coded× (coded_list coded_ℕ) (coded_list coded_ℕ))))))
-    (λ b. (b.map, (b.paths, (b.margin, (b.count, (b.nodes, b.lines))))))
-    (λ t. record {
-      map = t.0;
-      paths = t.1.0;
-      margin = t.1.1.0;
-      count = t.1.1.1.0;
-      nodes = t.1.1.1.1.0;
-      lines = t.1.1.1.1.1;
-    }) (λ _. refl)
+    code_by ((Map × List Held) × ((Margin × ℕ) × (List ℕ × List ℕ)))
+    (coded× (coded× coded_map (coded_list coded_held))
+    (coded× (coded× coded_margin coded_ℕ) (coded× (coded_list coded_ℕ) (coded_list coded_ℕ))))
+    (λ b. ((b.map, b.paths), ((b.margin, b.count), (b.nodes, b.lines))))
+    (λ t. record { map = t.0.0; paths = t.0.1; margin = t.1.0.0; count = t.1.0.1; nodes = t.1.1.0; lines = t.1.1.1 })
+    (λ _. refl)
 
 abbrev pub coded_kept : Coded RegisterState
 coded_kept =

@@ -24,13 +24,21 @@ use std::alloc::{AllocError, Global};
 /// The bounds are rebuilt only after searches that found no path have labelled more nodes than this.
 const LEAST: usize = 65_536;
 
-/// Makes the bounds right on the map after edits that touched these nodes. If an allocation fails, they are unknown.
+/// Makes the bounds right on the map. If an allocation fails, they are unknown, and searches go as far as they may.
+pub(crate) fn settle_kept(bounds: &mut DistanceBounds, roads: &RoadMap)
+    ensures { (is : List Item) → HasBounds roads.now [] is bounds.old
+        → AreBoundsOf (map_of roads.now) (slot_of roads.now) bounds.new is }
+{
+    let _ = bounds.settle(roads);
+}
+
+/// The same after edits that touched these nodes.
 fn settle_bounds(bounds: &mut DistanceBounds, roads: &RoadMap, touched: &ChangeSet)
     ensures { (is : List Item) → HasBounds roads.now (nodes_of touched.now) is bounds.old
         → AreBoundsOf (map_of roads.now) (slot_of roads.now) bounds.new is }
 {
     let _ = bounds.reopen(touched.nodes());
-    let _ = bounds.settle(roads);
+    settle_kept(bounds, roads);
 }
 
 /// Adds coverage queries, whose lines are followed when the bounds are settled. If an allocation fails, the bounds are

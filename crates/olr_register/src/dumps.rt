@@ -14,10 +14,11 @@ ghost use Rattle.olr_commands.specs.Dump as spec;
 ghost use Rattle.olr_register.specs.Contents.{content_on};
 ghost use Rattle.olr_register.specs.Recordables as numbered;
 
+use crate::records::push_node;
 use crate::register::Register;
 use olr_commands::{
     CommandFault, Dump, Reply, is_name, is_recordable_coord, is_recordable_line, push_line_record,
-    push_margin_record, push_node_record, push_path_record,
+    push_margin_record, push_path_record,
 };
 use olr_map::{LineId, MapRead, NodeId, RoadMap};
 use olr_paths::PathList;
@@ -38,12 +39,7 @@ fn is_recordable_line_at(roads: &RoadMap, id: LineId) -> bool
 fn are_recordable_lines(roads: &RoadMap, ids: &[LineId]) -> bool
     ensures { result ≡ list_all (numbered.is_recordable_line_at (map_of roads.now)) ids.now }
 {
-    for id in ids {
-        if !is_recordable_line_at(roads, *id) {
-            return false;
-        }
-    }
-    true
+    ids.iter().all(|id| is_recordable_line_at(roads, *id))
 }
 
 /// Whether a record can have this node.
@@ -136,10 +132,7 @@ fn push_nodes(text: &mut Vec<u8>, roads: &RoadMap, ids: &[NodeId]) -> Result<(),
         ++ flat_map (λ e. record_line (node_change e)) (entries (map_of roads.now).nodes)) }
 {
     for id in ids {
-        let Some(coord) = roads.node(*id) else {
-            unreachable!()
-        };
-        push_node_record(text, *id, coord)?;
+        push_node(text, roads, *id)?;
     }
     Ok(())
 }

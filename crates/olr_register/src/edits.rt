@@ -109,7 +109,7 @@ impl Register {
         requires { self.old.kept.batch ≡ None }
         ensures { Answered self.old (Make (On_map (edit_of edit))) result self.new }
     {
-        if self.paths.len() > 0 {
+        if self.len() > 0 {
             return self.edit_among_paths(edit);
         }
         let plan = match judge(&self.roads, &edit) {

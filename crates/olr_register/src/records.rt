@@ -17,7 +17,7 @@ use olr_map::{EditFault, Line, LineId, MapRead, NodeId, RoadMap};
 use std::alloc::{AllocError, Global};
 
 /// Appends the record of a node of the map.
-fn push_node(text: &mut Vec<u8>, roads: &RoadMap, id: NodeId) -> Result<(), AllocError>
+pub(crate) fn push_node(text: &mut Vec<u8>, roads: &RoadMap, id: NodeId) -> Result<(), AllocError>
     requires there { IsTrue (has_node (map_of roads.now) id) }
     requires recordable { IsTrue (recordable.has_node_record (map_of roads.now) id) }
     ensures { OnOk result (text.new.items

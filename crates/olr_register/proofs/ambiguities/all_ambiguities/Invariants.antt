@@ -1,6 +1,4 @@
-use Rattle.olr_register.proofs.Common.{map, map_of, take, items, all_named}
-use Rattle.olr_commands.specs.Ambiguities.{Ambiguities}
-use Rattle.olr_commands.specs.Words.{named_obstacle_of}
+use Rattle.olr_register.proofs.Common.{map, map_of, take, items, all_named, Ambiguities, named_obstacle_of}
 use Rattle.olr_register.proofs.ambiguities.all_ambiguities.Given as goal
 
 -- of the paths so far

@@ -1,7 +1,4 @@
-use Rattle.olr_register.proofs.Common.{◌≡◌, ◌++◌, map, take}
-use Rattle.olr_answers.specs.Ambiguities.{found_of}
-use Rattle.olr_commands.specs.Ambiguities.{named}
-use Rattle.olr_commands.specs.Words.{named_obstacle_of}
+use Rattle.olr_register.proofs.Common.{◌≡◌, ◌++◌, map, take, found_of, named, named_obstacle_of}
 use Rattle.olr_register.proofs.ambiguities.push_found.Given as goal
 
 abbrev pub invariant-loop-one : goal.invariant-loop-one

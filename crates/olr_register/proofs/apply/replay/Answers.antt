@@ -1,8 +1,7 @@
-use Rattle.olr_register.proofs.Common.{arith, sym, ◌∙◌, subst, start_state, IsOutcome, SoundOutcome}
-use Rattle.std.proofs.lemmas.List.{map-id}
+use Rattle.olr_register.proofs.Common.{arith, sym, ◌∙◌, subst, start_state, IsOutcome, SoundOutcome, map-id, run_each}
+use Rattle.olr_register.proofs.Common.{headline_of_outcomes, start_sound}
 use Rattle.std.proofs.lemmas.Iterator.Adapters.{YieldsList-from_vec}
 use Rattle.std.proofs.lemmas.Iterator.Consumers.{YieldsList-end}
-use Rattle.olr_commands.proofs.HistoryLemmas.{run_each, headline_of_outcomes, start_sound}
 use Rattle.olr_register.proofs.Runs.{HasRun, run_starts, run_continues}
 use Rattle.olr_register.proofs.apply.replay.Goals as goal
 

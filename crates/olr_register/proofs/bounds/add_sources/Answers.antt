@@ -1,7 +1,5 @@
-use Rattle.olr_register.proofs.Common.{◌≡◌, false, All, List, take, subst, arith, CoverageQuery, IsSource}
-use Rattle.std.proofs.lemmas.List.{take_all}
-use Rattle.std.proofs.lemmas.List.Elements.{All-contains, All-weaker}
-use Rattle.olr_paths.proofs.Alls.{all_more}
+use Rattle.olr_register.proofs.Common.{◌≡◌, false, All, List, take, subst, arith, CoverageQuery, IsSource, take_all}
+use Rattle.olr_register.proofs.Common.{All-contains, All-weaker, all_more}
 use Rattle.olr_register.proofs.bounds.add_sources.Goals as goal
 
 pub returns-then-not-is_known : goal.returns-then-not-is_known

@@ -1,5 +1,4 @@
-use Rattle.olr_register.proofs.Common.{items, under_overlay}
-use Rattle.olr_renewal.specs.Reencoded.{after_renewal, to_renew_by}
+use Rattle.olr_register.proofs.Common.{items, under_overlay, after_renewal, to_renew_by}
 use Rattle.olr_register.proofs.Bounded.{can_renew, settled_bounds}
 use Rattle.olr_register.proofs.bounds.preview.Goals as goal
 

@@ -1,5 +1,4 @@
-use Rattle.olr_register.proofs.Common.{[], items, under_overlay}
-use Rattle.olr_renewal.specs.Reencoded.{to_renew_by}
+use Rattle.olr_register.proofs.Common.{[], items, under_overlay, to_renew_by}
 use Rattle.olr_register.proofs.Bounded.{can_renew, settled_bounds}
 use Rattle.olr_register.proofs.bounds.renew.Goals as goal
 

@@ -1,5 +1,4 @@
-use Rattle.olr_register.proofs.Common.{◌≡◌, ◌<◌, ℕ, true, has_node, map_of, is_recordable_node_at}
-use Rattle.olr_map.specs.RoadMaps.{slot_of}
+use Rattle.olr_register.proofs.Common.{◌≡◌, ◌<◌, ℕ, true, has_node, map_of, is_recordable_node_at, slot_of}
 use Rattle.olr_register.proofs.dumps.is_recordable_map.Given as goal
 
 abbrev pub invariant-loop-slot : goal.invariant-loop-slot

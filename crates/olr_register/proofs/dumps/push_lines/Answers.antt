@@ -1,5 +1,4 @@
-use Rattle.olr_register.proofs.Common.{List, ℕ, ◌++◌, sym, ap, ◌∙◌, map_of, record_line, line_change}
-use Rattle.std.specs.Option.{option_copied}
+use Rattle.olr_register.proofs.Common.{sym, ap, ◌∙◌, map_of, record_line, line_change, option_copied}
 use Rattle.olr_register.proofs.DumpTexts.{shapes_pass, entry_there, entry_record}
 use Rattle.olr_register.proofs.dumps.push_lines.Goals as goal
 
@@ -15,8 +14,6 @@ push_line_record-requires c =
 
 pub loop-id-preserved : goal.loop-id-preserved
 loop-id-preserved c =
-    let id : ℕ = c.id-item.result in
-    c.in_ok-push_line_record.ensures
-    ∙ ap (λ (t : List ℕ). t ++ record_line (line_change (id, c.in-Some.line.now))) c.loop-id.invariant
-    ∙ entry_record (map_of c.args.roads.now).lines c.args.ids.now c.loop-id.id-index id _ c.requires.ids c.loop-id-test.true
-    c.id-item.is c.line.ensures (λ e. record_line (line_change e)) c.args.text.now.items _ (ap option_copied c.in-Some.is)
+    rw (c.in_ok-push_line_record.ensures, c.loop-id.invariant)
+    (entry_record (map_of c.args.roads.now).lines c.args.ids.now c.loop-id.id-index c.id-item.result _ c.requires.ids c.loop-id-test.true
+    c.id-item.is c.line.ensures (λ e. record_line (line_change e)) c.args.text.now.items _ (ap option_copied c.in-Some.is))

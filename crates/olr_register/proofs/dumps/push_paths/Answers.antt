@@ -1,6 +1,5 @@
-use Rattle.olr_register.proofs.Common.{ℕ, List, ◌++◌, sym, ap, arith, ◌∙◌, record_line, Named}
-use Rattle.olr_register.proofs.Common.{Add_path, path_change, items, all_named, named_of, inl, inr, length-map}
-use Rattle.std.proofs.lemmas.Option.{slice_get_cases}
+use Rattle.olr_register.proofs.Common.{sym, arith, ◌∙◌, record_line, path_change, items, all_named, named_of, inl, inr}
+use Rattle.olr_register.proofs.Common.{length-map, slice_get_cases}
 use Rattle.olr_register.proofs.DumpTexts.{records-at}
 use Rattle.olr_register.proofs.dumps.push_paths.Goals as goal
 
@@ -14,10 +13,6 @@ unreachable-requires c =
 
 pub loop-k-preserved : goal.loop-k-preserved
 loop-k-preserved c =
-    let ps : List Named = all_named (items c.args.paths.now) in
-    let text : Named → List ℕ = λ p. record_line (path_change p) in
-    let named : Named = record { name = c.in-Some.name.now; path = c.in-Some.path.now } in
-    c.in_ok-push_path_record.ensures
-    ∙ ap (λ (n : List ℕ). c.loop-k.text.items ++ record_line (Add_path n c.in-Some.path.now)) c.as_bytes.ensures.value
-    ∙ ap (λ (t : List ℕ). t ++ text named) c.loop-k.invariant
-    ∙ records-at text c.args.text.now.items ps c.loop-k.k named (sym c.in-Some.ensures)
+    rw (c.in_ok-push_path_record.ensures, c.as_bytes.ensures.value, c.loop-k.invariant)
+    (records-at (λ p. record_line (path_change p)) c.args.text.now.items (all_named (items c.args.paths.now)) c.loop-k.k
+    (record { name = c.in-Some.name.now; path = c.in-Some.path.now }) (sym c.in-Some.ensures))

@@ -1,7 +1,5 @@
-use Rattle.olr_register.proofs.Common.{◌∙◌, items, map_of, slot_of, nodes_of, edit_of, refl}
-use Rattle.olr_register.proofs.Bounded.{bounded_unknown, bounds_edited, bounds_stay, is_edit, settled_bounds}
-use Rattle.olr_register.proofs.EditsMade.{edit_unmade}
-use Rattle.olr_renewal.specs.AffectedSearches.{AreBoundsOf}
+use Rattle.olr_register.proofs.Common.{◌∙◌, items, map_of, slot_of, nodes_of, edit_of, refl, AreBoundsOf}
+use Rattle.olr_register.proofs.Bounded.{bounded_unknown, bounds_edited, bounds_stay, edit_unmade, is_edit, settled_bounds}
 use Rattle.olr_register.proofs.edits.make_and_renew.Goals as goal
 
 -- ---- where no path is affected
@@ -9,7 +7,7 @@ use Rattle.olr_register.proofs.edits.make_and_renew.Goals as goal
 pub returns-in_err-make_kept : goal.returns-in_err-make_kept
 returns-in_err-make_kept c =
     let same = c.in_err-make_kept.ensures.same in
-    edit_unmade _ _ _ _ _ _ _ _ _ _ c.from_residual.ensures.1
+    edit_unmade _ c.from_residual.ensures.1
     (bounds_stay c.args.roads.now c.make_kept.new.self c.make_kept.ensures.slots same c.requires.bounded) same refl
 
 pub returns-in-Some : goal.returns-in-Some
@@ -66,7 +64,7 @@ returns-in-Err c =
     record {
       done = tt;
       renewed = tt;
-      bounded = bounded_unknown _ _ _ _ e.unknown;
+      bounded = bounded_unknown e.unknown;
       same_map = c.undo.ensures ∙ c.in_ok-undo.ensures.before;
       same_list = e.err;
     }
@@ -74,5 +72,5 @@ returns-in-Err c =
 pub returns-in_err-undo : goal.returns-in_err-undo
 returns-in_err-undo c =
     let same = c.in_err-undo.ensures.same in
-    edit_unmade _ _ _ _ _ _ _ _ _ _ c.from_residual-in_err-undo.ensures.1
+    edit_unmade _ c.from_residual-in_err-undo.ensures.1
     (bounds_stay c.args.roads.now c.make.new.self c.make.ensures.slots same c.requires.bounded) same refl

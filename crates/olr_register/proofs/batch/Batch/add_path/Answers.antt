@@ -1,6 +1,5 @@
 use Rattle.olr_register.proofs.Common.{◌≡◌, inl, inr, string_bytes, false, refl, sym, ap, ◌∙◌, map_of, Add_path, items}
-use Rattle.olr_register.proofs.Common.{to_renew, under_batch, under_overlay, has_name, path_by, No_memory}
-use Rattle.olr_paths.proofs.OriginLemmas.{begins_add}
+use Rattle.olr_register.proofs.Common.{to_renew, under_batch, under_overlay, has_name, path_by, No_memory, begins_add}
 use Rattle.olr_register.proofs.Changing.{add_refused, add_ok}
 use Rattle.olr_register.proofs.Listed.{to_renew_add, each_add, each_if_any, each_follows, given_add, has_to_renew}
 use Rattle.olr_register.proofs.Making.{path_unmade, path_made}
@@ -16,15 +15,14 @@ hold-requires c = (
 pub returns-in_err-path : goal.returns-in_err-path
 returns-in_err-path c = λ roads.
     let us = under_overlay (items c.args.list.now) c.args.self.now.overlay in
-    path_unmade roads (items c.args.list.now) c.args.self.now c.args.self.now.overlay _ c.from_residual.result
-    c.in_err-path.field-0.0 c.from_residual.ensures.1 refl
+    path_unmade c.in_err-path.field-0.0 c.from_residual.ensures.1 refl
     (add_refused _ (string_bytes c.args.name) (path_by c.args.parts) c.has-taken.result _
     (c.has-taken.ensures ∙ ap (has_name us) c.deref.ensures ∙ sym (has_to_renew _ us _)) c.in_err-path.ensures.fault)
 
 pub returns-in_err-hold : goal.returns-in_err-hold
 returns-in_err-hold c = λ roads.
     let is = items c.args.list.now in
-    path_unmade roads is c.args.self.now c.hold.new.self _ _ No_memory c.from_residual-in_err-hold.ensures.1
+    path_unmade No_memory c.from_residual-in_err-hold.ensures.1
     (ap (to_renew c.args.self.now.all) (c.in_err-hold.ensures.err is))
     (add_refused _ (string_bytes c.args.name) (path_by c.args.parts) c.has-taken.result _
     (c.has-taken.ensures ∙ ap (has_name (under_overlay is c.args.self.now.overlay)) c.deref.ensures

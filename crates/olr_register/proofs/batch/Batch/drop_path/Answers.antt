@@ -1,15 +1,15 @@
-use Rattle.olr_register.proofs.Common.{not, refl, sym, ap, ◌∙◌, to_renew, subst, under_batch, map_of, same_name, Drop_path}
-use Rattle.olr_register.proofs.Common.{Item, items, under_overlay, begins_drop, ByContent, No_memory}
-use Rattle.olr_register.proofs.Changing.{drop_missing, drop_lacks, drop_ok}
+use Rattle.olr_register.proofs.Common.{not, refl, sym, ap, ◌∙◌, to_renew, subst, under_batch, map_of, same_name}
+use Rattle.olr_register.proofs.Common.{Drop_path, Item, items, under_overlay, begins_drop, ByContent, No_memory}
+use Rattle.olr_register.proofs.Common.{NamesDiffer}
+use Rattle.olr_register.proofs.Changing.{drop_lacks, drop_ok}
 use Rattle.olr_register.proofs.Listed.{to_renew_drop, each_left, each_given, each_if_any, each_follows, given_none, has_to_renew, named_to_renew}
-use Rattle.olr_commands.specs.State.{NamesDiffer}
 use Rattle.olr_register.proofs.Making.{path_unmade, path_made}
 use Rattle.olr_register.proofs.batch.Batch.drop_path.Goals as goal
 
 pub returns-then-not-has : goal.returns-then-not-has
 returns-then-not-has c = λ roads.
-    path_unmade roads (items c.args.list.now) c.args.self.now c.args.self.now.overlay _ _ _ refl refl
-    (ByContent (drop_missing _ c.args.name.now (has_to_renew _ _ c.args.name.now ∙ sym c.if-not-has.ensures)))
+    let us = under_overlay (items c.args.list.now) c.args.self.now.overlay in
+    path_unmade _ refl refl (ByContent (rw (has_to_renew c.args.self.now.all us c.args.name.now ∙ sym c.if-not-has.ensures)))
 
 pub returns : goal.returns
 returns c = λ roads.
@@ -28,7 +28,6 @@ returns c = λ roads.
 
 pub returns-in_err-drop_path : goal.returns-in_err-drop_path
 returns-in_err-drop_path c = λ roads.
-    let is = items c.args.list.now in
-    path_unmade roads is c.args.self.now c.drop_path.new.self _ _ No_memory c.from_residual.ensures.1
-    (ap (to_renew c.args.self.now.all) (c.in_err-drop_path.ensures.err is))
+    path_unmade No_memory c.from_residual.ensures.1
+    (ap (to_renew c.args.self.now.all) (c.in_err-drop_path.ensures.err (items c.args.list.now)))
     (drop_lacks _ c.args.name.now (has_to_renew _ _ c.args.name.now ∙ sym c.if-not-has.ensures))

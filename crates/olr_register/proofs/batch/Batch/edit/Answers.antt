@@ -1,4 +1,4 @@
-use Rattle.olr_register.proofs.Common.{refl, On_map, edit_of, content_under, nodes_of, ByContent, No_memory}
+use Rattle.olr_register.proofs.Common.{refl, edit_of, content_under, nodes_of, ByContent, No_memory}
 use Rattle.olr_register.proofs.Bounded.{under_way_stays}
 use Rattle.olr_register.proofs.Changing.{edit_refused, edit_lacks}
 use Rattle.olr_register.proofs.Making.{without_answer, edit_made}
@@ -6,18 +6,14 @@ use Rattle.olr_register.proofs.batch.Batch.edit.Goals as goal
 
 pub returns-in-Err : goal.returns-in-Err
 returns-in-Err c = λ is.
-    let b = c.args.self.now in
-    without_answer _ c.args.roads.now is b b.log b.overlay b.touched (On_map (edit_of c.args.edit)) _ _ refl (λ h. c.requires)
-    refl refl refl refl refl refl (λ f h. h) (ByContent (edit_refused (content_under c.args.roads.now is b) _
-    c.in-Err.fault c.in-Err.ensures.fault))
+    without_answer _ refl (λ h. c.requires) refl refl refl refl refl refl (λ f h. h)
+    (ByContent (edit_refused (content_under c.args.roads.now is c.args.self.now) _ c.in-Err.fault c.in-Err.ensures.fault))
 
 pub returns-in_err-reserve : goal.returns-in_err-reserve
 returns-in_err-reserve c = λ is.
-    let b = c.args.self.now in
     let t = c.reserve.ensures in
-    without_answer _ c.args.roads.now is b b.log b.overlay c.reserve.new.self (On_map (edit_of c.args.edit))
-    _ No_memory c.from_residual.ensures.1 (λ h. c.requires) refl refl refl t.nodes t.lines t.changed (λ f h. h)
-    (edit_lacks (content_under c.args.roads.now is b) _ c.in-Ok.ensures.plan.accepted)
+    without_answer No_memory c.from_residual.ensures.1 (λ h. c.requires) refl refl refl t.nodes t.lines t.changed (λ f h. h)
+    (edit_lacks (content_under c.args.roads.now is c.args.self.now) _ c.in-Ok.ensures.plan.accepted)
 
 pub returns : goal.returns
 returns c = λ is.
@@ -35,8 +31,6 @@ returns-in_err-make_into c = λ is.
     let b = c.args.self.now in
     let t = c.reserve.ensures in
     let m = c.make_into.ensures in
-    without_answer c.args.roads.now c.make_into.new.self is b c.make_into.new.log b.overlay c.reserve.new.self
-    (On_map (edit_of c.args.edit)) _ No_memory c.from_residual-in_err-make_into.ensures.1 (λ h. m.can_undo) m.before
-    c.in_err-make_into.ensures.same refl t.nodes t.lines t.changed
+    without_answer No_memory c.from_residual-in_err-make_into.ensures.1 (λ h. m.can_undo) m.before c.in_err-make_into.ensures.same refl t.nodes t.lines t.changed
     (under_way_stays c.args.roads.now c.make_into.new.self m.slots c.in_err-make_into.ensures.same (nodes_of b.touched))
     (edit_lacks (content_under c.args.roads.now is b) _ c.in-Ok.ensures.plan.accepted)

@@ -1,5 +1,4 @@
-use Rattle.olr_register.proofs.Common.{refl, sym, arith, err_from_is_err_and, full, ByContent}
-use Rattle.std.proofs.lemmas.Bool.{leb-false}
+use Rattle.olr_register.proofs.Common.{refl, sym, arith, err_from_is_err_and, full, ByContent, leb-false}
 use Rattle.olr_register.proofs.batch.Batch.hold.Goals as goal
 
 pub returns-then-is_full : goal.returns-then-is_full

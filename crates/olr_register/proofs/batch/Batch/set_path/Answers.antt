@@ -1,7 +1,6 @@
 use Rattle.olr_register.proofs.Common.{inl, inr, not, refl, sym, ap, ◌∙◌, map_of, Set_path, items, under_overlay}
-use Rattle.olr_register.proofs.Common.{path_by, not-false, No_memory, to_renew, subst, under_batch}
-use Rattle.olr_commands.specs.State.{NamesDiffer}
-use Rattle.olr_paths.proofs.OriginLemmas.{begins_set}
+use Rattle.olr_register.proofs.Common.{path_by, not-false, No_memory, to_renew, subst, under_batch, NamesDiffer}
+use Rattle.olr_register.proofs.Common.{begins_set}
 use Rattle.olr_register.proofs.Changing.{set_refused, set_ok}
 use Rattle.olr_register.proofs.Listed.{to_renew_set, each_set, each_if_any, each_follows, given_set, has_to_renew, named_to_renew}
 use Rattle.olr_register.proofs.Making.{path_unmade, path_made}
@@ -9,15 +8,13 @@ use Rattle.olr_register.proofs.batch.Batch.set_path.Goals as goal
 
 pub returns-in_err-path : goal.returns-in_err-path
 returns-in_err-path c = λ roads.
-    path_unmade roads (items c.args.list.now) c.args.self.now c.args.self.now.overlay _ _ c.in_err-path.field-0.0
-    c.from_residual.ensures.1 refl (set_refused _ c.args.name.now (path_by c.args.parts) (not c.has-missing.result) _
+    path_unmade c.in_err-path.field-0.0 c.from_residual.ensures.1 refl (set_refused _ c.args.name.now (path_by c.args.parts) (not c.has-missing.result) _
     (ap not (c.has-missing.ensures ∙ sym (has_to_renew _ _ c.args.name.now))) c.in_err-path.ensures.fault)
 
 pub returns-in_err-hold_other : goal.returns-in_err-hold_other
 returns-in_err-hold_other c = λ roads.
-    let is = items c.args.list.now in
-    path_unmade roads is c.args.self.now c.hold_other.new.self _ _ No_memory c.from_residual-in_err-hold_other.ensures.1
-    (ap (to_renew c.args.self.now.all) (c.in_err-hold_other.ensures.err is)) (set_refused _ c.args.name.now (path_by c.args.parts) (not c.has-missing.result) _
+    path_unmade No_memory c.from_residual-in_err-hold_other.ensures.1
+    (ap (to_renew c.args.self.now.all) (c.in_err-hold_other.ensures.err (items c.args.list.now))) (set_refused _ c.args.name.now (path_by c.args.parts) (not c.has-missing.result) _
     (ap not (c.has-missing.ensures ∙ sym (has_to_renew _ _ c.args.name.now))) c.in_ok-path.ensures.lacks)
 
 pub returns : goal.returns

@@ -1,5 +1,5 @@
-use Rattle.olr_register.proofs.Common.{refl, ap, sym, subst, Map, IsContent, On_map, content_on, edit_of, items}
-use Rattle.olr_register.proofs.Common.{map_of, with_map, changes_keep, ByContent, No_memory}
+use Rattle.olr_register.proofs.Common.{refl, ap, On_map, content_on, edit_of, items, map_of, with_map, changes_keep}
+use Rattle.olr_register.proofs.Common.{ByContent, No_memory}
 use Rattle.olr_register.proofs.Built.{built, not_built}
 use Rattle.olr_register.proofs.Changing.{edit_refused, edit_lacks}
 use Rattle.olr_register.proofs.building.Building.edit.Goals as goal
@@ -7,29 +7,26 @@ use Rattle.olr_register.proofs.building.Building.edit.Goals as goal
 pub returns-in-Err : goal.returns-in-Err
 returns-in-Err c =
     let r = c.self.inside in
-    rw (← c.self.view_is) (not_built _ _ _ _ _ refl refl
+    rw (← c.self.view_is) (not_built _ refl refl
     (ByContent (edit_refused (content_on r.margin (map_of r.roads) (items r.paths)) _ c.in-Err.fault c.in-Err.ensures.fault)))
 
 pub invariant_of-self : goal.invariant_of-self
-invariant_of-self c =
-    let r = c.self.inside in
-    subst (λ (M : Map). IsContent (content_on r.margin M (items r.paths))) (sym c.in_err-make_kept.ensures.same) c.self.invariant
+invariant_of-self c = rw c.in_err-make_kept.ensures.same c.self.invariant
 
 pub returns-in_err-make_kept : goal.returns-in_err-make_kept
 returns-in_err-make_kept c =
     let r = c.self.inside in
-    rw (← c.self.view_is) (not_built _ _ _ _ No_memory (ap (λ (M : Map). content_on r.margin M (items r.paths)) c.in_err-make_kept.ensures.same)
-    c.from_residual.ensures.1 (edit_lacks (content_on r.margin (map_of r.roads) (items r.paths)) _ c.in-Ok.ensures.plan.accepted))
+    rw (← c.self.view_is) (not_built No_memory (rw c.in_err-make_kept.ensures.same) c.from_residual.ensures.1
+    (edit_lacks (content_on r.margin (map_of r.roads) (items r.paths)) _ c.in-Ok.ensures.plan.accepted))
 
 pub invariant_of-self-2 : goal.invariant_of-self-2
 invariant_of-self-2 c =
     let r = c.self.inside in
-    let old = content_on r.margin (map_of r.roads) (items r.paths) in
-    changes_keep old (content_on r.margin (map_of c.make_kept.new.self) (items r.paths)) (On_map (edit_of c.args.edit)) c.self.invariant
-    c.in-Ok.ensures.plan.placed (ap (with_map old) c.in_ok-make_kept.ensures.done)
+    changes_keep _ _ (On_map (edit_of c.args.edit)) c.self.invariant c.in-Ok.ensures.plan.placed
+    (ap (with_map (content_on r.margin (map_of r.roads) (items r.paths))) c.in_ok-make_kept.ensures.done)
 
 pub returns : goal.returns
 returns c =
     let r = c.self.inside in
     rw (← c.self.view_is)
-    (built _ _ _ (ap (with_map (content_on r.margin (map_of r.roads) (items r.paths))) c.in_ok-make_kept.ensures.done))
+    (built (ap (with_map (content_on r.margin (map_of r.roads) (items r.paths))) c.in_ok-make_kept.ensures.done))

@@ -1,4 +1,4 @@
-use Rattle.olr_register.proofs.Common.{ap, None, subst, sym, true, Content, IsContent, to_renew, items, map_of}
+use Rattle.olr_register.proofs.Common.{refl, true, to_renew, items, map_of}
 use Rattle.olr_register.proofs.Built.{each_encoded_once, same_content}
 use Rattle.olr_register.proofs.Noted.{begins_none, can_set}
 use Rattle.olr_register.proofs.Renewed.{remade_made}
@@ -28,7 +28,7 @@ invariant_of-result c =
     let renewal = rw (c.new-none.ensures is) at e.renewed in
     record {
       register = record {
-        content = subst IsContent (sym (same_content r.margin M is js _ _ renewal)) c.self.invariant;
+        content = rw (same_content r.margin M is js _ _ renewal) c.self.invariant;
         made = remade_made r.margin M (to_renew true is) js renewal.remade;
         held = tt;
         margin = tt;
@@ -41,8 +41,7 @@ returns-clause-kept c =
     let r = c.self.inside in
     let is = items r.paths in
     let renewal = rw (c.new-none.ensures is) at c.in_ok-entries.ensures.renewed in
-    rw (← c.self.view_is) (ap (λ (d : Content). record { content = d; batch = None })
-    (same_content r.margin (map_of r.roads) is (items c.renew.new.paths) _ _ renewal))
+    rw (← c.self.view_is, same_content r.margin (map_of r.roads) is (items c.renew.new.paths) _ _ renewal) refl
 
 pub returns-clause-counted : goal.returns-clause-counted
 returns-clause-counted c =

@@ -1,5 +1,4 @@
-use Rattle.olr_register.proofs.Common.{content_on}
-use Rattle.olr_commands.proofs.HistoryLemmas.{start_sound}
+use Rattle.olr_register.proofs.Common.{content_on, start_sound}
 use Rattle.olr_register.proofs.building.Building.new.Goals as goal
 
 -- map and list are empty

@@ -1,8 +1,7 @@
-use Rattle.olr_register.proofs.Common.{Some, None, map, refl, sym, ap, Abort, entry_of, items, ByState}
-use Rattle.olr_register.proofs.Common.{RegisterState, content_on, batch_of, map_before}
+use Rattle.olr_register.proofs.Common.{Some, None, map, refl, sym, Abort, items, ByState, RegisterState, content_on}
+use Rattle.olr_register.proofs.Common.{batch_of, map_before}
 use Rattle.olr_register.proofs.States.{state, register_moved, in_states, right_as}
 use Rattle.olr_register.proofs.Outcomes.{answered_refused, answered_uncounted, Keeps}
-use Rattle.olr_commands.specs.Reply as replies
 use Rattle.olr_commands.specs.declared.reply.Reply.TheVariants as reply
 use Rattle.olr_register.proofs.register.Register.abort.Goals as goal
 
@@ -34,7 +33,7 @@ returns-in-Some c =
       (
         state k.content None,
         (refl, tt),
-        (refl, ap (λ es. replies.Paths (map entry_of es)) c.new.ensures.items),
+        (refl, rw c.new.ensures.items),
       ),
     ))))
 

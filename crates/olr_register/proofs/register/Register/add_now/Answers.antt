@@ -1,8 +1,6 @@
-use Rattle.olr_register.proofs.Common.{[], refl, sym, ap, ◌∙◌, Add_path, items, has_name, path_by, string_bytes}
-use Rattle.olr_route.specs.declared.work.Work.{Work}
+use Rattle.olr_register.proofs.Common.{[], refl, sym, ap, ◌∙◌, items, has_name, path_by, string_bytes, No_memory, Work}
 use Rattle.olr_register.proofs.Changing.{add_refused}
-use Rattle.olr_register.proofs.Singles.{refused_now, may_refuse, kept_bounds, add_right, add_done}
-use Rattle.olr_commands.specs.declared.fault.CommandFault.TheVariants as rust
+use Rattle.olr_register.proofs.Singles.{may_refuse_now, kept_bounds, adds, given_right, given_done}
 use Rattle.olr_register.proofs.register.Register.add_now.Goals as goal
 
 pub add-requires : goal.add-requires
@@ -11,37 +9,31 @@ add-requires c =
 
 pub returns-in_err-path : goal.returns-in_err-path
 returns-in_err-path c =
-    let name = string_bytes c.args.name in
-    refused_now c.self.inside c.self.view_is c.requires (Add_path name (path_by c.args.parts)) _ c.from_residual.result
-    c.in_err-path.field-0.0 refl c.from_residual.ensures.1
-    (may_refuse _ _ _ refl (add_refused _ name (path_by c.args.parts) c.has-taken.result _
-    (c.has-taken.ensures ∙ ap (has_name (items c.self.inside.paths)) c.deref.ensures) c.in_err-path.ensures.fault))
+    may_refuse_now c.self.inside c.self.view_is c.requires c.in_err-path.field-0.0 refl c.from_residual.ensures.1 refl
+    (add_refused _ (string_bytes c.args.name) (path_by c.args.parts) c.has-taken.result _
+    (c.has-taken.ensures ∙ ap (has_name (items c.self.inside.paths)) c.deref.ensures) c.in_err-path.ensures.fault)
 
 pub returns-in_err-encoded : goal.returns-in_err-encoded
 returns-in_err-encoded c =
-    let name = string_bytes c.args.name in
-    refused_now c.self.inside c.self.view_is c.requires (Add_path name (path_by c.args.parts)) _ _ rust.Memory
-    c.self.view_is c.from_residual-in_err-encoded.ensures.1
-    (may_refuse _ _ _ refl (add_refused _ name (path_by c.args.parts) c.has-taken.result _
-    (c.has-taken.ensures ∙ ap (has_name (items c.self.inside.paths)) c.deref.ensures) c.in_ok-path.ensures.lacks))
+    may_refuse_now c.self.inside c.self.view_is c.requires No_memory c.self.view_is c.from_residual-in_err-encoded.ensures.1 refl
+    (add_refused _ (string_bytes c.args.name) (path_by c.args.parts) c.has-taken.result _
+    (c.has-taken.ensures ∙ ap (has_name (items c.self.inside.paths)) c.deref.ensures) c.in_ok-path.ensures.lacks)
 
 pub returns-in_err-renewed : goal.returns-in_err-renewed
 returns-in_err-renewed c =
-    let name = string_bytes c.args.name in
-    refused_now c.self.inside c.self.view_is c.requires (Add_path name (path_by c.args.parts)) _ _ rust.Memory
-    (rw c.in_err-renewed.ensures.err c.self.view_is)
-    c.from_residual-in_err-renewed.ensures.1
-    (may_refuse _ _ _ refl (add_refused _ name (path_by c.args.parts) c.has-taken.result _
-    (c.has-taken.ensures ∙ ap (has_name (items c.self.inside.paths)) c.deref.ensures) c.in_ok-path.ensures.lacks))
+    may_refuse_now c.self.inside c.self.view_is c.requires No_memory (rw c.in_err-renewed.ensures.err c.self.view_is)
+    c.from_residual-in_err-renewed.ensures.1 refl
+    (add_refused _ (string_bytes c.args.name) (path_by c.args.parts) c.has-taken.result _
+    (c.has-taken.ensures ∙ ap (has_name (items c.self.inside.paths)) c.deref.ensures) c.in_ok-path.ensures.lacks)
 
 pub invariant_of-self-2 : goal.invariant_of-self-2
 invariant_of-self-2 c =
     let r = c.self.inside in
     let n = c.in_ok-encoded.ensures in
     let e = c.in_ok-renewed.ensures.added in
-    add_right r c.self.view_is c.requires c.self.invariant (string_bytes c.args.name) (items c.add.new.list)
-    c.in_ok-path.path _ (rw c.in_ok-path.ensures.ok c.in_ok-path.ensures.good) n.made _
-    (ap (has_name (items r.paths)) (sym c.deref.ensures) ∙ sym c.has-taken.ensures ∙ c.in_ok-path.ensures.right)
+    given_right r c.self.view_is c.requires c.self.invariant
+    (adds r c.self.view_is c.requires c.self.invariant n.made (rw c.in_ok-path.ensures.ok c.in_ok-path.ensures.good)
+    (ap (has_name (items r.paths)) (sym c.deref.ensures) ∙ sym c.has-taken.ensures ∙ c.in_ok-path.ensures.right))
     (rw n.path at e.list)
     (c.renew_bounds.ensures r.roads [] (items r.paths) (kept_bounds r c.self.view_is c.requires c.self.invariant) e.queries)
 
@@ -51,8 +43,7 @@ returns c =
     let n = c.in_ok-encoded.ensures in
     let e = c.in_ok-renewed.ensures.added in
     rw (← c.in_ok-path.ensures.ok, c.plus-self-inside.ensures)
-    (add_done r c.self.view_is c.requires c.self.invariant (string_bytes c.args.name) (items c.add.new.list)
-    c.in_ok-path.path _ (rw c.in_ok-path.ensures.ok c.in_ok-path.ensures.good) n.made _ _ _ refl
-    (ap (λ (w : Work). w.encodings) e.work ∙ n.counted)
-    (ap (has_name (items r.paths)) (sym c.deref.ensures) ∙ sym c.has-taken.ensures ∙ c.in_ok-path.ensures.right)
-    (rw n.path at e.list) e.entries)
+    (given_done r c.self.view_is c.requires c.self.invariant
+    (adds r c.self.view_is c.requires c.self.invariant n.made (rw c.in_ok-path.ensures.ok c.in_ok-path.ensures.good)
+    (ap (has_name (items r.paths)) (sym c.deref.ensures) ∙ sym c.has-taken.ensures ∙ c.in_ok-path.ensures.right))
+    (rw n.path at e.list) c.in_ok-renewed.renewed.work refl (ap (λ (w : Work). w.encodings) e.work ∙ n.counted) e.entries)

@@ -1,12 +1,10 @@
-use Rattle.olr_register.proofs.Common.{map, false, refl, ap, sym, none_of, Begin, entry_of, items}
+use Rattle.olr_register.proofs.Common.{false, refl, sym, none_of, items}
 use Rattle.olr_register.proofs.BatchSteps.{IsEmpty, begun_held, begin_done}
 use Rattle.olr_register.proofs.WithoutBatch.{open_refused}
-use Rattle.olr_commands.specs.Reply as replies
 use Rattle.olr_register.proofs.register.Register.begin.Goals as goal
 
 pub returns-then-is_some : goal.returns-then-is_some
-returns-then-is_some c =
-    rw (← c.self.view_is) (open_refused c.self.inside Begin _ (sym c.if-is_some.ensures) (λ d xs. refl))
+returns-then-is_some c = open_refused c.self.inside c.self.view_is c.if-is_some.ensures (λ d xs. refl)
 
 empty : (c : goal.After-new-4) →
     IsEmpty c.self.inside.margin (record {
@@ -39,4 +37,4 @@ returns c =
     let none = none_of s.batch (sym c.if-is_some.ensures) in
     rw (← c.self.view_is, none, c.replace.ensures.after)
     (begin_done s.margin s.roads (items s.paths) _ s.searches.bounds (rw none at c.self.invariant) (empty c) _ _
-    (ap (λ es. replies.Paths (map entry_of es)) c.new-4.ensures.items))
+    (rw c.new-4.ensures.items))

@@ -1,44 +1,14 @@
-use Rattle.olr_register.proofs.Common.{◌≡◌, true, false, Some, None, Ok, List, map, length, refl, sym, ap, ◌∙◌, subst}
-use Rattle.olr_register.proofs.Common.{ne_eqb, map_of, map_before, Named, Content, Commit, IsContent, ByState, may_want}
-use Rattle.olr_register.proofs.Common.{items, all_named, under_overlay, nodes_of, lines_of, Registered}
-use Rattle.olr_register.proofs.Common.{content_on, batch_of, Lacks_memory, Affects, AreGiven, Batch, Bool, Change, Item}
-use Rattle.olr_register.proofs.Common.{Map, Margin, all_lines, all_nodes, to_renew, has, held_of, under_batch, ℕ}
+use Rattle.olr_register.proofs.Common.{No_memory, ◌≡◌, true, false, Some, None, Ok, map, length, refl, ap, ◌∙◌, ne_eqb}
+use Rattle.olr_register.proofs.Common.{map_of, map_before, Content, Commit, ByState, may_want, items, under_overlay}
+use Rattle.olr_register.proofs.Common.{nodes_of, lines_of, Registered, content_on, batch_of, Lacks_memory, raised_work}
 use Rattle.olr_register.proofs.BatchSteps.{right_count, renewed_content, renewed_reply}
-use Rattle.olr_register.proofs.Counting.{counted_all, counted_changes, rise_on}
+use Rattle.olr_register.proofs.Counting.{counted_held, rise_on}
 use Rattle.olr_register.proofs.Noted.{can_commit, can_renew_batch}
 use Rattle.olr_register.proofs.Outcomes.{answered_counted, answered_refused, Accepts}
 use Rattle.olr_register.proofs.Renewed.{remade_made}
 use Rattle.olr_register.proofs.States.{state, of_parts, in_states, right_as}
-use Rattle.olr_commands.specs.declared.fault.CommandFault.TheVariants as rust
 use Rattle.olr_commands.specs.declared.reply.Reply.TheVariants as reply
-use Rattle.olr_route.specs.Counts.{raised_work}
-use Rattle.olr_commands.specs.Counts.{CountIs}
-use Rattle.olr_renewal.specs.Changes.{IsAffected}
-use Rattle.olr_register.specs.Contents.{KeepsMargin}
 use Rattle.olr_register.proofs.register.Register.commit.Goals as goal
-
--- the affected paths, by the results of the batch's list: if the margin was set, all of them
-counted_held : (g : Margin) (M : Map) (is : List Item) (b : Batch) (xs : List Change) → KeepsMargin g b →
-    ((v : ℕ) → has (nodes_of b.touched) v ≡ has (all_nodes (content_on g M is) xs) v) →
-    ((x : ℕ) → has (lines_of b.touched) x ≡ has (all_lines xs) x) → AreGiven xs (map held_of (under_batch is b)) →
-    (n : ℕ) → CountIs (IsAffected b.margin M (nodes_of b.touched) (lines_of b.touched)) (under_batch is b) n →
-    CountIs (Affects (content_on g M is) xs) (all_named (under_batch is b)) n
-counted_held g M is b xs same nodes lines given n count = by b.all refl given count where
-  us : List Item
-  us = under_overlay is b.overlay
-
-  c : Content
-  c = content_on g M is
-
-  by : (all : Bool) → b.all ≡ all → AreGiven xs (map held_of (to_renew all us)) →
-      CountIs (IsAffected b.margin M (nodes_of b.touched) (lines_of b.touched)) (to_renew all us) n →
-      CountIs (Affects c xs) (all_named (to_renew all us)) n
-  by true some given count =
-      counted_all b.margin M (nodes_of b.touched) (lines_of b.touched) c xs us n count given
-  by false none given count =
-      counted_changes c xs (nodes_of b.touched) (lines_of b.touched) nodes lines us n
-      (subst (λ (h : Margin). CountIs (IsAffected h M (nodes_of b.touched) (lines_of b.touched)) us n) (same none) count)
-      given (all_named us) refl
 
 pub returns-in_default : goal.returns-in_default
 returns-in_default c =
@@ -46,7 +16,7 @@ returns-in_default c =
 
 pub returns-then-batch-count : goal.returns-then-batch-count
 returns-then-batch-count c =
-    rw (← c.self.view_is, c.in-Some.is) (answered_refused _ _ (Commit c.args.count) _ rust.CountDiffers refl refl
+    rw (← c.self.view_is, c.in-Some.is) (answered_refused _ _ (Commit c.args.count) _ _ refl refl
     (λ xs i. ByState (rw (ne_eqb (length xs) c.args.count (λ h. c.if-batch-count.true (i.count ∙ h))))))
 
 pub renew-requires : goal.renew-requires
@@ -59,8 +29,7 @@ invariant_of-self-2 c =
     let e = c.in_ok-renewed.ensures in
     rw c.take.ensures.after (record {
       register = record {
-        content = subst (λ (ps : List Named). IsContent (record { map = map_of s.roads; paths = ps; margin = c.in-Some.batch.margin }))
-            (sym e.renewed.named) right.register.held.sound;
+        content = rw e.renewed.named right.register.held.sound;
         made = remade_made _ (map_of s.roads) _ _ e.renewed.remade;
         held = tt;
         margin = tt;
@@ -95,8 +64,8 @@ returns c =
           renewed_reply s.roads is b js n e.renewed s.margin right.register,
         ),
       ),
-      subst (λ (ps : List Named). CountIs (Affects old xs) ps count.0) (sym e.renewed.named)
-          (counted_held s.margin old.map is b xs right.register.margin i.nodes i.lines i.given count.0 count.1),
+      rw e.renewed.named (counted_held old xs (nodes_of b.touched) (lines_of b.touched) i.nodes i.lines b.margin b.all right.register.margin
+          (under_overlay is b.overlay) count.0 count.1 i.given),
     )))
     (rise_on s.work n.work count.0 count.2) (λ off. let no : true ≡ false = off in absurd cc))
 
@@ -104,5 +73,5 @@ pub returns-in_err-renewed : goal.returns-in_err-renewed
 returns-in_err-renewed c =
     let e = c.in_err-renewed.ensures in
     rw (← c.self.view_is, c.in-Some.is, e.err)
-    (answered_refused _ _ (Commit c.args.count) _ rust.Memory refl c.from_residual.ensures.1
+    (answered_refused _ _ (Commit c.args.count) _ No_memory refl c.from_residual.ensures.1
     (λ xs i. Lacks_memory refl (ap may_want (right_count _ _ xs i c.if-batch-count.false))))

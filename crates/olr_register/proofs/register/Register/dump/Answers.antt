@@ -1,18 +1,14 @@
-use Rattle.olr_register.proofs.Common.{refl, sym, list_all, and_parts, map_of, is_name, is_recordable_map}
-use Rattle.olr_register.proofs.Common.{Dump, items, all_named, ByState, No_memory}
-use Rattle.olr_commands.specs.Reply.{Dumped, Lacks}
+use Rattle.olr_register.proofs.Common.{refl, sym, list_all, and_parts, map_of, is_name, is_recordable_map, items}
+use Rattle.olr_register.proofs.Common.{all_named, ByState, No_memory, Lacks_memory, Dumped}
 use Rattle.olr_register.proofs.WithoutBatch.{open_refused, shut_answered, shut_refused}
-use Rattle.olr_commands.specs.declared.reply.Reply.TheVariants as reply
 use Rattle.olr_register.proofs.register.Register.dump.Goals as goal
 
 pub returns-then-is_some : goal.returns-then-is_some
-returns-then-is_some c =
-    rw (← c.self.view_is) (open_refused c.self.inside Dump _ (sym c.if-is_some.ensures) (λ d xs. refl))
+returns-then-is_some c = open_refused c.self.inside c.self.view_is c.if-is_some.ensures (λ d xs. refl)
 
 pub returns-then-not-is_recordable : goal.returns-then-not-is_recordable
 returns-then-not-is_recordable c =
-    rw (← c.self.view_is) (shut_refused c.self.inside Dump (sym c.if-is_some.ensures) _ _ refl
-    (ByState (rw (← c.if-not-is_recordable.ensures))))
+    shut_refused c.self.inside c.self.view_is c.if-is_some.ensures _ refl (ByState (rw (← c.if-not-is_recordable.ensures)))
 
 pub dump_of-requires : goal.dump_of-requires
 dump_of-requires c =
@@ -24,12 +20,10 @@ dump_of-requires c =
 
 pub returns : goal.returns
 returns c =
-    rw (← c.self.view_is) (shut_answered c.self.inside Dump (sym c.if-is_some.ensures)
-    (reply.Dump c.in_ok-dump_of.field-0) refl
-    (rw (← c.if-not-is_recordable.ensures), λ i. Dumped (c.in_ok-dump_of.ensures.0 i) (c.in_ok-dump_of.ensures.1 i)))
+    shut_answered c.self.inside c.self.view_is c.if-is_some.ensures refl
+    (rw (← c.if-not-is_recordable.ensures), λ i. Dumped (c.in_ok-dump_of.ensures.0 i) (c.in_ok-dump_of.ensures.1 i))
 
 pub returns-in_err-dump_of : goal.returns-in_err-dump_of
 returns-in_err-dump_of c =
-    rw (← c.self.view_is) (shut_refused c.self.inside Dump (sym c.if-is_some.ensures)
-    _ No_memory c.from_residual.ensures.1
-    (Lacks refl (rw (← c.if-not-is_recordable.ensures))))
+    shut_refused c.self.inside c.self.view_is c.if-is_some.ensures No_memory c.from_residual.ensures.1
+    (Lacks_memory refl (rw (← c.if-not-is_recordable.ensures)))

@@ -1,5 +1,5 @@
 use Rattle.olr_register.proofs.Common.{ap, sym, ◌∙◌, items, slice_get}
-use Rattle.olr_register.proofs.Asking.{names_of_all}
+use Rattle.olr_register.proofs.Listed.{names_of_all}
 use Rattle.olr_register.proofs.register.Register.name_at.Goals as goal
 
 pub returns : goal.returns

@@ -1,5 +1,4 @@
-use Rattle.olr_register.proofs.Common.{[], None, content_on}
-use Rattle.olr_commands.proofs.HistoryLemmas.{start_sound}
+use Rattle.olr_register.proofs.Common.{[], None, content_on, start_sound}
 use Rattle.olr_register.proofs.States.{register_of}
 use Rattle.olr_register.proofs.register.Register.new.Goals as goal
 

@@ -1,5 +1,4 @@
-use Rattle.olr_register.proofs.Common.{sym, subst, items, content_on, map_kept}
-use Rattle.olr_register.specs.Registered.{PublishedWhole}
+use Rattle.olr_register.proofs.Common.{sym, subst, items, content_on, map_kept, PublishedWhole}
 use Rattle.olr_register.proofs.Replies.{made_found}
 use Rattle.olr_register.proofs.register.Register.published_of.Goals as goal
 

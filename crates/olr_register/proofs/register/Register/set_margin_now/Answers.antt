@@ -1,6 +1,6 @@
-use Rattle.olr_register.proofs.Common.{refl, items, No_memory, Set_margin}
+use Rattle.olr_register.proofs.Common.{refl, items, No_memory, Lacks_memory}
 use Rattle.olr_register.proofs.Bounded.{bounded_unknown}
-use Rattle.olr_register.proofs.Singles.{refused_now, same_right, margin_requires, margin_right, margin_done, margin_lacks}
+use Rattle.olr_register.proofs.Singles.{refused_now, same_right, margin_requires, margin_right, margin_done}
 use Rattle.olr_register.proofs.register.Register.set_margin_now.Goals as goal
 
 pub renew-requires : goal.renew-requires
@@ -11,27 +11,24 @@ renew-requires c =
 pub invariant_of-self : goal.invariant_of-self
 invariant_of-self c =
     let e = c.in_err-renewed.ensures in
-    same_right c.self.inside c.self.view_is c.requires c.self.invariant c.self.inside.roads _ _ refl e.err
-    (bounded_unknown _ _ _ _ e.unknown)
+    same_right c.self.inside c.self.view_is c.requires c.self.invariant refl e.err (bounded_unknown e.unknown)
 
 pub returns-in_err-renewed : goal.returns-in_err-renewed
 returns-in_err-renewed c =
-    refused_now c.self.inside c.self.view_is c.requires (Set_margin c.args.margin) _ _ No_memory
-    (rw c.in_err-renewed.ensures.err c.self.view_is) c.from_residual.ensures.1 (margin_lacks _ c.args.margin)
+    refused_now c.self.inside c.self.view_is c.requires No_memory (rw c.in_err-renewed.ensures.err c.self.view_is)
+    c.from_residual.ensures.1 (Lacks_memory refl refl)
 
 pub invariant_of-self-2 : goal.invariant_of-self-2
 invariant_of-self-2 c =
     let r = c.self.inside in
     let e = c.in_ok-renewed.ensures in
-    margin_right r c.self.view_is c.requires c.self.invariant c.args.margin c.routes-routes.ensures.margin c.clear.new.self
-    c.clear.ensures.changed (items c.renew.new.paths) c.in_ok-renewed.renewed
-    (rw (c.new-none.ensures (items r.paths)) at e.renewed) _ e.bounded
+    margin_right r c.self.view_is c.requires c.self.invariant c.routes-routes.ensures.margin c.clear.ensures.changed
+    (rw (c.new-none.ensures (items r.paths)) at e.renewed) e.bounded
 
 pub returns : goal.returns
 returns c =
     let r = c.self.inside in
     let e = c.in_ok-renewed.ensures in
     rw c.plus-self-inside.ensures
-    (margin_done r c.self.view_is c.requires c.self.invariant c.args.margin c.routes-routes.ensures.margin c.clear.new.self
-    c.clear.ensures.changed (items c.renew.new.paths) c.in_ok-renewed.renewed
-    (rw (c.new-none.ensures (items r.paths)) at e.renewed) _ refl)
+    (margin_done r c.self.view_is c.requires c.self.invariant c.routes-routes.ensures.margin c.clear.ensures.changed
+    (rw (c.new-none.ensures (items r.paths)) at e.renewed) refl)

@@ -1,5 +1,5 @@
-use Rattle.olr_register.proofs.Common.{◌∷◌, [], List, refl, sym, ap, ◌∙◌, entry_of, Entry, items, map_kept, map}
-use Rattle.olr_commands.specs.Reply.{ByState, Lacks}
+use Rattle.olr_register.proofs.Common.{refl, sym, items, map_kept, ByState}
+use Rattle.olr_commands.specs.Reply.{Lacks}
 use Rattle.olr_commands.specs.declared.fault.CommandFault.TheVariants.{Memory}
 use Rattle.olr_register.proofs.Asking.{some_answer_in}
 use Rattle.olr_register.proofs.Outcomes.{answered_same, refused_same}
@@ -31,7 +31,7 @@ returns c =
       (
         returned.0,
         (answer_held r.margin (map_kept r.roads r.batch) (items r.paths) h.content h.made c.args.name.now returned.0).1 returned.1,
-        ap (λ (es : List Entry). map entry_of es) c.in_ok-one_entry.ensures ∙ ap (λ e. e ∷ []) returned.2,
+        rw (c.in_ok-one_entry.ensures, returned.2),
       ),
     )))
 
