@@ -1,6 +1,7 @@
+use made_maps::{Bend, node, place as at_degrees, shape};
 use olr_bearing::{Ends, Scaled, bearing_back, bearing_out, place, sector};
 use olr_coords::Coord;
-use olr_map::{Line, NodeId, Shape};
+use olr_map::Line;
 use std::alloc::{AllocError, Global};
 use std::process::Abort;
 use std::test::Fail;
@@ -10,11 +11,6 @@ const GREATEST_LAT: i64 = 29_491_167_232_000;
 /// The greatest part of a direction, 10^31.
 const GREATEST_PART: i128 = 10_000_000_000_000_000_000_000_000_000_000;
 
-/// A coordinate, in 10^-5 degree.
-fn at_degrees(rt: &impl Abort, lon: i32, lat: i32) -> Coord {
-    at_units(rt, i64::from(lon) * 3_276_800, i64::from(lat) * 3_276_800)
-}
-
 fn at_units(rt: &impl Abort, lon: i64, lat: i64) -> Coord {
     Coord::new(lon, lat).expect(rt, "a place on the earth")
 }
@@ -23,27 +19,15 @@ fn ends_of(from: Coord, to: Coord) -> Ends {
     Ends { from, to }
 }
 
-/// A shape point at `at` decimetres along its line, with longitude and latitude in 10^-5 degree.
-fn shape(rt: &impl Abort, at: u32, lon: i32, lat: i32) -> Shape {
-    Shape {
-        at,
-        place: at_degrees(rt, lon, lat),
-    }
-}
-
-fn node(rt: &impl Abort, number: u32) -> NodeId {
-    NodeId::new(number).expect(rt, "a number from 1")
-}
-
-/// A line of this length with these shape points.
-fn line(rt: &impl Abort, alloc: Global, len: u32, points: &[Shape]) -> Result<Line, AllocError> {
+/// A line of this length with these bends.
+fn line(alloc: Global, len: u32, bends: &[Bend]) -> Result<Line, AllocError> {
     Ok(Line {
-        from: node(rt, 1),
-        to: node(rt, 2),
+        from: node(1),
+        to: node(2),
         frc: 3,
         fow: 3,
         len,
-        shape: Vec::from_slice(alloc, points)?,
+        shape: shape(alloc, bends)?,
     })
 }
 
@@ -136,8 +120,8 @@ fn expect_bearings(rt: &impl Abort, line: &Line, ends: &Ends, wanted: (u8, u8)) 
 /// A line of 1000 dm to the east, on the equator.
 #[test]
 fn places_and_bearings(rt: HostRuntime) -> Result<(), Fail> {
-    let line = line(&rt, rt.alloc(), 1000, &[])?;
-    let ends = ends_of(at_degrees(&rt, 0, 0), at_degrees(&rt, 100, 0));
+    let line = line(rt.alloc(), 1000, &[])?;
+    let ends = ends_of(at_degrees(0, 0), at_degrees(100, 0));
     same!(&rt; coord_at(&rt, &line, &ends, 200), (65_536_000_000, 0, 1000));
     same!(&rt; coord_at(&rt, &line, &ends, 0).0, 0);
     same!(&rt; coord_at(&rt, &line, &ends, 1000).0, 327_680_000_000);
@@ -148,11 +132,11 @@ fn places_and_bearings(rt: HostRuntime) -> Result<(), Fail> {
 /// At latitude 60 the cosine is a half, so that twice as far to the east as to the north is north-east.
 #[test]
 fn bearings_at_latitude_60(rt: HostRuntime) -> Result<(), Fail> {
-    let line = line(&rt, rt.alloc(), 700, &[])?;
-    let from = at_degrees(&rt, 0, 6_000_000);
-    let half_way = ends_of(from, at_degrees(&rt, 100, 6_000_050));
+    let line = line(rt.alloc(), 700, &[])?;
+    let from = at_degrees(0, 6_000_000);
+    let half_way = ends_of(from, at_degrees(100, 6_000_050));
     expect_bearings(&rt, &line, &half_way, (4, 20));
-    let steeper = ends_of(from, at_degrees(&rt, 100, 6_000_051));
+    let steeper = ends_of(from, at_degrees(100, 6_000_051));
     same!(&rt; out_of(&rt, &line, &steeper), 3);
     Ok(())
 }
@@ -162,13 +146,13 @@ fn bearings_at_latitude_60(rt: HostRuntime) -> Result<(), Fail> {
 /// The bearing back is that on a line that leads east and then north.
 #[test]
 fn bearings_of_200_dm(rt: HostRuntime) -> Result<(), Fail> {
-    let ends = ends_of(at_degrees(&rt, 0, 0), at_degrees(&rt, 50, 50));
-    let north_first = shape(&rt, 100, 0, 50);
-    let east_first = shape(&rt, 100, 50, 0);
+    let ends = ends_of(at_degrees(0, 0), at_degrees(50, 50));
+    let north_first = (100, 0, 50);
+    let east_first = (100, 50, 0);
     for (len, out, back) in [(199, 4, 20), (200, 4, 20), (201, 3, 19)] {
-        let leaving = line(&rt, rt.alloc(), len, &[north_first])?;
+        let leaving = line(rt.alloc(), len, &[north_first])?;
         assert_eq!(rt; out_of(&rt, &leaving, &ends), out, "of {len} dm");
-        let arriving = line(&rt, rt.alloc(), len, &[east_first])?;
+        let arriving = line(rt.alloc(), len, &[east_first])?;
         assert_eq!(rt; back_of(&rt, &arriving, &ends), back, "of {len} dm");
     }
     Ok(())
@@ -177,9 +161,9 @@ fn bearings_of_200_dm(rt: HostRuntime) -> Result<(), Fail> {
 /// A shape point belongs to the interval before it.
 #[test]
 fn shape_point_at_200_dm(rt: HostRuntime) -> Result<(), Fail> {
-    let ends = ends_of(at_degrees(&rt, 0, 0), at_degrees(&rt, 300, 0));
-    let corner = shape(&rt, 200, 0, -100);
-    let line = line(&rt, rt.alloc(), 500, &[corner])?;
+    let ends = ends_of(at_degrees(0, 0), at_degrees(300, 0));
+    let corner = (200, 0, -100);
+    let line = line(rt.alloc(), 500, &[corner])?;
     same!(&rt; coord_at(&rt, &line, &ends, 200), (0, -65_536_000_000, 200));
     same!(&rt; coord_at(&rt, &line, &ends, 201), (983_040_000, -97_976_320_000, 300));
     same!(&rt; out_of(&rt, &line, &ends), 16);
@@ -189,7 +173,7 @@ fn shape_point_at_200_dm(rt: HostRuntime) -> Result<(), Fail> {
 /// At 89.9999 degrees north and south a degree of longitude is some 56,250 times as short as one of latitude.
 #[test]
 fn bearings_near_the_poles(rt: HostRuntime) -> Result<(), Fail> {
-    let line = line(&rt, rt.alloc(), 10, &[])?;
+    let line = line(rt.alloc(), 10, &[])?;
     for (lon, south, north) in [(56_250, 12, 3), (56_251, 11, 4)] {
         let from_north = ends_of(
             at_units(&rt, 0, GREATEST_LAT),
@@ -208,7 +192,7 @@ fn bearings_near_the_poles(rt: HostRuntime) -> Result<(), Fail> {
 /// The longest and widest lines: from pole to pole, and round the earth.
 #[test]
 fn bearings_of_the_widest_lines(rt: HostRuntime) -> Result<(), Fail> {
-    let line = line(&rt, rt.alloc(), 1_000_000, &[])?;
+    let line = line(rt.alloc(), 1_000_000, &[])?;
     let least_lon = -58_982_400_000_000;
     let greatest_lon = 58_982_367_232_000;
     let north = ends_of(
@@ -224,10 +208,10 @@ fn bearings_of_the_widest_lines(rt: HostRuntime) -> Result<(), Fail> {
 /// A line that ends at the coordinate where it begins.
 #[test]
 fn bearing_of_no_direction(rt: HostRuntime) -> Result<(), Fail> {
-    let line = line(&rt, rt.alloc(), 100, &[])?;
+    let line = line(rt.alloc(), 100, &[])?;
     let ends = ends_of(
-        at_degrees(&rt, 612_683, 4_960_852),
-        at_degrees(&rt, 612_683, 4_960_852),
+        at_degrees(612_683, 4_960_852),
+        at_degrees(612_683, 4_960_852),
     );
     expect_bearings(&rt, &line, &ends, (0, 0));
     Ok(())
@@ -236,20 +220,20 @@ fn bearing_of_no_direction(rt: HostRuntime) -> Result<(), Fail> {
 /// The bearings out of two lines and the bearing back of a third, which are joined.
 #[test]
 fn bearings_of_three_points(rt: HostRuntime) -> Result<(), Fail> {
-    let first = at_degrees(&rt, 612_683, 4_960_852);
-    let second = at_degrees(&rt, 612_838, 4_960_399);
-    let third = at_degrees(&rt, 612_790, 4_960_350);
-    let last = at_degrees(&rt, 612_817, 4_960_306);
-    let near_first = shape(&rt, 200, 612_701, 4_960_838);
-    let before_second = shape(&rt, 5410, 612_820, 4_960_413);
-    let after_second = shape(&rt, 200, 612_820, 4_960_389);
-    let before_last = shape(&rt, 540, 612_792, 4_960_311);
+    let first = at_degrees(612_683, 4_960_852);
+    let second = at_degrees(612_838, 4_960_399);
+    let third = at_degrees(612_790, 4_960_350);
+    let last = at_degrees(612_817, 4_960_306);
+    let near_first = (200, 612_701, 4_960_838);
+    let before_second = (5410, 612_820, 4_960_413);
+    let after_second = (200, 612_820, 4_960_389);
+    let before_last = (540, 612_792, 4_960_311);
     let to_second = ends_of(first, second);
     let to_third = ends_of(second, third);
     let to_last = ends_of(third, last);
-    let line_to_second = line(&rt, rt.alloc(), 5610, &[near_first, before_second])?;
-    let line_to_third = line(&rt, rt.alloc(), 2000, &[after_second])?;
-    let line_to_last = line(&rt, rt.alloc(), 740, &[before_last])?;
+    let line_to_second = line(rt.alloc(), 5610, &[near_first, before_second])?;
+    let line_to_third = line(rt.alloc(), 2000, &[after_second])?;
+    let line_to_last = line(rt.alloc(), 740, &[before_last])?;
     same!(&rt; out_of(&rt, &line_to_second, &to_second), 12);
     same!(&rt; out_of(&rt, &line_to_third, &to_third), 20);
     same!(&rt; back_of(&rt, &line_to_last, &to_last), 25);

@@ -1,6 +1,7 @@
 //! Distance bounds on small maps, maintained under edits.
 
-use made_maps::{Plain, STRAIGHT, line, make, new_node, node, other_line, plain_line, plain_map};
+use super::maps::edit;
+use made_maps::{Plain, STRAIGHT, line, new_node, node, other_line, plain_line, plain_map};
 use olr_map::{Edit, RoadMap};
 use olr_renewal::DistanceBounds;
 use olr_route::LEG_LIMIT;
@@ -18,12 +19,6 @@ const ROAD: &[Plain] = &[
 /// The map of the road, with node 6 apart from it.
 fn road(rt: &impl Abort, alloc: Global) -> RoadMap {
     plain_map(alloc, 6, ROAD).expect(rt, "a map")
-}
-
-/// Makes an edit, and discards its undo record.
-fn edit(rt: &impl Abort, map: &mut RoadMap, edit: Edit) {
-    let made = make(map, edit);
-    assert!(rt; made.is_ok());
 }
 
 /// Asserts at which of the nodes 1 to 6 there is a bound, or a query begins.

@@ -3,10 +3,11 @@
 ghost use Rattle.std.specs.Prelude.{IsTrue, IfOk};
 ghost use Rattle.olr_map.specs.RoadMaps.{CanUndo, CanUndoAll};
 
+use super::maps::edit;
 use crate::tests::same;
 use made_maps::{
-    Bend, FIRST, Road, STRAIGHT, WORKED, difference, line, make, map_of, new_node, next, node,
-    place, shape,
+    Bend, FIRST, Road, STRAIGHT, WORKED, difference, line, map_of, new_node, next, node, place,
+    shape,
 };
 use olr_map::{
     Edit, EditFault, EditPlan, Footprint, Line, LineEnd, LineId, MapRead, NodeId, RoadMap, Undo,
@@ -50,11 +51,6 @@ fn new_line(rt: &impl Abort, alloc: Global, road: Road) -> Edit {
 /// The edit that sets another length and shape, class 4 and form 3 for a line.
 fn other_line(rt: &impl Abort, alloc: Global, number: u32, len: u32, bends: &[Bend]) -> Edit {
     made_maps::other_line(alloc, number, len, bends).expect(rt, "memory")
-}
-
-/// Makes an edit, which the map must accept, and discards its undo record.
-fn take(rt: &impl Abort, map: &mut RoadMap, edit: Edit) {
-    make(map, edit).expect(rt, "an edit that is taken");
 }
 
 /// The worked map: lines 10 from 1 to 2, 20 and 99 from 2 to 3, 30 from 3 to 4.
@@ -206,8 +202,8 @@ fn lines_at_their_limits(rt: HostRuntime) -> Result<(), Fail> {
 fn edits_are_made_and_undone(rt: HostRuntime) -> Result<(), Fail> {
     let alloc = rt.alloc();
     let mut map = base(&rt, alloc);
-    take(&rt, &mut map, Edit::DropLine(line(10)));
-    take(&rt, &mut map, Edit::DropNode(node(1)));
+    edit(&rt, &mut map, Edit::DropLine(line(10)));
+    edit(&rt, &mut map, Edit::DropNode(node(1)));
     match map.apply(new_line(&rt, alloc, FIRST)) {
         Ok(undo) => {
             map.keep(undo);
@@ -215,12 +211,12 @@ fn edits_are_made_and_undone(rt: HostRuntime) -> Result<(), Fail> {
         }
         Err(fault) => same!(&rt; fault, EditFault::NoNode),
     }
-    take(
+    edit(
         &rt,
         &mut map,
         Edit::AddNode(node(1), place(612_683, 4_960_852)),
     );
-    take(&rt, &mut map, new_line(&rt, alloc, FIRST));
+    edit(&rt, &mut map, new_line(&rt, alloc, FIRST));
     assert_alike(&rt, &map, &base(&rt, alloc));
     Ok(())
 }
@@ -334,7 +330,7 @@ fn assert_sides_of_second(rt: &impl Abort, map: &RoadMap) {
 fn far_ends_are_beside_lines(rt: HostRuntime) {
     let mut map = base(&rt, rt.alloc());
     let back = new_line(&rt, rt.alloc(), (7, 3, 2, 3, 2, 700, STRAIGHT));
-    take(&rt, &mut map, back);
+    edit(&rt, &mut map, back);
     assert_lines(&rt, &map, 2, &[20, 99], &[7, 10]);
     assert_sides_of_second(&rt, &map);
     same!(&rt; map.slot_of(node(77)), None);

@@ -1,6 +1,7 @@
 //! Maps on which location reference points (LRPs) and coverage queries were worked out by hand, and paths on them.
 
-use made_maps::{FIRST, PLACES, Place, Plan, SECOND, STRAIGHT, THIRD, lines};
+use made_maps::{FIRST, PLACES, Place, Plan, SECOND, STRAIGHT, THIRD, lines, make};
+use olr_map::{Edit, RoadMap};
 use olr_refs::Path;
 use std::alloc::Global;
 use std::process::Abort;
@@ -57,4 +58,9 @@ pub fn path_of(rt: &impl Abort, alloc: Global, plain: PlainPath) -> Path {
     let (numbers, pos, neg) = plain;
     let lines = lines(alloc, numbers).expect(rt, "memory");
     Path::new(alloc, lines, pos, neg).expect(rt, "a path")
+}
+
+/// Makes an edit, which the map must accept, and discards its undo record.
+pub fn edit(rt: &impl Abort, map: &mut RoadMap, edit: Edit) {
+    make(map, edit).expect(rt, "an edit that is taken");
 }

@@ -1,12 +1,11 @@
 //! Encodings with a margin, worked out by hand.
 
 use super::maps::{PlainPath, path_of};
-use super::queries::{ROAD, Seen, queries_of, seen};
+use super::queries::{ROAD, Seen, expect_footprint, queries_of};
 use made_maps::{FIRST, PLACES, Plan, SECOND, STRAIGHT, THIRD, map_of};
 use olr_binary::to_text;
-use olr_map::{Footprint, RoadMap};
-use olr_refs::{Answer, Encoding, Margin, Path, encode, refer_with};
-use olr_route::{Dijkstra, Work};
+use olr_refs::{Answer, Margin, encode};
+use olr_route::Dijkstra;
 use std::alloc::Global;
 use std::process::Abort;
 use std::test::Fail;
@@ -124,25 +123,6 @@ fn expect_text(
     Ok(())
 }
 
-/// Asserts that a path's answer and footprint with a margin are those of its encoding.
-fn expect_referred(
-    rt: &impl Abort,
-    alloc: Global,
-    map: &RoadMap,
-    path: &Path,
-    margin: Margin,
-    encoding: &Encoding,
-    text: &'static str,
-) -> Result<(), Fail> {
-    let mut work = Work::default();
-    let (answer, found) = refer_with(alloc, map, path, margin, &mut work)?;
-    let wanted: Footprint = seen(alloc, map, encoding)?;
-    expect_text(rt, alloc, &answer, text)?;
-    assert_eq!(rt; found.as_slice(), wanted.as_slice(), "the footprint");
-    assert_eq!(rt; work, encoding.work, "the work");
-    Ok(())
-}
-
 /// Asserts the reference and the coverage queries of a path on the map of a plan, with a margin, and its footprint.
 fn expect_with_margin(
     rt: &impl Abort,
@@ -160,7 +140,8 @@ fn expect_with_margin(
     expect_text(rt, alloc, &encoding.answer, text)?;
     let found = queries_of(alloc, &encoding).expect(rt, "memory");
     assert_eq!(rt; found.as_slice(), queries, "of {routes} and {classes}");
-    expect_referred(rt, alloc, &map, &path, margin, &encoding, text)
+    let answer = expect_footprint(rt, alloc, &map, &path, margin, &encoding)?;
+    expect_text(rt, alloc, &answer, text)
 }
 
 #[test]

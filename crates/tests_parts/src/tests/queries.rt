@@ -1,12 +1,11 @@
 //! Traversed nodes and coverage queries of encodings, worked out by hand, and the footprints that they make up.
 
-use super::maps::{BARE, LONG, LONG_BARE, PASSING, PlainPath, path_of};
+use super::maps::{BARE, LONG, LONG_BARE, PASSING, PlainPath, edit, path_of};
 use made_maps::{
-    FIRST, PLACES, Place, Plan, SECOND, SIDE, STRAIGHT, THIRD, WORKED, make, map_of, new_node,
-    plain_line,
+    FIRST, PLACES, Place, Plan, SECOND, SIDE, STRAIGHT, THIRD, WORKED, map_of, new_node, plain_line,
 };
 use olr_map::{Edit, Footprint, RoadMap};
-use olr_refs::{Encoding, Margin, Path, encode, refer};
+use olr_refs::{Answer, Encoding, Margin, Path, encode, refer_with};
 use olr_route::{Dijkstra, Direction, GREATEST_LIMIT, Work, settled_search};
 use std::alloc::{AllocError, Global};
 use std::process::Abort;
@@ -20,7 +19,7 @@ pub type Seen = (u32, u32, u32);
 type Wanted = (&'static [u32], &'static [Seen]);
 
 /// The traversed nodes, and those that a route of at most the length of a coverage query reaches from its start.
-pub fn seen(alloc: Global, map: &RoadMap, encoding: &Encoding) -> Result<Footprint, Fail> {
+fn seen(alloc: Global, map: &RoadMap, encoding: &Encoding) -> Result<Footprint, Fail> {
     let mut nodes = Footprint::new(alloc);
     nodes.note_all(encoding.traversed.as_slice())?;
     for query in &encoding.queries {
@@ -34,21 +33,22 @@ pub fn seen(alloc: Global, map: &RoadMap, encoding: &Encoding) -> Result<Footpri
     Ok(nodes)
 }
 
-/// Asserts that the traversed nodes of an encoding and its queries make up the footprint of the path, and that finding it takes
-/// the work of the encoding.
-fn expect_footprint(
+/// The answer of a path with a margin, by `refer_with`. Asserts that the traversed nodes of its encoding and its queries make
+/// up the footprint, and that finding it takes the work of the encoding.
+pub fn expect_footprint(
     rt: &impl Abort,
     alloc: Global,
     map: &RoadMap,
     path: &Path,
+    margin: Margin,
     encoding: &Encoding,
-) -> Result<(), Fail> {
+) -> Result<Answer, Fail> {
     let wanted = seen(alloc, map, encoding)?;
     let mut work = Work::default();
-    let (_, found) = refer(alloc, map, path, &mut work)?;
+    let (answer, found) = refer_with(alloc, map, path, margin, &mut work)?;
     assert_eq!(rt; found.as_slice(), wanted.as_slice(), "the footprint");
     assert_eq!(rt; work, encoding.work, "the work");
-    Ok(())
+    Ok(answer)
 }
 
 /// The numbers of the traversed nodes of an encoding.
@@ -101,7 +101,8 @@ fn expect_queries(
     let searches = encoding.queries.len() as u64;
     let counted = (encoding.work.encodings, encoding.work.searches);
     assert_eq!(rt; counted, (1, searches), "of {plain:?}");
-    expect_footprint(rt, alloc, map, &path, &encoding)
+    let _ = expect_footprint(rt, alloc, map, &path, Margin::none(), &encoding)?;
+    Ok(())
 }
 
 /// The worked map with a side road as long as the line beside it.
@@ -214,12 +215,6 @@ fn traversed_nodes_and_queries(rt: HostRuntime) -> Result<(), Fail> {
     Ok(())
 }
 
-/// Makes an edit of a grid, and discards its undo record.
-fn put(rt: &impl Abort, map: &mut RoadMap, edit: Edit) {
-    let made = make(map, edit);
-    assert!(rt; made.is_ok());
-}
-
 /// The edit that adds a line between two neighbours of the grid.
 fn road(alloc: Global, number: u32, from: u32, to: u32) -> Edit {
     plain_line(alloc, (number, from, to, 40_000))
@@ -231,7 +226,7 @@ pub fn grid_map(rt: &impl Abort, alloc: Global) -> RoadMap {
     let mut map = RoadMap::new(alloc);
     for node in 0..25 {
         let (column, row) = ((node % 5) as i32, (node / 5) as i32);
-        put(
+        edit(
             rt,
             &mut map,
             new_node((node + 1, 1000 * column, 1000 * row)),
@@ -239,12 +234,12 @@ pub fn grid_map(rt: &impl Abort, alloc: Global) -> RoadMap {
     }
     for node in 1..26 {
         if node % 5 != 0 {
-            put(rt, &mut map, road(alloc, 100 + node, node, node + 1));
-            put(rt, &mut map, road(alloc, 201 + node, node + 1, node));
+            edit(rt, &mut map, road(alloc, 100 + node, node, node + 1));
+            edit(rt, &mut map, road(alloc, 201 + node, node + 1, node));
         }
         if node <= 20 {
-            put(rt, &mut map, road(alloc, 300 + node, node, node + 5));
-            put(rt, &mut map, road(alloc, 405 + node, node + 5, node));
+            edit(rt, &mut map, road(alloc, 300 + node, node, node + 5));
+            edit(rt, &mut map, road(alloc, 405 + node, node + 5, node));
         }
     }
     map
