@@ -5,28 +5,4 @@
 #![tactic(auto)]
 
 #[cfg(test)]
-mod batches;
-#[cfg(test)]
-mod changes;
-#[cfg(test)]
-mod commands;
-#[cfg(test)]
-mod dumps;
-#[cfg(test)]
-mod kept;
-#[cfg(test)]
-mod margins;
-#[cfg(test)]
-mod pair;
-#[cfg(test)]
-mod path_list;
-#[cfg(test)]
-mod paths;
-#[cfg(test)]
-mod questions;
-#[cfg(test)]
-mod recomputed;
-#[cfg(test)]
-mod twin;
-#[cfg(test)]
-mod worked;
+mod tests;

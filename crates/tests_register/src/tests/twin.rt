@@ -1,6 +1,6 @@
 //! A map and named paths that are changed by the same commands as a register, and encoded from scratch.
 
-use crate::changes::{ChangedLine, changed_line, is_clear};
+use super::changes::{ChangedLine, changed_line, is_clear};
 use olr_commands::Command;
 use olr_map::{Edit, Footprint, LineId, MapRead, NodeId, RoadMap, judge};
 use olr_refs::{CoverageQuery, Encoding, Margin, Path, encode, refer_with};

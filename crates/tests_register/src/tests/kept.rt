@@ -1,6 +1,6 @@
 //! Answers that stay after an edit near their path, coverage queries that are not searched again, and footprints.
 
-use crate::worked::{
+use super::worked::{
     TEXT, add, edits, ends, expect_encodings, expect_reported, expect_text, holds, three_points,
 };
 use made_maps::{STRAIGHT, line, new_node, node, other_line, plain_line};

@@ -1,6 +1,6 @@
 //! Questions about the map: the records of a node and of a line with its ends, and which paths depend on nodes.
 
-use crate::worked::{add, edits, ends, expect_reported, refuses, three_points, with_finer_node};
+use super::worked::{add, edits, ends, expect_reported, refuses, three_points, with_finer_node};
 use made_maps::{line, new_node, node, plain_line};
 use olr_commands::{Command, CommandFault, Reply};
 use olr_map::{EditFault, NodeId};

@@ -2,7 +2,7 @@ use Rattle.std.proofs.Common.{sym, subst}
 use Rattle.olr_paths.specs.Items.{items}
 use Rattle.tests_register.specs.Lists.{IsRight}
 use Rattle.tests_register.proofs.RightLists.{right_drop}
-use Rattle.tests_register.proofs.path_list.without_b.Goals as goal
+use Rattle.tests_register.proofs.tests.path_list.without_b.Goals as goal
 
 pub renew_thrice-requires : goal.renew_thrice-requires
 renew_thrice-requires g c M =

@@ -1,6 +1,6 @@
 //! Sessions of records; each command is applied to a register and to its twin.
 
-use crate::pair::Pair;
+use super::pair::Pair;
 use made_maps::{RECORDS, next};
 use std::process::Abort;
 use std::test::Fail;

@@ -1,7 +1,7 @@
 //! A register and its twin.
 ghost use Rattle.std.specs.Prelude.{◌<◌, ◌≤◌};
 
-use crate::twin::{Named, Rise, Twin};
+use super::twin::{Named, Rise, Twin};
 use csv::ByteRecord;
 use made_maps::{line, next, node};
 use olr_binary::to_text;

@@ -1,6 +1,6 @@
 //! Dumps: the records of the worked map, and what no record can encode.
 
-use crate::worked::{add, ends, expect_reported, names, refuses, three_points, with_finer_node};
+use super::worked::{add, ends, expect_reported, names, refuses, three_points, with_finer_node};
 use made_maps::RECORDS;
 use olr_commands::{Command, CommandFault, Reply};
 use std::process::Abort;

@@ -1,6 +1,6 @@
 //! Margins over the worked map. The expected texts and counts do not come from the program.
 
-use crate::worked::{
+use super::worked::{
     Expected, TEXT, WITH_TEXT, ends, expect_encodings, expect_reported, expect_text, holds,
     three_points,
 };

@@ -1,6 +1,6 @@
 //! Paths on small maps: encoded when they are added, renewed by edits, and changed by batches.
 
-use crate::worked::{
+use super::worked::{
     add, change_path, drop_path, edits, ends, expect_encodings, expect_names, expect_reported,
     expect_text, holds, names, refuses,
 };

@@ -6,7 +6,7 @@ use Rattle.olr_paths.specs.Items.{items}
 use Rattle.olr_renewal.proofs.Following.{follows_self}
 use Rattle.olr_register.proofs.Noted.{noted_plan}
 use Rattle.tests_register.proofs.RightLists.{bounds_unknown, on_ok_at, if_ok_at, right_before, right_renewed}
-use Rattle.tests_register.proofs.path_list.renew.Goals as goal
+use Rattle.tests_register.proofs.tests.path_list.renew.Goals as goal
 
 pub renew_over-renewed-requires : goal.renew_over-renewed-requires
 renew_over-renewed-requires g c =

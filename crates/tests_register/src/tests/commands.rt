@@ -1,6 +1,6 @@
 //! Commands over the worked map. The expected texts and counts do not come from the program.
 
-use crate::worked::{
+use super::worked::{
     TEXT, WITH_TEXT, add, edits, ends, expect_encodings, expect_names, expect_reported,
     expect_text, names, refuses, road, three_points,
 };

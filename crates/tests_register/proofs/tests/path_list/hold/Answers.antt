@@ -3,7 +3,7 @@ use Rattle.olr_spec.specs.Extension.{Path, is_path}
 use Rattle.olr_paths.specs.Items.{items}
 use Rattle.tests_register.specs.Lists.{IsRight}
 use Rattle.tests_register.proofs.RightLists.{on_ok_at, if_ok_at, right_add}
-use Rattle.tests_register.proofs.path_list.hold.Goals as goal
+use Rattle.tests_register.proofs.tests.path_list.hold.Goals as goal
 
 pub returns : goal.returns
 returns g c M =

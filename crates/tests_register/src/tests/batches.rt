@@ -1,6 +1,6 @@
 //! Batches over the worked map. The expected texts and counts do not come from the program.
 
-use crate::worked::{
+use super::worked::{
     TEXT, WITH_TEXT, ends, expect_encodings, expect_reported, expect_text, holds, refuses, road,
     worked_edits, worked_path,
 };
