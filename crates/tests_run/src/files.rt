@@ -8,7 +8,8 @@ use std::os::unix::fs::{MetadataExt, PermissionsExt};
 use std::test::Fail;
 use std::{fs, io};
 
-type Log<'a> = LogFile<HostDisk<Unknown>, LogFolder<'a>>;
+/// A log in a file of the operating system.
+pub type Log<'a> = LogFile<HostDisk<Unknown>, LogFolder<'a>>;
 
 /// Makes an empty folder.
 fn empty_folder(rt: &HostRuntime, name: &str) -> io::Result<()> {

@@ -1,7 +1,8 @@
 ghost use Rattle.std.specs.Prelude.{⊤};
 
+use crate::files::Log;
 use olr_input::{Joined, Records};
-use olr_log::{HostDisk, LogFile, LogFolder, OpenError, Unknown};
+use olr_log::{HostDisk, LogFolder, OpenError, Unknown};
 use olr_register::Register;
 use olr_run::{Buffered, OpenLog, Room, RunFault, Status, exit_code, program, run, run_source};
 use std::alloc::Global;
@@ -395,11 +396,7 @@ impl<'a> OpenLog<HostDisk<Unknown>, LogFolder<'a>> for NoLogs {
 
     ghost refuses = { λ _ _ _ _. ⊤ };
 
-    fn open(
-        &self,
-        _name: &str,
-        _is_new: bool,
-    ) -> Result<LogFile<HostDisk<Unknown>, LogFolder<'a>>, OpenError> {
+    fn open(&self, _name: &str, _is_new: bool) -> Result<Log<'a>, OpenError> {
         Err(OpenError::Missing)
     }
 }
