@@ -1,20 +1,19 @@
 -- A string in whose way nothing stands is distinct for both kinds of receivers.
-use Rattle.olr_spec.proofs.Common.{◌≡◌, ◌≢◌, ℕ, zero, suc, ◌+◌, ◌*◌, ◌<◌, ◌≤◌, ◌⊎◌, inl, inr, ℤ, Bool, true, false, not}
-use Rattle.olr_spec.proofs.Common.{◌&&◌, ◌||◌, ◌==◌, cond, nat_lt, List, [], ◌∷◌, ◌++◌, map, filter, length, slice_get}
-use Rattle.olr_spec.proofs.Common.{slice_index, Some, option_map, refl, sym, ap, ◌∙◌, subst, IsTrue, arith, cases_Bool}
-use Rattle.olr_spec.proofs.Common.{cases_eq, or_cases, or_left, or_right, and_parts, and_from, eqb-true, eq-eqb, ne_eqb}
-use Rattle.olr_spec.proofs.Common.{both_ways, ltb-true, lt-ltb, le-ltb, None, list_any_at, Map, IsMap, has, has_line}
-use Rattle.olr_spec.proofs.Common.{has_node, line_at, start, end, Path, is_path, path_fault, extended_path, Points}
+use Rattle.olr_spec.proofs.Common.{◌≡◌, ◌≢◌, ℕ, zero, suc, ◌+◌, ◌*◌, ◌<◌, ◌≤◌, ◌⊎◌, inl, inr, ℤ, Bool, true, false, not, ◌&&◌, []}
+use Rattle.olr_spec.proofs.Common.{◌||◌, ◌==◌, cond, nat_lt, List, ◌∷◌, ◌++◌, map, filter, length, slice_get, slice_index, Some}
+use Rattle.olr_spec.proofs.Common.{option_map, refl, sym, ap, ◌∙◌, subst, IsTrue, arith, cases_Bool, cases_eq, or_cases, or_left}
+use Rattle.olr_spec.proofs.Common.{or_right, and_parts, and_from, eqb-true, eq-eqb, ne_eqb, both_ways, ltb-true, lt-ltb, le-ltb}
+use Rattle.olr_spec.proofs.Common.{None, list_any_at, Map, IsMap, has, has_line, has_node, line_at, start, end, Path, is_path}
+use Rattle.olr_spec.proofs.Common.{path_fault, extended_path, Points, EncodingWith, Reference, Leg, leg, legs, kept_points, Side}
+use Rattle.olr_spec.proofs.Common.{candidates, Measure, Coord, node_on, coordinate_on, list_any, is_nearest, has_no_twin}
 use Rattle.olr_spec.specs.Margins.{Margin}
-use Rattle.olr_spec.proofs.Common.{EncodingWith, Reference, Leg, leg, legs, kept_points, candidates, Side, Measure, Coord, node_on, coordinate_on}
-use Rattle.std.specs.List.{list_any}
 use Rattle.std.proofs.Math.Nat.{mul-le-mul_right, mul-lt-mul_of_pos_left, mul-add}
-use Rattle.olr_spec.specs.Receiver.{Outgoing, Incoming, sector_on, are_twins, decoded_coord, last_number, is_nearest, has_no_twin}
+use Rattle.olr_spec.specs.Receiver.{Outgoing, Incoming, sector_on, are_twins, decoded_coord, last_number}
 use Rattle.olr_spec.specs.Recovery.{lon_apart, lat_apart, line_by, IsLineAtWith, OwnLinesWith, own_lines, Weighted, DistinctWith}
 use Rattle.olr_spec.specs.Directions.{direction_on, is_direction, is_beyond}
-use Rattle.olr_spec.specs.Ambiguity.{least_cosine, is_farther, usual_slack, is_outdone_for_all, lines_on, all_nodes}
-use Rattle.olr_spec.specs.Ambiguity.{Obstacle, Same_sector, Other_bearing, Other_node, is_twin_of, is_unclear, is_rival}
-use Rattle.olr_spec.specs.Ambiguity.{obstacles_at, side_at, obstacles_from, obstacles}
+use Rattle.olr_spec.specs.Ambiguity.{least_cosine, is_farther, usual_slack, is_outdone_for_all, lines_on, all_nodes, Obstacle}
+use Rattle.olr_spec.specs.Ambiguity.{Same_sector, Other_bearing, Other_node, is_twin_of, is_unclear, is_rival, obstacles_at}
+use Rattle.olr_spec.specs.Ambiguity.{side_at, obstacles_from, obstacles}
 use Rattle.olr_spec.proofs.Facts.{at_index, filter_has, exactly_in, exactly_out, has-all_nodes, known_record}
 use Rattle.olr_spec.proofs.FitLemmas.{by_answer}
 use Rattle.olr_spec.proofs.DecodedLemmas.{Kept}

@@ -1,13 +1,12 @@
 -- The angle from the middle of a sector, for directions in the sector and beyond its margin.
-use Rattle.olr_spec.proofs.Common.{◌≡◌, ℕ, zero, suc, ◌+◌, ◌*◌, ◌/◌, ◌%◌, ◌<◌, ◌≤◌, ℤ, pos, negsuc, ◌-ℤ◌, ◌*ℤ◌, ◌≤ℤ◌}
-use Rattle.olr_spec.proofs.Common.{◌<ℤ◌, Bool, true, false, not, nat_lt, nat_abs, int_le, List, [], ◌∷◌, map, arith}
-use Rattle.olr_spec.proofs.Common.{ints, refl, sym, ap, ◌∙◌, subst, inl, inr, and_parts, and_from, leb-true, le-leb}
-use Rattle.olr_spec.proofs.Common.{cases_Bool, has, Vector, vector, boundary, beyond, quarter_turn, lies_between}
-use Rattle.olr_spec.proofs.Common.{IsSector, up_to}
+use Rattle.olr_spec.proofs.Common.{◌≡◌, ℕ, zero, suc, ◌+◌, ◌*◌, ◌/◌, ◌%◌, ◌<◌, ◌≤◌, ℤ, pos, negsuc, ◌-ℤ◌, ◌*ℤ◌, ◌≤ℤ◌, ◌<ℤ◌, Bool}
+use Rattle.olr_spec.proofs.Common.{true, false, not, nat_lt, nat_abs, int_le, List, [], ◌∷◌, map, arith, ints, refl, sym, ap, ◌∙◌}
+use Rattle.olr_spec.proofs.Common.{subst, inl, inr, and_parts, and_from, leb-true, le-leb, cases_Bool, has, Vector, vector, up_to}
+use Rattle.olr_spec.proofs.Common.{boundary, beyond, quarter_turn, lies_between, IsSector, by_lt_z, le-ltb, lt-ltb, ltb-true}
+use Rattle.olr_spec.proofs.Common.{cases_lt}
 use Rattle.olr_spec.proofs.SectorLemmas.{has_below, same_at, turned, turns_into, le_yes, le_test, neg_right, neg_left}
 use Rattle.std.proofs.Common.{neg_ℤ, int_lt}
 use Rattle.std.proofs.Math.Nat.{mul-le-mul_right}
-use Rattle.olr_spec.proofs.Common.{by_lt_z, le-ltb, lt-ltb, ltb-true, cases_lt}
 use Rattle.olr_spec.proofs.Facts.{has_cases}
 use Rattle.olr_spec.specs.Directions.{margin_start, margin_end, is_direction, is_beyond}
 use Rattle.olr_laws.specs.Directions.{middle, along, across, is_within, count_where, IsNearly}

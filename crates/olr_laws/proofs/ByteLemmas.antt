@@ -1,12 +1,11 @@
 -- Bytes have no fault exactly if some reference encodes as them.
-use Rattle.olr_spec.proofs.Common.{inl, inr, ◌≡◌, ℕ, zero, suc, ◌+◌, ◌-◌, ◌*◌, ◌/◌, ◌%◌, ◌<◌, ◌≤◌, ℤ, pos, negsuc, ◌≤ℤ◌}
-use Rattle.olr_spec.proofs.Common.{false, List, ◌∷◌, ◌++◌, length, Option, Some, None, IfSome, IsTrue, refl, sym, ap}
-use Rattle.olr_spec.proofs.Common.{◌∙◌, arith, nat_le, [], eqb-true, leb-false, get_or-append-add, int_le, flat_map}
-use Rattle.olr_spec.proofs.Common.{slice_index, cases_lt, and_from, or_parts, not-false, ints, within, fits16, First}
-use Rattle.olr_spec.proofs.Common.{Middle, Last, Reference, AreAttrs, IsFirst, IsMiddle, IsLast, IsReference, fits24}
-use Rattle.olr_spec.proofs.Common.{signed16, first_bytes, middle_bytes, last_bytes, flag, offset_bytes, ltb-false}
-use Rattle.olr_spec.proofs.Common.{recursion_from_All, Attrs, residue, signed24, attr_bytes, HasBytes, extra, bit}
-use Rattle.olr_spec.proofs.Common.{flags_of, attribute1_bytes, v3_fault, NoFault}
+use Rattle.olr_spec.proofs.Common.{inl, inr, ◌≡◌, ℕ, zero, suc, ◌+◌, ◌-◌, ◌*◌, ◌/◌, ◌%◌, ◌<◌, ◌≤◌, ℤ, pos, negsuc, ◌≤ℤ◌, false}
+use Rattle.olr_spec.proofs.Common.{List, ◌∷◌, ◌++◌, length, Option, Some, None, IfSome, IsTrue, refl, sym, ap, ◌∙◌, arith, nat_le}
+use Rattle.olr_spec.proofs.Common.{[], eqb-true, leb-false, get_or-append-add, int_le, flat_map, slice_index, cases_lt, and_from}
+use Rattle.olr_spec.proofs.Common.{or_parts, not-false, ints, within, fits16, First, Middle, Last, Reference, AreAttrs, IsFirst}
+use Rattle.olr_spec.proofs.Common.{IsMiddle, IsLast, IsReference, fits24, signed16, first_bytes, middle_bytes, last_bytes, flag}
+use Rattle.olr_spec.proofs.Common.{offset_bytes, ltb-false, recursion_from_All, Attrs, residue, signed24, attr_bytes, HasBytes}
+use Rattle.olr_spec.proofs.Common.{extra, bit, flags_of, attribute1_bytes, v3_fault, NoFault}
 use Rattle.olr_spec.proofs.SectorLemmas.{le_test}
 use Rattle.olr_spec.proofs.ReadLemmas.{AreBytes, attributes_behind, reserved, no_fault, encoded_passes}
 

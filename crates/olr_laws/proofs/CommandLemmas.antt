@@ -1,20 +1,20 @@
 -- An accepted command has one reply, apart from out of memory a command has one outcome, counts are determined, and the
 -- claims hold of runs from the start.
-use Rattle.olr_commands.proofs.Common.{Map, IsMap, Path, Reference, Answer, EncodesWith, Margin, one_answer_with}
-use Rattle.olr_commands.proofs.Common.{one_decoding, both_ways, concat, cases_Bool, cases_eq, bytes_decides, is_path}
-use Rattle.olr_commands.proofs.Common.{Refused, Refusal, some_answer_with}
-use Rattle.std.proofs.Common.{arith, ◌≡◌, ℕ, List, [], ◌∷◌, Option, Some, None, sym, ap, ◌∙◌, subst, Result, Ok, Err}
-use Rattle.std.specs.Prelude.{IfSome, ◌↔◌, ◌==◌}
-use Rattle.std.proofs.Common.{map, IsFalse, inl, inr, ◌⊎◌, ◌≢◌, suc, true, false, not, length, is_some, IsTrue, refl}
-use Rattle.olr_commands.specs.State.{Named, Content, ArePaths, IsContent, Change, State, Command, Make, Show, Report}
-use Rattle.olr_commands.specs.State.{Explain, Begin, Commit, Abort, IsState, Dump, Fault, HasCoords, step, step_in}
-use Rattle.olr_commands.specs.State.{path_named, Show_node, Show_line, Show_margin, Set_margin, Depends, Compact}
-use Rattle.olr_commands.specs.State.{Preview, Ambiguous}
+use Rattle.olr_commands.proofs.Common.{Map, IsMap, Path, Reference, Answer, EncodesWith, Margin, one_answer_with, one_decoding}
+use Rattle.olr_commands.proofs.Common.{both_ways, concat, cases_Bool, cases_eq, bytes_decides, is_path, Refused, Refusal, IfSome}
+use Rattle.olr_commands.proofs.Common.{some_answer_with}
+use Rattle.std.proofs.Common.{arith, ◌≡◌, ℕ, List, [], ◌∷◌, Option, Some, None, sym, ap, ◌∙◌, subst, Result, Ok, Err, map, inl}
+use Rattle.std.proofs.Common.{IsFalse, inr, ◌⊎◌, ◌≢◌, suc, true, false, not, length, is_some, IsTrue, refl}
+use Rattle.std.specs.Prelude.{◌↔◌, ◌==◌}
+use Rattle.olr_commands.specs.State.{Named, Content, ArePaths, IsContent, Change, State, Command, Make, Show, Report, Explain}
+use Rattle.olr_commands.specs.State.{Begin, Commit, Abort, IsState, Dump, Fault, HasCoords, step, step_in, path_named, Show_node}
+use Rattle.olr_commands.specs.State.{Show_line, Show_margin, Set_margin, Depends, Compact, Preview, Ambiguous, same_name, No_path}
+use Rattle.olr_commands.specs.State.{has_path, changes_made, changes_made_in, start_state, has_asked, with_held, IsBatch, after}
+use Rattle.olr_commands.specs.State.{Count_differs}
 use Rattle.olr_commands.specs.RecordText.{record_line}
-use Rattle.olr_commands.specs.State.{same_name, has_path, No_path, changes_made, changes_made_in, start_state}
-use Rattle.olr_commands.specs.Reply.{Entry, entry, Reply, Fields, HasAnswer, AllOf, ChangedOf, Differences, Shown}
-use Rattle.olr_commands.specs.Reply.{Explained, IsPaths, IsFields, IsChangeReply, IsReply, IsRefusal, ByState, Lacks}
-use Rattle.olr_commands.specs.Reply.{Outcome, IsOutcome, lacks_memory, Dumped, Records, Names, Obstacles, Paths, Held}
+use Rattle.olr_commands.specs.Reply.{Entry, entry, Reply, Fields, HasAnswer, AllOf, ChangedOf, Differences, Shown, Explained}
+use Rattle.olr_commands.specs.Reply.{IsPaths, IsFields, IsChangeReply, IsReply, IsRefusal, ByState, Lacks, Outcome, IsOutcome}
+use Rattle.olr_commands.specs.Reply.{lacks_memory, Dumped, Records, Names, Obstacles, Paths, Held}
 use Rattle.olr_laws.proofs.DependLemmas.{one_names, one_dependents, some_dependents}
 use Rattle.olr_laws.proofs.NamedObstacles.{one_obstacles, one_asked, some_asked}
 use Rattle.olr_commands.proofs.NameLemmas.{named_path}
@@ -25,7 +25,6 @@ use Rattle.olr_spec.proofs.FitLemmas.{encoded_fits}
 use Rattle.olr_commands.specs.Dump.{dump_lines, dump_changes, node_changes, line_changes, DumpsAgain}
 use Rattle.olr_commands.specs.Dependents.{Dependents}
 use Rattle.olr_commands.specs.Ambiguities.{AskedAmbiguities}
-use Rattle.olr_commands.specs.State.{has_asked, with_held, IsBatch, after, Count_differs}
 use Rattle.olr_laws.specs.CommandLaws.{PreviewsCommit, MarginRaisesAll}
 use Rattle.olr_commands.specs.Counts.{Affects, By_name, CountIs, Raises}
 use Rattle.olr_commands.proofs.CountLemmas.{unconcerned}
@@ -98,22 +97,16 @@ pub one_reply : (s t : State) (c : Command) (r q : Reply) → IsState s → IsSt
     r ≡ q
 one_reply s t (Make x) r q i j p g = one_held s.batch s.content t.content j.content r q p g
 one_reply s t (Show name) r q i j p g = one_paths (Shown s.content name) (one_shown s.content name i.content) r q p g
-one_reply s t (Show_node v) r q i j p g = p ∙ sym g
-one_reply s t (Show_line x) r q i j p g = p ∙ sym g
-one_reply s t Show_margin r q i j p g = p ∙ sym g
 one_reply s t (Depends nodes) r q i j p g =
     one_names (Dependents s.content nodes) (one_dependents s.content nodes) r q p g
 one_reply s t Report r q i j p g = grind (arith, one_paths, one_all)
-one_reply s t Dump r q i j p g = p ∙ sym g
-one_reply s t Compact r q i j p g = p ∙ sym g
 one_reply s t (Ambiguous name) r q i j p g =
     one_obstacles (AskedAmbiguities s.content name) (one_asked s.content i.content name) r q p g
 one_reply s t (Explain text) r q i j p g = one_fields (Explained text) (one_explained text) r q p g
-one_reply s t Begin r q i j p g = p ∙ sym g
 one_reply s t Preview r q i j p g =
     one_difference s.content (with_held s.content s.batch) (held_sound s i) r q p g
 one_reply s t (Commit count) r q i j p g = one_difference s.content t.content j.content r q p g
-one_reply s t Abort r q i j p g = p ∙ sym g
+one_reply s t c r q i j p g = p ∙ sym g
 
 -- a fault other than out of memory is that of step
 pub reported_by : (s : State) (c : Command) (fault : Fault) → IsFalse (lacks_memory (Err fault)) → IsRefusal s c fault →

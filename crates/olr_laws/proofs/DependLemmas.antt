@@ -1,13 +1,12 @@
 -- Which paths depend on nodes: that is decidable, so that the question has exactly one answer; and an edit affects only such
 -- paths, and those that name a line which it adds.
-use Rattle.std.proofs.Common.{arith, ◌≡◌, ◌≢◌, ◌⊎◌, inl, inr, ℕ, zero, suc, ◌+◌, ◌-◌, ◌<◌, ◌≤◌, true, false, List, []}
-use Rattle.std.proofs.Common.{◌∷◌, length, map, IsTrue, refl, sym, ap, ◌∙◌, subst, append-nil, ◌||◌, Ok, MatchOption}
-use Rattle.std.proofs.Common.{Bool}
+use Rattle.std.proofs.Common.{arith, ◌≡◌, ◌≢◌, ◌⊎◌, inl, inr, ℕ, zero, suc, ◌+◌, ◌-◌, ◌<◌, ◌≤◌, true, false, List, [], ◌∷◌, map}
+use Rattle.std.proofs.Common.{length, IsTrue, refl, sym, ap, ◌∙◌, subst, append-nil, ◌||◌, Ok, MatchOption, Bool}
 use Rattle.std.proofs.Math.Decide.{dec_lt, map_dec, ℕ_discrete}
 use Rattle.std.proofs.lemmas.Bool.{cases_Bool, both_ways, or_left}
 use Rattle.olr_spec.specs.Margins.{Margin}
-use Rattle.olr_spec.specs.Map.{Map, IsMap, Edit, Add_node, Move_node, Drop_node, Add_line, Set_line, Drop_line, has}
-use Rattle.olr_spec.specs.Map.{has_line, edited, start, end, dm, lines_out, touched_nodes, touched_lines}
+use Rattle.olr_spec.specs.Map.{Map, IsMap, Edit, Add_node, Move_node, Drop_node, Add_line, Set_line, Drop_line, has, has_line, dm}
+use Rattle.olr_spec.specs.Map.{edited, start, end, lines_out, touched_nodes, touched_lines}
 use Rattle.olr_spec.specs.Routes.{Reaches}
 use Rattle.olr_spec.specs.Extension.{Path, is_path, extended_path}
 use Rattle.olr_spec.specs.Queries.{NodeOf, CoverageQuery, IsQueryWith, query_to_with}

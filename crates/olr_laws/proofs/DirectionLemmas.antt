@@ -1,16 +1,15 @@
 -- Every receiver that compares directions recovers the legs between the remaining LRPs.
 use Rattle.olr_spec.specs.Margins.{Margin}
-use Rattle.olr_spec.proofs.Common.{◌*◌, lt-ltb, le-ltb, ◌≡◌, ◌≢◌, ℕ, ◌+◌, ◌≤◌, ◌<◌, ◌⊎◌, nat_lt, nat_le, ℤ, pos, Bool}
-use Rattle.olr_spec.proofs.Common.{true, false, ◌↔◌, IsTrue, IsFalse, arith, eqb-true, ltb-true, leb-true, cases_eq}
-use Rattle.olr_spec.proofs.Common.{cases_Bool, or_cases, and_parts, nat_abs, ap, sym, ◌∙◌, subst, refl, inl, inr, ◌&&◌}
-use Rattle.olr_spec.proofs.Common.{◌||◌, not, ◌==◌, Map, has_line, line_at, leg, Leg, candidates, Side, IsSector}
-use Rattle.olr_spec.proofs.Common.{sector, Vector}
+use Rattle.olr_spec.proofs.Common.{◌*◌, lt-ltb, le-ltb, ◌≡◌, ◌≢◌, ℕ, ◌+◌, ◌≤◌, ◌<◌, ◌⊎◌, nat_lt, nat_le, ℤ, pos, Bool, true, ◌↔◌}
+use Rattle.olr_spec.proofs.Common.{false, IsTrue, IsFalse, arith, eqb-true, ltb-true, leb-true, cases_eq, cases_Bool, or_cases}
+use Rattle.olr_spec.proofs.Common.{and_parts, nat_abs, ap, sym, ◌∙◌, subst, refl, inl, inr, ◌&&◌, ◌||◌, not, ◌==◌, Map, has_line}
+use Rattle.olr_spec.proofs.Common.{line_at, leg, Leg, candidates, Side, IsSector, sector, Vector, coordinate_on, Measure, Coord}
 use Rattle.olr_spec.proofs.SectorLemmas.{sector_is}
 use Rattle.olr_spec.proofs.ReceiverLemmas.{Describes, recovered_by, passes}
-use Rattle.olr_spec.specs.Receiver.{Lrp, Rating, NowhereWorse, SomewhereBetter, Outgoing, Incoming, sector_on, coordinate_on}
-use Rattle.olr_spec.proofs.Common.{Measure, Coord}
+use Rattle.olr_spec.specs.Receiver.{Lrp, Rating, NowhereWorse, SomewhereBetter, Outgoing, Incoming, sector_on}
 use Rattle.olr_spec.specs.Directions.{direction_on, is_direction, is_beyond}
-use Rattle.olr_laws.specs.Directions.{SameIsNearest, SeesDirections, DirectionReceiver, TakesByDirection, rating_by, is_outdone, stands_out, weighted}
+use Rattle.olr_laws.specs.Directions.{SameIsNearest, SeesDirections, DirectionReceiver, TakesByDirection, rating_by, is_outdone}
+use Rattle.olr_laws.specs.Directions.{stands_out, weighted}
 use Rattle.olr_laws.specs.DirectionLaws.{RecoveredByDirection, SomeByWeights}
 use Rattle.std.proofs.Math.Nat.{mul-le-mul_left, mul-lt-mul_of_pos_left, mul-add}
 

@@ -1,16 +1,15 @@
 -- The laws of inputs that are read one record a line.
-use Rattle.std.proofs.Common.{◌≡◌, ◌∙◌, ◌==◌, ℕ, zero, suc, Bool, true, false, List, [], ◌∷◌, ◌++◌, length, map, Some, Err}
-use Rattle.std.proofs.Common.{inl, inr, refl, sym, ap, subst, arith, add-one}
+use Rattle.std.proofs.Common.{◌≡◌, ◌∙◌, ◌==◌, ℕ, zero, suc, Bool, true, false, List, [], ◌∷◌, ◌++◌, length, map, Some, Err, inl}
+use Rattle.std.proofs.Common.{inr, refl, sym, ap, subst, arith, add-one}
 use Rattle.std.proofs.lemmas.List.{append-nil, append_assoc}
 use Rattle.std.specs.List.{list_any}
-use Rattle.std.specs.Prelude.{if◌then◌else◌, IsOkAnd}
+use Rattle.std.specs.Prelude.{IsOkAnd}
 use Rattle.csv.specs.Machine.{next_record}
 use Rattle.csv.specs.Reading.{default_config, records, records_from, records_next, Reached, AreRecords, strip_bom}
 use Rattle.csv.specs.declared.parser.State.{State}
-use Rattle.csv.specs.declared.parser.State.TheVariants as st
 use Rattle.olr_records.specs.Records.{Field, HoldsList, Bad_form, read}
 use Rattle.olr_records.specs.ReplyText.{outcome_text}
-use Rattle.olr_run.specs.Output.{records_of, CommandOutcome}
+use Rattle.olr_run.specs.Output.{CommandOutcome}
 use Rattle.olr_input.proofs.CsvRecords.{are_more, are_none, only_records}
 use Rattle.olr_input.proofs.LineRecords.{IsEnd, after, end_of, gives_one, no_end_join, record_is, rejected_record, skips}
 use Rattle.olr_input.proofs.LinesRead.{lines_ended}
@@ -18,6 +17,7 @@ use Rattle.olr_input.specs.LineRecords.{HasNoEnd, EachIs, if_any, is_rejected, l
 use Rattle.olr_input.specs.Lines.{BetweenRecords, is_line_end}
 use Rattle.olr_input.specs.Machine.{is_quoted, state_after}
 use Rattle.olr_laws.specs.LineLaws.{LineGivesOne, SingleStay, FirstLine, IsRecordOf, LinesGiveRecords, FormlessRejected}
+use Rattle.csv.specs.declared.parser.State.TheVariants as st
 
 -- ---- one line
 

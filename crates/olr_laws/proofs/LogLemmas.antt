@@ -1,38 +1,30 @@
 -- A run that is cut off, and the next one from what is left of its log.
-use Rattle.std.proofs.Common.{◌≡◌, ◌∙◌, ℕ, Bool, true, false, List, [], ◌∷◌, ◌++◌, take, length, map, Option, Some}
-use Rattle.std.proofs.Common.{None, Ok, Err, inl, refl, sym, ap, subst, suc, Result, length-append, ◌+◌}
-use Rattle.std.proofs.lemmas.List.{append-nil, append_assoc}
-use Rattle.std.specs.Io.KnownBytes.{Appends}
-use Rattle.sqlite_disk.specs.declared.Disk as disk
+use Rattle.std.proofs.Common.{◌≡◌, ◌∙◌, ℕ, Bool, true, false, List, [], ◌∷◌, ◌++◌, take, length, map, Option, Some, None, Ok, Err}
+use Rattle.std.proofs.Common.{inl, refl, sym, ap, subst, suc, Result, length-append, ◌+◌}
+use Rattle.olr_run.proofs.Common.{append-nil, append_assoc, Appends, Outcome, run_join, Field, read, Claims, SoundOutcome, texts}
+use Rattle.olr_run.proofs.Common.{SoundOutcomes, In_last, records_of, outcome_text, Registered, Represents, EndedOn, Known}
+use Rattle.olr_run.proofs.Common.{RunFault}
 use Rattle.olr_commands.specs.Dump.{steps}
-use Rattle.olr_commands.specs.Reply.{Outcome}
-use Rattle.olr_commands.specs.State.{Change, Command, Content, Fault, IsContent, IsState, State, start_state, step}
-use Rattle.olr_commands.proofs.HistoryLemmas.{run_join, start_sound}
+use Rattle.olr_commands.specs.State.{Change, Command, Content, Fault, IsContent, IsState, State, start_state, step, Abort}
+use Rattle.olr_commands.proofs.HistoryLemmas.{start_sound}
 use Rattle.olr_commands.proofs.StateLemmas.{steps_keep}
 use Rattle.olr_log.specs.Logs.{kept_of, left_of, is_own_of}
-use Rattle.olr_log.specs.declared.folder.Folder as folder
 use Rattle.olr_log.specs.declared.log_file.LogFile.{LogFile}
-use Rattle.olr_records.specs.Records.{Field, read}
 use Rattle.olr_records.proofs.ReadLemmas.{coords_read}
 use Rattle.olr_run.specs.LogEnds.{BeginsWith, LastsOn}
 use Rattle.olr_run.specs.Logged.{closed, Leads, UpTo}
-use Rattle.olr_run.specs.Output.{Claims, SoundOutcome, SoundOutcomes, texts, CutOff, Before_next, No_text, In_last}
-use Rattle.olr_run.specs.Output.{Not_sent, records_of}
-use Rattle.olr_records.specs.ReplyText.{outcome_text}
-use Rattle.olr_commands.specs.State.{Abort}
+use Rattle.olr_run.specs.Output.{CutOff, Before_next, No_text, Not_sent}
 use Rattle.olr_commands.specs.History.{Run}
 use Rattle.std.proofs.lemmas.List.Concat.{flat_map-append}
-use Rattle.olr_run.proofs.Common.{Registered, Represents}
 use Rattle.olr_run.specs.Ends.{FromLog, Not_begun, Begun}
-use Rattle.olr_run.specs.Runs.{EndedOn}
 use Rattle.olr_input.specs.declared.ends.Status.{Status}
 use Rattle.olr_run.proofs.RunLemmas.{claims_of, sound_after}
 use Rattle.olr_input.specs.Buffers.{pending, written}
 use Rattle.olr_input.specs.Journals.{Only}
-use Rattle.olr_input.specs.Sessions.{Known}
 use Rattle.olr_input.specs.declared.buffered.Buffered.{Buffered}
-use Rattle.olr_input.specs.declared.ends.RunFault.{RunFault}
 use Rattle.olr_laws.specs.LogLaws.{dropping, dropped, NextContinues, HasBegun, IsHonest, TwoRuns}
+use Rattle.sqlite_disk.specs.declared.Disk as disk
+use Rattle.olr_log.specs.declared.folder.Folder as folder
 
 -- ---- one run
 
@@ -68,16 +60,10 @@ next_continues s t rs qs os next c sent sound u second =
     (batch_dropped u.state b refl mid) in
     let size : length (u.first ++ dropped b) ≡ length (records ++ dropping b) =
     length-append u.first (dropped b) ∙ (λ i. front.0 i + both_long b i) ∙ sym (length-append records (dropping b)) in
-    record {
-      first = u.first;
-      middle = u.state;
-      run = u.run;
-      unsent = u.unsent;
-      texts_are = u.texts_are;
-      claims = claims_of s (records ++ dropping b ++ qs) (u.first ++ dropped b ++ next) t sound
-          (run_join SoundOutcome s (closed u.state.content) t (records ++ dropping b) qs (u.first ++ dropped b) next size one
-          begins.headline.run);
-    }
+    let claims = claims_of s (records ++ dropping b ++ qs) (u.first ++ dropped b ++ next) t sound
+    (run_join SoundOutcome s (closed u.state.content) t (records ++ dropping b) qs (u.first ++ dropped b) next size one
+    begins.headline.run) in
+    record { first = u.first; middle = u.state; run = u.run; unsent = u.unsent; texts_are = u.texts_are; claims = claims }
 
 -- ---- a content to which records lead is sound
 

@@ -1,9 +1,8 @@
 -- What a map of given nodes and lines has.
-use Rattle.olr_spec.proofs.Common.{◌≡◌, ℕ, Bool, true, false, List, [], ◌∷◌, map, filter, list_all, Option, Some}
-use Rattle.olr_spec.proofs.Common.{unwrap_or, is_some, IsTrue, T, ◌&&◌, ◌∙◌, ap, sym, cond, nat_cmp, get, entries, Line}
-use Rattle.olr_spec.proofs.Common.{Coord, IsMap, has_line, has_node, line_at, coord_at, no_line, no_coord, is_good}
-use Rattle.olr_spec.proofs.Common.{is_coord, are_coords, lines_where, passing, passes_between, leg, Leg, candidates}
-use Rattle.olr_spec.proofs.Common.{has, ◌==◌, and_parts}
+use Rattle.olr_spec.proofs.Common.{◌≡◌, ℕ, Bool, true, false, List, [], ◌∷◌, map, filter, list_all, Option, Some, unwrap_or, T}
+use Rattle.olr_spec.proofs.Common.{is_some, IsTrue, ◌&&◌, ◌∙◌, ap, sym, cond, nat_cmp, get, entries, Line, Coord, IsMap, has_line}
+use Rattle.olr_spec.proofs.Common.{has_node, line_at, coord_at, no_line, no_coord, is_good, is_coord, are_coords, lines_where}
+use Rattle.olr_spec.proofs.Common.{passing, passes_between, leg, Leg, candidates, has, ◌==◌, and_parts}
 use Rattle.olr_spec.proofs.Facts.{has_number}
 use Rattle.std.specs.FinMap.{entries-from_sorted, get-from_sorted}
 use Rattle.std.specs.FinMap.Entries.{find, is_sorted}

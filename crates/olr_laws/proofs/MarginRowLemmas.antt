@@ -1,14 +1,12 @@
 -- The worked rows on margins.
-use Rattle.olr_spec.proofs.Common.{inl, inr, ◌≡◌, ◌≢◌, ℕ, ◌<◌, ◌≤◌, List, [], ◌∷◌, refl, sym, ap, ◌∙◌, IsTrue, arith}
-use Rattle.olr_spec.proofs.Common.{◌||◌, ◌==◌, not, Map, IsMap, has_line, line_at, start, end, dm, dm_of, IsRoute}
-use Rattle.olr_spec.proofs.Common.{UniqueShortest, Line, or_cases, eqb-true, not-true, eq-eqb}
-use Rattle.olr_spec.specs.Margins.{counted}
-use Rattle.olr_spec.specs.Points.{CoveredWith}
+use Rattle.olr_spec.proofs.Common.{inl, inr, ◌≡◌, ◌≢◌, ℕ, ◌<◌, ◌≤◌, List, [], ◌∷◌, refl, sym, ap, ◌∙◌, IsTrue, arith, ◌||◌, ◌==◌}
+use Rattle.olr_spec.proofs.Common.{not, Map, IsMap, has_line, line_at, start, end, dm, dm_of, IsRoute, UniqueShortest, Line, ◌⊎◌}
+use Rattle.olr_spec.proofs.Common.{or_cases, eqb-true, not-true, eq-eqb, CoveredWith, length, first}
+use Rattle.olr_spec.specs.Margins.{counted, counted_dm}
 use Rattle.olr_spec.proofs.RouteLemmas.{positive}
 use Rattle.olr_spec.proofs.CountedLemmas.{counted_own, counted_other, counted_route}
-use Rattle.olr_spec.specs.Margins.{counted_dm}
-use Rattle.olr_spec.proofs.Common.{◌⊎◌, length, first}
-use Rattle.olr_laws.specs.MarginRows.{fifty, row_line, row_nodes, roads, roads_records, roads_path, loop_map, loop_records, loop_path}
+use Rattle.olr_laws.specs.MarginRows.{fifty, row_line, row_nodes, roads, roads_records, roads_path, loop_map, loop_records}
+use Rattle.olr_laws.specs.MarginRows.{loop_path}
 use Rattle.olr_laws.proofs.MapLemmas.{sound, has_line_is, line_at_is, line_in, each_line}
 
 -- line x from v to w, of this length

@@ -1,10 +1,9 @@
 -- The answer of the first worked path on its map.
-use Rattle.olr_spec.proofs.Common.{◌≡◌, ℕ, zero, suc, ◌<◌, true, List, [], ◌∷◌, refl, ap, arith, list_all, up_to, ◌&&◌}
-use Rattle.olr_spec.proofs.Common.{IsMap}
-use Rattle.olr_spec.proofs.Common.{Points, Encodes, Leg, candidates}
+use Rattle.olr_spec.proofs.Common.{◌≡◌, ℕ, zero, suc, ◌<◌, true, List, [], ◌∷◌, refl, ap, arith, list_all, up_to, ◌&&◌, IsMap}
+use Rattle.olr_spec.proofs.Common.{Points, Encodes, Leg, candidates, IsWeighted}
 use Rattle.olr_spec.specs.Receiver.{Outgoing, Incoming, decoded_coord}
 use Rattle.olr_laws.proofs.ReceiverLemmas.{some_weighted}
-use Rattle.olr_spec.specs.Recovery.{IsWeighted, Distinct, DistinctAt, are_cosines, is_cosine}
+use Rattle.olr_spec.specs.Recovery.{Distinct, DistinctAt, are_cosines, is_cosine}
 use Rattle.olr_laws.specs.Rows.{leg10, leg20, leg30, leg99, reference1, legs1, morning_lines, axes_sum, cosine, by_cosine}
 use Rattle.olr_laws.specs.MapRows.{morning_map, morning_path, morning_nodes, morning_records}
 use Rattle.olr_laws.specs.Directions.{DistinctByDirection}

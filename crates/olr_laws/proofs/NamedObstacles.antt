@@ -1,19 +1,16 @@
 -- What stands in the way of strings: the question has exactly one answer, which names each string in whose way something
 -- stands, and nothing else.
-use Rattle.std.proofs.Common.{arith, ◌≡◌, ◌≢◌, inl, inr, ℕ, true, false, List, [], ◌∷◌, ◌++◌, map, not}
-use Rattle.std.proofs.Common.{Some, None, Option, is_some, IsTrue, Contains, refl, sym, ap, ◌∙◌, subst}
-use Rattle.std.proofs.lemmas.Bool.{both_ways}
+use Rattle.std.proofs.Common.{arith, ◌≡◌, ◌≢◌, inl, inr, ℕ, true, false, List, [], ◌∷◌, ◌++◌, map, not, Some, None, Option, refl}
+use Rattle.std.proofs.Common.{is_some, IsTrue, Contains, sym, ap, ◌∙◌, subst}
+use Rattle.olr_commands.proofs.Common.{both_ways, Map, IsMap, Path, is_path, Margin, Answer, Refused, EncodesWith}
+use Rattle.olr_commands.proofs.Common.{one_answer_with, some_answer_with}
 use Rattle.std.proofs.lemmas.List.Elements.{Contains-append_left, Contains-append_right, Contains-append_cases}
-use Rattle.olr_spec.specs.Map.{Map, IsMap}
-use Rattle.olr_spec.specs.Extension.{Path, is_path}
-use Rattle.olr_spec.specs.Margins.{Margin}
-use Rattle.olr_spec.specs.Encoding.{Answer, Points, Refused, EncodesWith}
+use Rattle.olr_spec.specs.Encoding.{Points}
 use Rattle.olr_spec.specs.Recovery.{OwnLinesWith, OwnLinesOfWith}
 use Rattle.olr_spec.specs.Ambiguity.{Obstacle, obstacles}
 use Rattle.olr_spec.proofs.AnswerLemmas.{path_also, path_at}
 use Rattle.olr_spec.proofs.FitLemmas.{by_answer}
 use Rattle.olr_spec.proofs.ListLemmas.{Contains-here, Contains-later, Contains-cases}
-use Rattle.olr_commands.proofs.Common.{one_answer_with, some_answer_with}
 use Rattle.olr_commands.proofs.NameLemmas.{named_path}
 use Rattle.olr_commands.specs.State.{Named, Content, ArePaths, IsContent, path_named, has_asked}
 use Rattle.olr_commands.specs.Reply.{Reply, Obstacles, IsObstacles}

@@ -1,8 +1,8 @@
 -- A receiver on a partner's map that takes the path's own line at each LRP recovers the legs, and nothing else.
-use Rattle.olr_spec.proofs.Common.{◌≡◌, ℕ, suc, ◌+◌, ◌-◌, List, [], ◌∷◌, length, map, Some, None, slice_get}
-use Rattle.olr_spec.proofs.Common.{slice_index, refl, sym, ap, ◌∙◌, arith, IsTrue, ◌↔◌, ⊤, Map, IsMap, Path, is_path}
-use Rattle.olr_spec.proofs.Common.{path_fault, Reference, Points, EncodingWith, Middle, middle_points_with, attrs_with}
-use Rattle.olr_spec.proofs.Common.{legs, stretch, extended_path, reference_by_kept_with}
+use Rattle.olr_spec.proofs.Common.{◌≡◌, ℕ, suc, ◌+◌, ◌-◌, List, [], ◌∷◌, length, map, Some, None, slice_get, slice_index, refl, ⊤}
+use Rattle.olr_spec.proofs.Common.{sym, ap, ◌∙◌, arith, IsTrue, ◌↔◌, Map, IsMap, Path, is_path, path_fault, Reference, Points}
+use Rattle.olr_spec.proofs.Common.{EncodingWith, Middle, middle_points_with, attrs_with, legs, stretch, extended_path, RecoversTo}
+use Rattle.olr_spec.proofs.Common.{reference_by_kept_with, RecoversLast, Attrs}
 use Rattle.olr_spec.proofs.DecodedLemmas.{Kept, Front, Back, form}
 use Rattle.olr_spec.proofs.Facts.{path_also, path_at}
 use Rattle.olr_spec.proofs.FitLemmas.{by_answer}
@@ -10,9 +10,8 @@ use Rattle.olr_spec.proofs.PartnerLemmas.{recovered_elsewhere}
 use Rattle.olr_spec.proofs.ReceiverLemmas.{same_path}
 use Rattle.olr_spec.specs.Elsewhere.{RecoversLegs}
 use Rattle.olr_spec.specs.Margins.{Margin}
-use Rattle.olr_spec.specs.Receiver.{Lrp, Outgoing, Incoming, RecoversBy, RecoversFrom, RecoversTo, RecoversLast, attributes, last_lrp, last_number, lrp_at}
+use Rattle.olr_spec.specs.Receiver.{Lrp, Outgoing, Incoming, RecoversBy, RecoversFrom, attributes, last_lrp, last_number, lrp_at}
 use Rattle.olr_spec.specs.Recovery.{IsStretchesWith, stretches}
-use Rattle.olr_spec.specs.Reference.{Attrs}
 use Rattle.olr_laws.specs.CommandLaws.{TakesOwn, ReadElsewhere}
 use Rattle.olr_laws.proofs.NamedObstacles.{path_in}
 use Rattle.olr_laws.proofs.ReceiverLemmas.{line_at_point, size}

@@ -1,41 +1,34 @@
 -- Where the LRPs of an answer are decoded, that receivers exist, and what the legs between the LRPs say.
 use Rattle.olr_spec.specs.Margins.{Margin}
-use Rattle.olr_spec.specs.Encoding.{IsPointWith}
-use Rattle.olr_spec.proofs.Common.{◌≡◌, ℕ, zero, suc, ◌+◌, ℤ, true, List, ◌∷◌, length, ◌<◌, ◌≤◌, Some, None, is_some}
-use Rattle.olr_spec.proofs.Common.{IsTrue, ap, ◌∙◌, subst, arith, nat_le, [], slice_get, option_map, leb-true}
-use Rattle.olr_spec.proofs.Common.{slice_index, cases_Bool, Map, IsMap, coord_at, Path, is_path, node_at, Reference}
-use Rattle.olr_spec.proofs.Common.{Points, path_fault, EncodingWith, IsNear, slice_get-get_or, decoded}
-use Rattle.olr_spec.proofs.Common.{◌-◌, refl, nat_lt, ◌==◌, ◌*◌, ◌-ℤ◌, ◌/◌, eqb-true}
-use Rattle.olr_spec.proofs.Common.{ltb-true, lt-ltb, le-ltb, nat_abs, or_cases, ints, offset, Measure, Coord}
-use Rattle.olr_spec.specs.Recovery.{are_cosines}
-use Rattle.olr_spec.proofs.Common.{decoded_bound, IsWeighted, is_spaced, IsCut, IsClose, SomeReceiver, SomeWeighted}
-use Rattle.olr_spec.proofs.Common.{map, sym, inl, inr, Bool, pos, Option, unwrap_or, cond, AllZip, get_or}
-use Rattle.olr_spec.proofs.Common.{AllPass-from_list_all, cases_lt, or_left, or_right, start, end, extended_path, first}
-use Rattle.olr_spec.proofs.Common.{last, AreJoined, stretch, Leg, leg, legs, attrs_with, first_kept, last_kept}
-use Rattle.olr_spec.proofs.Common.{kept_points, Middle, middle_points_with, last_two, reference_by_kept_with, Side}
-use Rattle.olr_spec.proofs.Common.{is_nearest, coordinate_on, dm_of, concat, list_all-from_AllPass, cond-false, has}
-use Rattle.olr_spec.proofs.Common.{has_line, candidates, list_all, and_parts, up_to, lines_where, ◌&&◌, get_or_default}
-use Rattle.olr_spec.proofs.Common.{list_all-map}
-use Rattle.std.specs.List.{AllPass}
-use Rattle.olr_spec.proofs.Facts.{path_also, path_at, Each, has_index, at_index, has-lines_where, has_last, last_index}
-use Rattle.olr_spec.proofs.Facts.{Known, LinkedWith, follow_linked_with, kept_linked_with, empty_stretch, stretch_first}
-use Rattle.olr_spec.proofs.Facts.{positive, next_start}
+use Rattle.olr_spec.proofs.Common.{IsPointWith, ◌≡◌, ℕ, zero, suc, ◌+◌, ℤ, true, List, ◌∷◌, length, ◌<◌, ◌≤◌, Some, None, is_some}
+use Rattle.olr_spec.proofs.Common.{IsTrue, ap, ◌∙◌, subst, arith, nat_le, [], slice_get, option_map, leb-true, slice_index, Map}
+use Rattle.olr_spec.proofs.Common.{cases_Bool, IsMap, coord_at, Path, is_path, node_at, Reference, Points, path_fault, IsNear}
+use Rattle.olr_spec.proofs.Common.{EncodingWith, slice_get-get_or, decoded, ◌-◌, refl, nat_lt, ◌==◌, ◌*◌, ◌-ℤ◌, ◌/◌, eqb-true}
+use Rattle.olr_spec.proofs.Common.{ltb-true, lt-ltb, le-ltb, nat_abs, or_cases, ints, offset, Measure, Coord, decoded_bound, map}
+use Rattle.olr_spec.proofs.Common.{IsWeighted, is_spaced, IsCut, IsClose, SomeReceiver, SomeWeighted, sym, inl, inr, Bool, pos}
+use Rattle.olr_spec.proofs.Common.{Option, unwrap_or, cond, AllZip, get_or, AllPass-from_list_all, cases_lt, or_left, or_right}
+use Rattle.olr_spec.proofs.Common.{start, end, extended_path, first, last, AreJoined, stretch, Leg, leg, legs, attrs_with, Middle}
+use Rattle.olr_spec.proofs.Common.{first_kept, last_kept, kept_points, middle_points_with, last_two, reference_by_kept_with, Side}
+use Rattle.olr_spec.proofs.Common.{is_nearest, coordinate_on, dm_of, concat, list_all-from_AllPass, cond-false, has, has_line}
+use Rattle.olr_spec.proofs.Common.{candidates, list_all, and_parts, up_to, lines_where, ◌&&◌, get_or_default, list_all-map, ◌⊎◌}
+use Rattle.olr_spec.proofs.Common.{◌||◌, and_from, le-leb, node_on}
+use Rattle.olr_spec.specs.Recovery.{are_cosines, lon_apart, lat_apart, line_by, IsLineAtWith, stretches, IsStretchesWith, IsStep}
+use Rattle.olr_spec.specs.Recovery.{IsLeftWith, are_spaced, Weighted, is_cosine}
+use Rattle.olr_spec.proofs.Facts.{path_also, path_at, Each, has_index, at_index, has-lines_where, has_last, last_index, Known}
+use Rattle.olr_spec.proofs.Facts.{LinkedWith, follow_linked_with, kept_linked_with, empty_stretch, stretch_first, positive}
+use Rattle.olr_spec.proofs.Facts.{next_start}
 use Rattle.olr_spec.proofs.FieldLemmas.{position_is, linked_above, dm_same, last_two_linked}
 use Rattle.olr_spec.proofs.FitLemmas.{extended_sound, by_answer}
 use Rattle.olr_spec.proofs.DecodedLemmas.{Kept, answer_decodes, Back, Form, Front, form}
-use Rattle.std.proofs.Math.Nat.{mul-le-mul_left, mul-le-mul_right, mul-lt-mul_of_pos_left, le_of_mul-le-mul_left}
-use Rattle.std.proofs.Math.Nat.{mul-add, mul_comm, div-mul-le_self, lt-div-mul-add}
-use Rattle.olr_spec.specs.Receiver.{Rating, IsDifference, Outgoing, Incoming, last_number, decoded_coord, attributes}
-use Rattle.olr_spec.specs.Recovery.{lon_apart, lat_apart, line_by, IsLineAtWith, stretches, IsStretchesWith, IsLeftWith}
-use Rattle.olr_spec.specs.Recovery.{IsStep, are_spaced, Weighted, is_cosine}
+use Rattle.std.proofs.Math.Nat.{mul-le-mul_left, mul-le-mul_right, mul-lt-mul_of_pos_left, le_of_mul-le-mul_left, mul-add}
+use Rattle.std.proofs.Math.Nat.{mul_comm, div-mul-le_self, lt-div-mul-add}
+use Rattle.olr_spec.specs.Receiver.{Rating, IsDifference, Outgoing, Incoming, last_number, decoded_coord, attributes, sector_on}
 use Rattle.olr_spec.proofs.SectorLemmas.{has_below}
 use Rattle.olr_spec.proofs.JoinedLemmas.{extended_joined}
-use Rattle.olr_spec.proofs.Common.{◌⊎◌, ◌||◌, and_from, le-leb, node_on}
-use Rattle.olr_spec.specs.Receiver.{sector_on}
 use Rattle.olr_spec.specs.Directions.{is_direction, is_beyond, direction_on}
 use Rattle.olr_laws.specs.Directions.{is_spaced_by, is_outdone, is_clear, stands_out}
-use Rattle.olr_laws.specs.DirectionLaws.{ClearStandsOut, DecodedNearWith, DecodedPointsWith, StretchesJoinWith}
-use Rattle.olr_laws.specs.DirectionLaws.{OffsetsWith, DistancesWith, NearestWith}
+use Rattle.olr_laws.specs.DirectionLaws.{ClearStandsOut, DecodedNear, DecodedPoints, StretchesJoin, OffsetsWith, DistancesWith}
+use Rattle.olr_laws.specs.DirectionLaws.{Nearest}
 use Rattle.olr_spec.proofs.QueryLemmas.{stretch_parts}
 use Rattle.olr_spec.proofs.ReceiverLemmas.{same_path, passes}
 
@@ -260,10 +253,7 @@ pub all_candidates : (M : Map) (f g : ℕ × Leg → Bool) →
     ((x : ℕ) → IsTrue (has_line M x) → f (x, leg M x) ≡ true → g (x, leg M x) ≡ true) →
     IsTrue (list_all f (candidates M)) → IsTrue (list_all g (candidates M))
 all_candidates M f g more a =
-    let xs = lines_where M (λ _. true) in
-    let each : AllPass (λ x. f (x, leg M x)) xs = AllPass-from_list_all (λ x. f (x, leg M x)) xs (sym (list_all-map f (λ x. (x, leg M x)) xs) ∙ a) in
-    list_all-map g (λ x. (x, leg M x)) xs
-    ∙ list_all-from_AllPass (λ x. g (x, leg M x)) xs (λ j x lt. more (get_or xs j x) (number_known M j x lt) (each j x lt))
+    every_candidate M g (λ x known. more x known (passes M f a x known))
 
 spaced_nearest : (n d scale : ℕ) (far : Measure) (M : Map) (r : Reference) → IsWeighted n d scale far M r → (k : ℕ) →
     k ≤ last_number r → (s : Side) (x : ℕ) → IsTrue (has_line M x) →
@@ -276,10 +266,6 @@ spaced_nearest n d scale far M r w k up s x known near =
 
 -- ---- an answer
 
--- the path's line at the last LRP
-abbrev pub IsLast : Margin → Map → Path → Reference → ℕ → Type 0
-IsLast g M P r x = IsLineAtWith g M P Incoming (last_number r) x
-
 module _ {g : Margin} (M : Map) (m : IsMap M) (P : Path) (is : IsTrue (is_path P.lines)) (none : path_fault M P ≡ None)
     (r : Reference) (e : EncodingWith g M P (Points r)) where
   abbrev Lines : List ℕ
@@ -288,17 +274,8 @@ module _ {g : Margin} (M : Map) (m : IsMap M) (P : Path) (is : IsTrue (is_path P
   abbrev Points_kept : List ℕ
   Points_kept = Kept M P is none r e
 
-  formed : Form g M Lines Points_kept (Front M P is none r e) (Back M P is none r e) r
-  formed = form M P is none r e
-
-  pub size : last_number r + 1 ≡ length Points_kept
-  size = omega (arith, (answer_decodes M P is none r e).count)
-
   pub line_at_point : (s : Side) (k p : ℕ) → slice_get Points_kept k ≡ Some p → IsLineAtWith g M P s k (line_by s Lines p)
   line_at_point s k p at = path_also e (ap (option_map (line_by s Lines)) at)
-
-  pub one_last : (x y : ℕ) → IsLast g M P r x → IsLast g M P r y → x ≡ y
-  one_last x y a b = let two = sym (same_path M m P is none r e _ a) ∙ same_path M m P is none r e _ b in cc two
 
   near_point : (k v : ℕ) → IsPointWith g M P k v → (d : ℤ × ℤ) × (decoded r k ≡ Some d) × IsNear k d (coord_at M v)
   near_point k v p =
@@ -315,6 +292,12 @@ module _ {g : Margin} (M : Map) (m : IsMap M) (P : Path) (is : IsTrue (is_path P
         node_at M Lines (slice_index Points_kept k),
         path_also e (ap (option_map (node_at M Lines)) (slice_get-get_or Points_kept k 0 (omega arith))),
       )
+
+  pub size : last_number r + 1 ≡ length Points_kept
+  size = omega (arith, (answer_decodes M P is none r e).count)
+
+  formed : Form g M Lines Points_kept (Front M P is none r e) (Back M P is none r e) r
+  formed = form M P is none r e
 
   pub known_lines : Each (Known M) Lines
   known_lines = (extended_sound M P is none e.before e.after e.tried).known
@@ -380,10 +363,10 @@ module _ {g : Margin} (M : Map) (m : IsMap M) (P : Path) (is : IsTrue (is_path P
       known_at Incoming (last_number r) x at
       (λ i is_i. known_lines _ (has_index Lines (i - 1) (omega (arith, is_i, b.0, b.1))))
 
-pub decoded_near : (g : Margin) → DecodedNearWith g
+pub decoded_near : (g : Margin) → DecodedNear g
 decoded_near g M m P is r e = let p = by_answer M P r e in near_point M m P is p.0 r p.1
 
-pub decoded_points : (g : Margin) → DecodedPointsWith g
+pub decoded_points : (g : Margin) → DecodedPoints g
 decoded_points g M m P is r e = let p = by_answer M P r e in point_at M m P is p.0 r p.1
 
 -- ---- the legs together
@@ -395,7 +378,7 @@ joined g M ls (p ∷ q ∷ ks) l =
     let here = linked_above g M ls q ks l.1 (last (q ∷ ks)) in
     grind (arith, has_last (q ∷ ks), joined g M ls (q ∷ ks) l.1, stretch_parts ls p q (last (q ∷ ks)))
 
-pub stretches_join : (g : Margin) → StretchesJoinWith g
+pub stretches_join : (g : Margin) → StretchesJoin g
 stretches_join g M P ws p =
     let E = extended_path M P p.before p.after in
     let gs = legs M E.lines in
@@ -410,7 +393,7 @@ offsets_close g M m P is r e = let p = by_answer M P r e in cuts M m P is p.0 r 
 pub steps_close : (g : Margin) → DistancesWith g
 steps_close g M m P is r e ws s = let p = by_answer M P r e in all_steps M m P is p.0 r p.1 ws s
 
-pub nearest_own : (g : Margin) → NearestWith g
+pub nearest_own : (g : Margin) → Nearest g
 nearest_own g M m P is r e n d scale far w = let p = by_answer M P r e in (
   (λ k x h at. spaced_nearest n d scale far M r w k (omega arith) Outgoing x (known_out M m P is p.0 r p.1 k x h at)
       (near_out M m P is p.0 r p.1 k x h at)),

@@ -1,12 +1,11 @@
 -- A path of a worked row, to which nothing is added: its answer, and its lines at the LRPs.
-use Rattle.olr_spec.proofs.Common.{◌≡◌, ℕ, zero, suc, ◌+◌, ◌<◌, Bool, true, false, List, [], ◌∷◌, ◌++◌, refl, sym, ap}
-use Rattle.olr_spec.proofs.Common.{◌∙◌, subst, IsTrue, arith, Some, None, cond, append-nil, add-zero, Map, IsMap, start}
-use Rattle.olr_spec.proofs.Common.{end, passing, first, last, dm_of, Path, StartRun, EndRun, LongestStart, LongestEnd}
-use Rattle.olr_spec.proofs.Common.{Tried, extended_path, path_fault, is_path, Follow, Points, Encodes, Encoding, Leg}
-use Rattle.olr_spec.proofs.Common.{leg, legs, answer_by_points, Option, Refusal, Refused, MatchOption, Reference, Side}
-use Rattle.olr_spec.proofs.Common.{Measure, candidates, option_map, slice_get, kept_points, is_nearest, has_no_twin}
+use Rattle.olr_spec.proofs.Common.{◌≡◌, ℕ, zero, suc, ◌+◌, ◌<◌, Bool, true, false, List, [], ◌∷◌, ◌++◌, refl, sym, ap, ◌∙◌, subst}
+use Rattle.olr_spec.proofs.Common.{IsTrue, arith, Some, None, cond, append-nil, add-zero, Map, IsMap, start, end, passing, first}
+use Rattle.olr_spec.proofs.Common.{last, dm_of, Path, StartRun, EndRun, LongestStart, LongestEnd, Tried, extended_path, is_path}
+use Rattle.olr_spec.proofs.Common.{path_fault, Follow, Points, Encodes, Encoding, Leg, leg, legs, answer_by_points, Option, Side}
+use Rattle.olr_spec.proofs.Common.{Refusal, Refused, MatchOption, Reference, Measure, candidates, option_map, slice_get}
+use Rattle.olr_spec.proofs.Common.{kept_points, is_nearest, has_no_twin, MayPrecede}
 use Rattle.olr_spec.proofs.Facts.{path_at}
-use Rattle.olr_spec.specs.Extension.{MayPrecede}
 use Rattle.olr_spec.specs.Receiver.{Outgoing, Incoming, last_number, decoded_coord}
 use Rattle.olr_spec.specs.Recovery.{IsLineAt, line_by, DistinctAt}
 use Rattle.olr_laws.specs.Directions.{DistinctByDirection, stands_out}

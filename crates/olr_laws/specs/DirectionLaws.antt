@@ -1,5 +1,4 @@
--- The laws of receivers that compare directions, and with a margin those of what each receiver decodes: DecodedNear of
--- olr_spec and the others are these without one.
+-- The laws of what each receiver decodes, and of receivers that compare directions.
 use Rattle.std.specs.Prelude.{◌≡◌, ℕ, ◌*◌, ◌<◌, ◌≤◌, ℤ, List, map, Some, is_some, nat_lt, ◌↔◌, IsTrue}
 use Rattle.std.specs.List.{AllZip, concat}
 use Rattle.olr_spec.specs.Coordinates.{Coord}
@@ -19,19 +18,19 @@ use Rattle.olr_laws.specs.Directions.{DirectionReceiver, TakesByDirection, Disti
 use Rattle.olr_laws.specs.Directions.{SameIsNearest, IsNearly, count_where, exceeded, weighted, is_clear}
 
 -- each LRP of an answer is decoded near its coordinate on the map, and nothing but these LRPs
-abbrev pub DecodedNearWith : Margin → Type 0
-DecodedNearWith g =
+abbrev pub DecodedNear : Margin → Type 0
+DecodedNear g =
     (M : Map) → IsMap M → (P : Path) → IsTrue (is_path P.lines) → (r : Reference) → EncodesWith g M P (Points r)
     → (k v : ℕ) → IsPointWith g M P k v → (p : ℤ × ℤ) × (decoded r k ≡ Some p) × IsNear k p (coord_at M v)
 
-abbrev pub DecodedPointsWith : Margin → Type 0
-DecodedPointsWith g =
+abbrev pub DecodedPoints : Margin → Type 0
+DecodedPoints g =
     (M : Map) → IsMap M → (P : Path) → IsTrue (is_path P.lines) → (r : Reference) → EncodesWith g M P (Points r)
     → (k : ℕ) → IsTrue (is_some (decoded r k)) → (v : ℕ) × IsPointWith g M P k v
 
 -- together the legs are the lines from the first remaining LRP to the last
-abbrev pub StretchesJoinWith : Margin → Type 0
-StretchesJoinWith g =
+abbrev pub StretchesJoin : Margin → Type 0
+StretchesJoin g =
     (M : Map) (P : Path) (ws : List (List ℕ)) → IsStretchesWith g M P ws → IsKeptPartWith g M P (concat ws)
 
 -- an offset byte is off by less than a 256th of the first leg, or of the last
@@ -49,8 +48,8 @@ DistancesWith g =
     → (ws : List (List ℕ)) → IsStretchesWith g M P ws → AllZip (λ a w. IsStep a (dm_of M w)) (attributes r) ws
 
 -- an LRP's node is the nearest if the other nodes with candidates are three times the bound of decoding away
-abbrev pub NearestWith : Margin → Type 0
-NearestWith g =
+abbrev pub Nearest : Margin → Type 0
+Nearest g =
     (M : Map) → IsMap M → (P : Path) → IsTrue (is_path P.lines) → (r : Reference) → EncodesWith g M P (Points r)
     → (n d scale : ℕ) (far : Measure) → IsWeighted n d scale far M r
     → ((k x : ℕ) → k < last_number r → IsLineAtWith g M P Outgoing k x →

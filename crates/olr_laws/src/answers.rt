@@ -6,18 +6,14 @@ ghost use Rattle.olr_spec.specs.Reference.{kept_points, reference};
 ghost use Rattle.olr_spec.specs.Bytes.{reference_bytes};
 ghost use Rattle.olr_spec.specs.Decoded.{decoded};
 ghost use Rattle.olr_laws.specs.DirectionLaws;
-ghost use Rattle.olr_laws.specs.Rows.{legs1, leg10, reference1, bytes1, side_road_dropped_bytes, first_dropped_bytes};
-ghost use Rattle.olr_laws.specs.Rows.{last_dropped_bytes, both_offsets_bytes, offset_bytes_of};
+ghost use Rattle.olr_laws.specs.Rows.{legs1, leg10, reference1, bytes1, offset_bytes_of};
+ghost use Rattle.olr_laws.specs.CommandRows.{reference2};
 
 /// A path has exactly one answer on a map, and the reference of an answer fits its bits.
 pub fn laws_of_answers()
-    ensures one_start_run { Laws.OneStartRun }
-    ensures one_end_run { Laws.OneEndRun }
-    ensures one_next { (g : Margin) → Laws.OneNext g }
-    ensures one_points { (g : Margin) → Laws.OnePoints g }
-    ensures one_answer { (g : Margin) → Laws.OneAnswer g }
-    ensures some_answer { (g : Margin) → Laws.SomeAnswer g }
-    ensures fits { (g : Margin) → Laws.AnswerFits g }
+    ensures runs { Laws.OneStartRun × Laws.OneEndRun }
+    ensures points { (g : Margin) → Laws.OneNext g × Laws.OnePoints g }
+    ensures answer { (g : Margin) → Laws.OneAnswer g × Laws.SomeAnswer g × Laws.AnswerFits g }
 {}
 
 /// At least two location reference points (LRPs) remain after the offsets, the routes between them
@@ -25,12 +21,8 @@ pub fn laws_of_answers()
 /// coordinate on the map.
 pub fn laws_of_points()
     ensures two_kept { (g : Margin) → Laws.TwoKept g }
-    ensures routes_join { (g : Margin) → Laws.RoutesJoin g }
-    ensures elsewhere { (g : Margin) → Laws.RoutesJoinElsewhere g }
-    ensures decoded_near { Laws.DecodedNear }
-    ensures decoded_points { Laws.DecodedPoints }
-    ensures near_with { (g : Margin) → DirectionLaws.DecodedNearWith g }
-    ensures points_with { (g : Margin) → DirectionLaws.DecodedPointsWith g }
+    ensures routes { (g : Margin) → Laws.RoutesJoin g × Laws.RoutesJoinElsewhere g }
+    ensures decoded { (g : Margin) → DirectionLaws.DecodedNear g × DirectionLaws.DecodedPoints g }
 {}
 
 /// The LRPs that remain after the offsets, in dm from the start and from the end.
@@ -45,12 +37,9 @@ pub fn rows_kept()
 /// The fields and bytes of the first worked path, by its LRPs and offsets.
 pub fn rows_reference()
     ensures three_points { reference legs1 1500 0 (1 ∷ 3 ∷ []) ≡ reference1 }
+    ensures last_dropped { reference legs1 0 2740 (1 ∷ 3 ∷ []) ≡ reference2 }
+    ensures one_line { reference (leg10 ∷ []) 0 0 (1 ∷ []) ≡ reference2 }
     ensures encoded { reference_bytes reference1 ≡ bytes1 }
-    ensures side_road_dropped { reference_bytes (reference legs1 1500 0 (3 ∷ [])) ≡ side_road_dropped_bytes }
-    ensures first_dropped { reference_bytes (reference legs1 6000 0 (1 ∷ 3 ∷ [])) ≡ first_dropped_bytes }
-    ensures last_dropped { reference_bytes (reference legs1 0 2740 (1 ∷ 3 ∷ [])) ≡ last_dropped_bytes }
-    ensures both_offsets { reference_bytes (reference legs1 1500 740 (1 ∷ 3 ∷ [])) ≡ both_offsets_bytes }
-    ensures one_line { reference_bytes (reference (leg10 ∷ []) 0 0 (1 ∷ [])) ≡ last_dropped_bytes }
     ensures greatest_offset { reference_bytes (reference (leg10 ∷ []) 5609 0 (1 ∷ [])) ≡ offset_bytes_of 255 }
     ensures least_offset { reference_bytes (reference (leg10 ∷ []) 1 0 (1 ∷ [])) ≡ offset_bytes_of 0 }
 {}

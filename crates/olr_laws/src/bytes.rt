@@ -5,7 +5,7 @@ ghost use Rattle.olr_spec.specs.Bearings.{up_to};
 ghost use Rattle.olr_spec.specs.Bytes.{v3_fault, Length, Status, Flags, Reserved};
 ghost use Rattle.olr_spec.specs.Reference.{reference};
 ghost use Rattle.olr_binary.specs.Text.{OneReference, OneText, text_of};
-ghost use Rattle.olr_laws.specs.Rows.{legs1, reference1, bytes1, offset_bytes_of, version2_bytes, reserved_bytes};
+ghost use Rattle.olr_laws.specs.Rows.{legs1, reference1, bytes1, offset_bytes_of, bytes2};
 ghost use Rattle.olr_laws.specs.CommandRows.{reference2};
 
 /// A reference encodes as one sequence of bytes, no bytes decode to two references, and bytes have
@@ -27,16 +27,10 @@ pub fn laws_of_text()
 pub fn rows_bytes()
     ensures accepted { v3_fault bytes1 ≡ None }
     ensures short { map (λ n. v3_fault (take n bytes1)) (up_to 16) ≡ replicate 16 (Some Length) }
-    ensures cut_16 { v3_fault (take 16 bytes1) ≡ Some Flags }
-    ensures cut_17 { v3_fault (take 17 bytes1) ≡ Some Reserved }
-    ensures cut_18 { v3_fault (take 18 bytes1) ≡ Some Flags }
-    ensures cut_19 { v3_fault (take 19 bytes1) ≡ Some Length }
-    ensures cut_20 { v3_fault (take 20 bytes1) ≡ Some Length }
-    ensures cut_21 { v3_fault (take 21 bytes1) ≡ Some Length }
-    ensures cut_22 { v3_fault (take 22 bytes1) ≡ Some Length }
-    ensures cut_23 { v3_fault (take 23 bytes1) ≡ Some Flags }
-    ensures other_version { v3_fault version2_bytes ≡ Some Status }
-    ensures reserved_bit { v3_fault reserved_bytes ≡ Some Reserved }
+    ensures from_16 { map (λ n. v3_fault (take n bytes1)) (16 ∷ 17 ∷ 18 ∷ 19 ∷ 20 ∷ 21 ∷ 22 ∷ 23 ∷ [])
+        ≡ Some Flags ∷ Some Reserved ∷ Some Flags ∷ Some Length ∷ Some Length ∷ Some Length ∷ Some Length ∷ Some Flags ∷ [] }
+    ensures other_version { v3_fault (bytes2 0x0a 0x1a) ≡ Some Status }
+    ensures reserved_bit { v3_fault (bytes2 0x0b 0x9a) ≡ Some Reserved }
     ensures zero_offset { v3_fault (offset_bytes_of 0) ≡ None }
 {}
 
@@ -45,10 +39,8 @@ pub fn rows_bytes()
 pub fn rows_texts()
     ensures one { text_of reference1 ≡ codes "CwRbWyNG9RpsCQCb/jsbtAT/6/+jK1lE" }
     ensures two { text_of reference2 ≡ codes "CwRbWyNG9RpsCQCb/jsaHA==" }
-    ensures three_points { text_of (reference legs1 1500 0 (1 ∷ 3 ∷ [])) ≡ codes "CwRbWyNG9RpsCQCb/jsbtAT/6/+jK1lE" }
     ensures two_points { text_of (reference legs1 1500 0 (3 ∷ [])) ≡ codes "CwRbWyNG9RqsDgCG/d4rWS0=" }
     ensures first_dropped { text_of (reference legs1 6000 0 (1 ∷ 3 ∷ [])) ≡ codes "CwRboyNGIRu0BP/r/6MrWSQ=" }
-    ensures last_dropped { text_of (reference legs1 0 2740 (1 ∷ 3 ∷ [])) ≡ codes "CwRbWyNG9RpsCQCb/jsaHA==" }
     ensures both_offsets { text_of (reference legs1 1500 740 (1 ∷ 3 ∷ []))
         ≡ codes "CwRbWyNG9RpsCQCb/jsbtAT/6/+jK3lERQ==" }
 {}

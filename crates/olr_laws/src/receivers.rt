@@ -20,18 +20,10 @@ ghost use Rattle.olr_laws.specs.MapRows.{fork10, degrees10, TakesOther};
 /// from the path's own lines at its LRPs; offsets are exact within a 256th of a leg. A node is the nearest if the others are
 /// at least three times the bound of decoding away.
 pub fn laws_of_receivers()
-    ensures recovered { (g : Margin) → Laws.Recovered g }
-    ensures elsewhere { (g : Margin) → Laws.RecoveredElsewhere g }
-    ensures stretches_join { Laws.StretchesJoin }
-    ensures offsets { Laws.Offsets }
-    ensures distances { Laws.Distances }
-    ensures nearest { Laws.Nearest }
-    ensures stretches_join_with { (g : Margin) → DirectionLaws.StretchesJoinWith g }
-    ensures offsets_with { (g : Margin) → DirectionLaws.OffsetsWith g }
-    ensures distances_with { (g : Margin) → DirectionLaws.DistancesWith g }
-    ensures nearest_with { (g : Margin) → DirectionLaws.NearestWith g }
-    ensures some { Laws.SomeReceiver }
-    ensures weighted { Laws.SomeWeighted }
+    ensures recovered { (g : Margin) → Laws.Recovered g × Laws.RecoveredElsewhere g }
+    ensures legs { (g : Margin) → DirectionLaws.StretchesJoin g × DirectionLaws.OffsetsWith g × DirectionLaws.DistancesWith g }
+    ensures nearest { (g : Margin) → DirectionLaws.Nearest g }
+    ensures some { Laws.SomeReceiver × Laws.SomeWeighted }
 {}
 
 /// Receivers that compare directions, as by degrees, recover the legs too, if at each LRP the path's own line stands out.

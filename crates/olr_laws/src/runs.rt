@@ -89,7 +89,4 @@ pub fn rows_runs()
     ensures cut_at_once { Faulted Outcomes false start_state (records_of input20) start_state [] fault.Read }
     ensures nothing { Ran Outcomes false start_state (records_of []) start_state [] All_accepted }
     ensures greatest { greater Some_refused All_accepted ≡ Some_refused }
-    ensures stopped_in_file { Ran Outcomes true start_state (records_of input20 ++ records_of []) state20
-        (text_of_lines (codes "ok,0" ∷ codes "fault,3,NodeExists" ∷ [])) Stopped }
-    ensures both { Ran Outcomes false start_state (records_of [] ++ records_of input20) state20 output20 Some_refused }
 {}

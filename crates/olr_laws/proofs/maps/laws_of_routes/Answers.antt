@@ -1,5 +1,4 @@
-use Rattle.olr_spec.proofs.Facts.{longer, one_least, prefix_of_least, empty_least, empty_unique, unique_least}
-use Rattle.olr_spec.proofs.Facts.{prefix_of_unique}
+use Rattle.olr_spec.proofs.Facts.{longer, one_least, prefix_of_least, empty_least, empty_unique, unique_least, prefix_of_unique}
 use Rattle.olr_spec.proofs.DecideLemmas.{one_unique}
 use Rattle.olr_laws.proofs.maps.laws_of_routes.Goals as goal
 

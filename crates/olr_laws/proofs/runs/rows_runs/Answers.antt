@@ -90,11 +90,3 @@ returns-clause-cut c =
 pub returns-clause-cut_at_once : goal.returns-clause-cut_at_once
 unfolding csv_on_literals digits
 returns-clause-cut_at_once c = grind arith
-
-pub returns-clause-stopped_in_file : goal.returns-clause-stopped_in_file
-unfolding csv_on_literals
-returns-clause-stopped_in_file c = returns-clause-stopped c
-
-pub returns-clause-both : goal.returns-clause-both
-unfolding csv_on_literals
-returns-clause-both c = returns-clause-all c
