@@ -11,9 +11,13 @@ ghost use Rattle.olr_laws.specs.CommandRows.{reference2};
 
 /// A path has exactly one answer on a map, and the reference of an answer fits its bits.
 pub fn laws_of_answers()
-    ensures runs { Laws.OneStartRun × Laws.OneEndRun }
-    ensures points { (g : Margin) → Laws.OneNext g × Laws.OnePoints g }
-    ensures answer { (g : Margin) → Laws.OneAnswer g × Laws.SomeAnswer g × Laws.AnswerFits g }
+    ensures one_start_run { Laws.OneStartRun }
+    ensures one_end_run { Laws.OneEndRun }
+    ensures one_next { (g : Margin) → Laws.OneNext g }
+    ensures one_points { (g : Margin) → Laws.OnePoints g }
+    ensures one_answer { (g : Margin) → Laws.OneAnswer g }
+    ensures some_answer { (g : Margin) → Laws.SomeAnswer g }
+    ensures fits { (g : Margin) → Laws.AnswerFits g }
 {}
 
 /// At least two location reference points (LRPs) remain after the offsets, the routes between them
@@ -21,8 +25,10 @@ pub fn laws_of_answers()
 /// coordinate on the map.
 pub fn laws_of_points()
     ensures two_kept { (g : Margin) → Laws.TwoKept g }
-    ensures routes { (g : Margin) → Laws.RoutesJoin g × Laws.RoutesJoinElsewhere g }
-    ensures decoded { (g : Margin) → DirectionLaws.DecodedNear g × DirectionLaws.DecodedPoints g }
+    ensures routes_join { (g : Margin) → Laws.RoutesJoin g }
+    ensures elsewhere { (g : Margin) → Laws.RoutesJoinElsewhere g }
+    ensures decoded_near { (g : Margin) → DirectionLaws.DecodedNear g }
+    ensures decoded_points { (g : Margin) → DirectionLaws.DecodedPoints g }
 {}
 
 /// The LRPs that remain after the offsets, in dm from the start and from the end.

@@ -29,11 +29,17 @@ pub fn laws_of_changes()
 /// A path has exactly one list of coverage queries, and they determine its footprint; if edits
 /// affect neither these nor its traversed nodes, its answer is retained.
 pub fn laws_of_queries()
-    ensures last_tested { (g : Margin) → Laws.OneLastTested g × Laws.SomeLastTested g }
-    ensures queries { (g : Margin) → Laws.OneQueries g × Laws.SomeQueries g }
-    ensures foot { (g : Margin) → Laws.FootIsQueried g × Laws.FootAffected g }
-    ensures stay { (g : Margin) → Laws.QueriesStay g × Laws.KnownStays g }
-    ensures kept { (g : Margin) → Laws.AnswersRetained g × Laws.UntouchedRetained g × Laws.KnownRetained g }
+    ensures one_last_tested { (g : Margin) → Laws.OneLastTested g }
+    ensures some_last_tested { (g : Margin) → Laws.SomeLastTested g }
+    ensures one { (g : Margin) → Laws.OneQueries g }
+    ensures some { (g : Margin) → Laws.SomeQueries g }
+    ensures foot { (g : Margin) → Laws.FootIsQueried g }
+    ensures affected { (g : Margin) → Laws.FootAffected g }
+    ensures queries { (g : Margin) → Laws.QueriesStay g }
+    ensures known { (g : Margin) → Laws.KnownStays g }
+    ensures kept { (g : Margin) → Laws.AnswersRetained g }
+    ensures untouched { (g : Margin) → Laws.UntouchedRetained g }
+    ensures known_kept { (g : Margin) → Laws.KnownRetained g }
 {}
 
 /// The LRPs with a coverage query: those whose line is followed by two or more lines.

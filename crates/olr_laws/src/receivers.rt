@@ -20,10 +20,14 @@ ghost use Rattle.olr_laws.specs.MapRows.{fork10, degrees10, TakesOther};
 /// from the path's own lines at its LRPs; offsets are exact within a 256th of a leg. A node is the nearest if the others are
 /// at least three times the bound of decoding away.
 pub fn laws_of_receivers()
-    ensures recovered { (g : Margin) → Laws.Recovered g × Laws.RecoveredElsewhere g }
-    ensures legs { (g : Margin) → DirectionLaws.StretchesJoin g × DirectionLaws.OffsetsWith g × DirectionLaws.DistancesWith g }
+    ensures recovered { (g : Margin) → Laws.Recovered g }
+    ensures elsewhere { (g : Margin) → Laws.RecoveredElsewhere g }
+    ensures stretches_join { (g : Margin) → DirectionLaws.StretchesJoin g }
+    ensures offsets { (g : Margin) → DirectionLaws.OffsetsWith g }
+    ensures distances { (g : Margin) → DirectionLaws.DistancesWith g }
     ensures nearest { (g : Margin) → DirectionLaws.Nearest g }
-    ensures some { Laws.SomeReceiver × Laws.SomeWeighted }
+    ensures some { Laws.SomeReceiver }
+    ensures weighted { Laws.SomeWeighted }
 {}
 
 /// Receivers that compare directions, as by degrees, recover the legs too, if at each LRP the path's own line stands out.

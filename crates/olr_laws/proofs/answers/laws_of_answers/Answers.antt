@@ -4,8 +4,4 @@ use Rattle.olr_spec.proofs.FitLemmas.{encoded_fits}
 use Rattle.olr_laws.proofs.answers.laws_of_answers.Goals as goal
 
 pub returns : goal.returns
-returns c = record {
-  runs = (one_start, one_end);
-  points = λ g. (one_next g, one_follow g);
-  answer = λ g. (one_answer_with g, some_answer_with g, encoded_fits g);
-}
+returns c = assumption (one_start, one_end, one_next, one_follow, one_answer_with, some_answer_with, encoded_fits)

@@ -4,8 +4,4 @@ use Rattle.olr_laws.proofs.ReceiverLemmas.{decoded_near, decoded_points}
 use Rattle.olr_laws.proofs.answers.laws_of_points.Goals as goal
 
 pub returns : goal.returns
-returns c = record {
-  two_kept = two_kept;
-  routes = λ g. (routes_join g, routes_join_elsewhere g);
-  decoded = λ g. (decoded_near g, decoded_points g);
-}
+returns c = assumption (two_kept, routes_join, routes_join_elsewhere, decoded_near, decoded_points)

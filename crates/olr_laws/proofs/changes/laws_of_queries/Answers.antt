@@ -19,10 +19,17 @@ queries_stay g M N sound sound_there C there here ls same s t joined i k query c
     )
 
 pub returns : goal.returns
-returns c = record {
-  last_tested = λ g. (one_last_tested_with g, some_last_tested g);
-  queries = λ g. (one_queries_with g, some_queries g);
-  foot = λ g. (foot_queried_with g, foot_affected_with g);
-  stay = λ g. (queries_stay g, known_stays {g = g});
-  kept = λ g. (kept g, untouched_retained_with g, known_kept g);
-}
+returns c =
+    assumption (
+      one_last_tested_with,
+      some_last_tested,
+      one_queries_with,
+      some_queries,
+      foot_queried_with,
+      foot_affected_with,
+      queries_stay,
+      (λ (g : Margin). known_stays {g = g}),
+      kept,
+      untouched_retained_with,
+      known_kept,
+    )
