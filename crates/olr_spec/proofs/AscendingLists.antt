@@ -67,17 +67,9 @@ there_found xs x (Err i) h c = absurd (not_among xs x i h c)
 pub insert_ascends : (xs : List ℕ) (x i : ℕ) → IsStrictlyIncreasing xs → IsSearchResult xs x (Err i) →
     IsStrictlyIncreasing (insert xs i x)
 insert_ascends xs x i up h k lt =
-    grind (
-      arith,
-      (get_or-insert_below xs i x 0 k),
-      (get_or-insert_below xs i x 0 (k + 1)),
-      (get_or-insert_above xs i x 0 k),
-      (get_or-insert_above xs i x 0 (k - 1)),
-      (length-insert xs i x h.0),
-      (get_or-insert_at xs i x 0 h.0),
-      cases_order,
-      cases_eq,
-    )
+    let below = get_or-insert_below xs i x 0 in
+    let over = get_or-insert_above xs i x 0 in
+    grind (arith, below k, below (k + 1), over k, over (k - 1), length-insert xs i x h.0, get_or-insert_at xs i x 0 h.0, cases_order, cases_eq)
 
 -- a number above all of them, at the end
 pub ascends_push : (xs : List ℕ) (x : ℕ) → IsStrictlyIncreasing xs → ((k : ℕ) → k < length xs → get_or xs k 0 < x) →
@@ -104,12 +96,15 @@ ascends-remove xs i up at k lt =
 -- a number that is removed is no longer in the list
 gone : (xs : List ℕ) (i x : ℕ) → IsStrictlyIncreasing xs → i < length xs → get_or xs i 0 ≡ x → has (remove xs i) x ≡ false
 gone xs i x up at is = has_not (remove xs i) x (λ k lt e.
-    let here = get_or-remove_below xs i 0 k in
-    let there = get_or-remove_above xs i 0 k in
-    let near = length-remove xs i at in
-    let next = AllPairs-from_increasing xs up k i 0 in
-    let later = AllPairs-from_increasing xs up i (k + 1) 0 in
-    grind (arith, cases_lt k i))
+    grind (
+      arith,
+      cases_lt k i,
+      get_or-remove_below xs i 0 k,
+      get_or-remove_above xs i 0 k,
+      length-remove xs i at,
+      AllPairs-from_increasing xs up k i 0,
+      AllPairs-from_increasing xs up i (k + 1) 0,
+    ))
 
 pub has-remove : (xs : List ℕ) (i x n : ℕ) → IsStrictlyIncreasing xs → i < length xs → get_or xs i 0 ≡ x →
     has (remove xs i) n ≡ (not (x == n) && has xs n)

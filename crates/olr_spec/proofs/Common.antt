@@ -30,22 +30,22 @@ pub use Rattle.olr_spec.specs.Map.{Add_line, Add_node, Agree, Drop_line, Drop_no
 pub use Rattle.olr_spec.specs.Map.{SameLine, SameRound, Set_line, coord_at, dm, edited, end, has, has_line, has_node}
 pub use Rattle.olr_spec.specs.Map.{in_use, is_good, line_at, lines_in, lines_out, lines_where, start, touched_nodes}
 pub use Rattle.olr_spec.specs.Map.{ShapePoint, are_coords, ascends_between, no_coord, no_line, touched_lines, unless}
-pub use Rattle.olr_spec.specs.Points.{Candidate, CandidateWith, Covered, CoveredWith, Follow, FollowWith, Greatest}
-pub use Rattle.olr_spec.specs.Points.{Next, NextWith, OfPath, OfPathWith, To_end, To_passing, To_valid, ValidCandidate}
+pub use Rattle.olr_spec.specs.Points.{Candidate, CandidateWith, CoveredWith, Follow, FollowWith, Greatest}
+pub use Rattle.olr_spec.specs.Points.{NextWith, OfPathWith, To_end, To_passing, To_valid}
 pub use Rattle.olr_spec.specs.Points.{ValidCandidateWith, fit16, last_position, node_at, stretch, NoNext, NoNextWith}
-pub use Rattle.olr_spec.specs.Queries.{CoverageQuery, IsClear, IsLastTested, IsLastTestedWith, IsQuery, IsQueryWith}
-pub use Rattle.olr_spec.specs.Queries.{KnownQuery, Needed, NodeOf, QueriesOf, QueriesOfWith, QueriesOfExtended}
-pub use Rattle.olr_spec.specs.Queries.{QueriesOfExtendedWith, Traversed, TraversedOf, TraversedOfExtended, query_to}
+pub use Rattle.olr_spec.specs.Queries.{CoverageQuery, IsClear, IsLastTestedWith, IsQueryWith}
+pub use Rattle.olr_spec.specs.Queries.{KnownQuery, Needed, NodeOf, QueriesOfWith}
+pub use Rattle.olr_spec.specs.Queries.{QueriesOfExtendedWith, Traversed, TraversedOf, TraversedOfExtended}
 pub use Rattle.olr_spec.specs.Queries.{query_to_with, querying}
 pub use Rattle.olr_spec.specs.Receiver.{Measure, Receiver, RecoversLast, RecoversTo, Side, Within, candidates}
 pub use Rattle.olr_spec.specs.Receiver.{coordinate_on, has_no_twin, is_nearest, node_on}
 pub use Rattle.olr_spec.specs.Recovery.{IsClose, IsCut, IsWeighted, is_spaced}
-pub use Rattle.olr_spec.specs.Reference.{First, Last, Middle, Reference, attrs, attrs_with, dm_along, dm_between}
+pub use Rattle.olr_spec.specs.Reference.{First, Last, Middle, Reference, attrs_with, dm_along, dm_between}
 pub use Rattle.olr_spec.specs.Reference.{first_kept, first_where, from_front, kept_points, last_kept, last_point}
-pub use Rattle.olr_spec.specs.Reference.{last_two, last_where, leg, leg_at, legs, middle_points, middle_points_with}
-pub use Rattle.olr_spec.specs.Reference.{no_leg, offset, position, reference, reference_with, reference_by}
-pub use Rattle.olr_spec.specs.Reference.{reference_by_with, reference_by_kept, reference_by_kept_with, to_back, Attrs}
-pub use Rattle.olr_spec.specs.Reference.{middle_point, middle_point_with}
+pub use Rattle.olr_spec.specs.Reference.{last_two, last_where, leg, leg_at, legs, middle_points_with}
+pub use Rattle.olr_spec.specs.Reference.{no_leg, offset, position, reference, reference_with}
+pub use Rattle.olr_spec.specs.Reference.{reference_by_with, reference_by_kept_with, to_back, Attrs}
+pub use Rattle.olr_spec.specs.Reference.{middle_point_with}
 pub use Rattle.olr_spec.specs.Routes.{FirstSmaller, IsRoute, LrpRoute, PrecedesInTieOrder, Reaches, UniqueShortest}
 pub use Rattle.olr_spec.specs.Routes.{dm_of, Least}
 pub use Rattle.std.proofs.Common.{All, Bool, Contains, IfSome, IsTrue, List, MatchOption, None, Ok, Option, Result}

@@ -1,10 +1,9 @@
 -- What counts the same on two maps, and what the front of a route counts.
-use Rattle.olr_spec.proofs.Common.{inl, inr, ◌≡◌, ℕ, ◌+◌, ◌≤◌, ◌↔◌, cond, List, [], ◌∷◌, ◌++◌, refl, sym, subst}
-use Rattle.olr_spec.proofs.Common.{◌∙◌, Bool, arith, IsTrue, ◌&&◌, ◌==◌, cases_Bool, has, SameWay}
-use Rattle.olr_spec.proofs.Common.{Map, has_line, dm, dm_of, IsRoute, append-nil}
-use Rattle.olr_spec.proofs.Common.{list_any-append, or_left, ChangedLine, AccountsFor, Detour}
+use Rattle.olr_spec.proofs.Common.{◌≡◌, ℕ, ◌+◌, ◌≤◌, ◌↔◌, cond, List, [], ◌∷◌, ◌++◌, refl, sym, subst, Bool, arith}
+use Rattle.olr_spec.proofs.Common.{IsTrue, ◌&&◌, ◌==◌, cases_Bool, has, SameWay, Map, has_line, dm, dm_of, IsRoute}
+use Rattle.olr_spec.proofs.Common.{append-nil, list_any-append, or_left, ChangedLine, AccountsFor, Detour}
 use Rattle.olr_spec.specs.Margins.{Margin, counted, counted_dm, counted_dm_of, CountedRoute}
-use Rattle.olr_spec.proofs.ListLemmas.{Each, Each-head, Each-tail, Each-left, Each-right}
+use Rattle.olr_spec.proofs.ListLemmas.{Each, Each-tail, Each-left, Each-right, has_here, has_there}
 use Rattle.olr_spec.proofs.RouteLemmas.{dm_of-append, IsRoute-append}
 use Rattle.olr_spec.proofs.WayLemmas.{route_known}
 use Rattle.olr_spec.proofs.RouteMoves.{SameRoutes, IsRoute-moves, unique_same, same_there, same_here, detour_of}
@@ -20,12 +19,8 @@ got_counted : (g : Margin) (M : Map) (xs : List ℕ) (x : ℕ) → dm (counted g
 got_counted g M xs x = grind (arith, get_counted g M xs x, cases_Bool (g.routes == 0), counted_none)
 
 counted_way_same : (g : Margin) (M N : Map) (xs : List ℕ) (x : ℕ) → SameWay M N x → SameWay (counted g M xs) (counted g N xs) x
-counted_way_same g M N xs x e = record {
-  known = counted_known g M xs x ∙ e.known ∙ sym (counted_known g N xs x);
-  from = counted_start g M xs x ∙ e.from ∙ sym (counted_start g N xs x);
-  to = counted_end g M xs x ∙ e.to ∙ sym (counted_end g N xs x);
-  len = got_counted g M xs x ∙ (λ i. as_counted g xs x (e.known i) (e.len i)) ∙ sym (got_counted g N xs x);
-}
+counted_way_same g M N xs x e =
+    grind (arith, counted_known g M xs x, counted_known g N xs x, counted_start g M xs x, counted_start g N xs x, counted_end g M xs x, counted_end g N xs x, got_counted)
 
 pub counted_length_same : (g : Margin) (M N : Map) (xs : List ℕ) → Each (SameWay M N) xs → counted_dm_of g M xs ≡ counted_dm_of g N xs
 counted_length_same g M N xs h =
@@ -34,11 +29,7 @@ counted_length_same g M N xs h =
 pub counted_longer : (g : Margin) (M : Map) (xs ys : List ℕ) → Each (λ x. IsTrue (has_line M x)) ys → dm_of M ys ≤ dm_of (counted g M xs) ys
 counted_longer g M xs [] known = omega arith
 counted_longer g M xs (y ∷ ys) known =
-    omega (
-      arith,
-      counted_least g M xs y (Each-head (λ x. IsTrue (has_line M x)) y ys known),
-      counted_longer g M xs ys (Each-tail (λ x. IsTrue (has_line M x)) y ys known),
-    )
+    omega (arith, counted_least g M xs y (known y (has_here y ys)), counted_longer g M xs ys (λ x i. known x (has_there y ys x i)))
 
 pub counted_routes : (g : Margin) (M N : Map) (xs : List ℕ) (s t d : ℕ) → SameRoutes M N s t d →
     SameRoutes (counted g M xs) (counted g N xs) s t d
@@ -48,22 +39,12 @@ counted_routes g M N xs s t d same ys w h =
     λ x on. counted_way_same g M N xs x (each x on)
 
 -- lines count at least as much where more of them are own ones
-more_counts : (g : Margin) (M : Map) (xs rest ys : List ℕ) → Each (λ x. IsTrue (has_line M x)) ys →
+pub more_counts : (g : Margin) (M : Map) (xs rest ys : List ℕ) → Each (λ x. IsTrue (has_line M x)) ys →
     dm_of (counted g M xs) ys ≤ dm_of (counted g M (xs ++ rest)) ys
 more_counts g M xs rest [] known = omega arith
 more_counts g M xs rest (y ∷ ys) known =
-    let k = Each-head (λ x. IsTrue (has_line M x)) y ys known in
     let more = more_counts g M xs rest ys (Each-tail (λ x. IsTrue (has_line M x)) y ys known) in
-    elim (cases_Bool (has xs y)) [
-      | inl on ↦ omega (
-        arith,
-        more,
-        counted_own g M xs y k on,
-        counted_own g M (xs ++ rest) y k
-            (list_any-append (λ z. z == y) xs rest ∙ or_left (has xs y) (has rest y) on),
-      )
-      | inr off ↦ omega (arith, more, counted_other g M xs y off, counted_least g M (xs ++ rest) y k)
-    ]
+    grind (arith, more, known y (has_here y ys), cases_Bool (has xs y), list_any-append (λ z. z == y) xs rest, counted_own, counted_other, counted_least, or_left)
 
 -- a front counts less by at least the length of the rest
 pub front_counts : (g : Margin) (M : Map) (xs rest : List ℕ) → Each (λ x. IsTrue (has_line M x)) xs →

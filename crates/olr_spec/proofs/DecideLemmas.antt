@@ -1,18 +1,16 @@
 -- Each definition is decidable, so each path has an answer.
-use Rattle.olr_spec.specs.Margins.{no_margin}
-use Rattle.olr_spec.specs.Margins.{Margin, counted}
+use Rattle.olr_spec.specs.Margins.{no_margin, Margin, counted}
 use Rattle.olr_spec.proofs.Common.{◌⊎◌, inl, inr, ◌≡◌, ℕ, zero, suc, ◌+◌, true, false, List, ◌∷◌, ◌++◌, length, ◌<◌}
-use Rattle.olr_spec.proofs.Common.{◌≤◌, None, IsTrue, refl, ap, subst, arith, MatchOption, [], ◌≢◌, cases_lt, cases_eq}
-use Rattle.olr_spec.proofs.Common.{dec_le, Map, IsMap, has_line, end, dm, coord_at, lines_where, has, IsRoute, dm_of}
+use Rattle.olr_spec.proofs.Common.{◌≤◌, None, IsTrue, refl, ap, arith, MatchOption, [], ◌≢◌, cases_lt, cases_eq, dec_le}
+use Rattle.olr_spec.proofs.Common.{Map, IsMap, has_line, end, dm, coord_at, lines_where, has, IsRoute, dm_of}
 use Rattle.olr_spec.proofs.Common.{UniqueShortest, Path, is_path, first, last, passing, MayPrecede, MayFollow}
 use Rattle.olr_spec.proofs.Common.{LongestStart, LongestEnd, Tried, from_start, taken_start, extended_path, limit}
 use Rattle.olr_spec.proofs.Common.{node_at, stretch, CoveredWith, fit16, CandidateWith, ValidCandidateWith, Greatest}
 use Rattle.olr_spec.proofs.Common.{NextWith, To_end, To_valid, To_passing, FollowWith, Answer, Refused, path_fault}
 use Rattle.olr_spec.proofs.Common.{answer_by_points_with, EncodingWith, Bool-discrete, NoNextWith, OneUnique}
-use Rattle.olr_spec.proofs.Common.{SomeAnswer}
+use Rattle.olr_spec.proofs.Common.{SomeAnswer, min, slice_index, start, ◌-◌, sym, ◌∙◌}
 use Rattle.olr_spec.proofs.ListLemmas.{dec_same}
 use Rattle.olr_spec.proofs.CountedLemmas.{counted_known, counted_least}
-use Rattle.olr_spec.proofs.Common.{min, slice_index, start, ◌-◌, sym, ◌∙◌}
 use Rattle.olr_spec.proofs.Facts.{positive, dm_of-append, Each, Each-nil, Each-cons, Each-head, Each-tail, Known}
 use Rattle.olr_spec.proofs.Facts.{AreRuns, no_longer, start_runs, end_runs, last_known, sound_lines, all_first}
 use Rattle.olr_spec.proofs.Facts.{all_last, path_nonempty, by_fault, EndRun-push, has_number}
@@ -51,10 +49,7 @@ dec_lists ks (suc n) Q d =
 -- some number of the list, or none
 some_of : (Q : ℕ → Type 0) → ((x : ℕ) → Dec (Q x)) → (xs : List ℕ) → ((x : ℕ) × Q x) ⊎ Each (λ x. ¬ Q x) xs
 some_of Q d [] = inr (Each-nil (λ x. ¬ Q x))
-some_of Q d (x ∷ xs) = elim (d x) [
-  | yes p ↦ inl (x, p)
-  | no f ↦ elim (some_of Q d xs) [ inl s ↦ inl s | inr h ↦ inr (Each-cons (λ x. ¬ Q x) x xs f h) ]
-]
+some_of Q d (x ∷ xs) = grind (arith, d x, some_of Q d xs, Each-cons)
 
 -- ---- routes
 
@@ -103,20 +98,13 @@ dec_Covered g M m ls i j =
     let xs = stretch ls (i + 1) k in
     let longer : AllPositive (counted g M xs) = λ x h. let known = sym (counted_known g M xs x) ∙ h in
     omega (arith, positive M m x known, counted_least g M xs x known) in
-    let unique = dec_Unique (counted g M xs) longer (end M (slice_index ls i)) (start M (slice_index ls k)) xs in
-    elim (dec_lt i k) [
-      | yes lt ↦ map_dec (λ u _. u) (λ c. c lt) unique
-      | no not_lt ↦ yes (λ lt. absurd (not_lt lt))
-    ]
+    grind (arith, dec_lt i k, dec_Unique (counted g M xs) longer (end M (slice_index ls i)) (start M (slice_index ls k)) xs)
 
 dec_Candidate : (g : Margin) (M : Map) → IsMap M → (ls : List ℕ) (i j : ℕ) → Dec (CandidateWith g M ls i j)
 dec_Candidate g M m ls i j =
-    map_dec (λ p. record { after = p.0.0; upto = p.0.1; covered = p.1.0; near = p.1.1.0; fits = p.1.1.1 })
-    (λ c. ((c.after, c.upto), (c.covered, (c.near, c.fits))))
-    (dec_and (dec_and (dec_lt i j) (dec_le j (length ls)))
-    (dec_and (dec_Covered g M m ls i j)
-    (dec_and (dec_le (dm_of M (stretch ls i j)) limit)
-    (Bool-discrete (fit16 (coord_at M (node_at M ls i)) (coord_at M (node_at M ls j))) true))))
+    let near = dec_le (dm_of M (stretch ls i j)) limit in
+    let fits = Bool-discrete (fit16 (coord_at M (node_at M ls i)) (coord_at M (node_at M ls j))) true in
+    grind (arith, dec_lt i j, dec_le j (length ls), dec_Covered g M m ls i j, near, fits)
 
 dec_Valid : (g : Margin) (M : Map) → IsMap M → (ls : List ℕ) (i j : ℕ) → Dec (ValidCandidateWith g M ls i j)
 dec_Valid g M m ls i j = dec_and (dec_Candidate g M m ls i j) (Bool-discrete (passing M (node_at M ls j)) false)
@@ -124,25 +112,19 @@ dec_Valid g M m ls i j = dec_and (dec_Candidate g M m ls i j) (Bool-discrete (pa
 pub greatest_or_none : (Q : ℕ → Type 0) → ((k : ℕ) → Dec (Q k)) → (n : ℕ) → ((k : ℕ) → Q k → k < n) →
     ((j : ℕ) × Greatest Q j) ⊎ ((k : ℕ) → ¬ Q k)
 greatest_or_none Q d zero h = inr (λ k q. absurd (omega (arith, h k q)))
-greatest_or_none Q d (suc n) h = elim (d n) [
-  | yes q ↦ inl (n, record { holds = q; others = λ k p. omega (arith, h k p) })
-  | no f ↦ greatest_or_none Q d n
-      (λ k q. elim (cases_eq k n) [ inl e ↦ absurd (f (subst Q e q)) | inr ne ↦ omega (arith, h k q) ])
-]
+greatest_or_none Q d (suc n) h = grind (arith, d n, greatest_or_none Q d n, cases_eq, h)
 
 pub next_or_none : (g : Margin) (M : Map) → IsMap M → (ls : List ℕ) (i : ℕ) → ((j : ℕ) × NextWith g M ls i j) ⊎ NoNextWith g M ls i
-next_or_none g M m ls i = elim (dec_Candidate g M m ls i (length ls)) [
-  | yes c ↦ inl (length ls, To_end refl c)
-  | no f ↦ elim (greatest_or_none (ValidCandidateWith g M ls i) (dec_Valid g M m ls i) (suc (length ls))
-      (λ k c. omega arith)) [
+next_or_none g M m ls i =
+    let valid = greatest_or_none (ValidCandidateWith g M ls i) (dec_Valid g M m ls i) (suc (length ls)) (λ k c. omega arith) in
+    let any = greatest_or_none (CandidateWith g M ls i) (dec_Candidate g M m ls i) (suc (length ls)) (λ k c. omega arith) in
+    elim (dec_Candidate g M m ls i (length ls)) [
+      | yes c ↦ inl (length ls, To_end refl c)
+      | no f ↦ elim valid [
         | inl g ↦ inl (g.0, To_valid f g.1)
-        | inr none ↦ elim (greatest_or_none (CandidateWith g M ls i) (dec_Candidate g M m ls i) (suc (length ls))
-            (λ k c. omega arith)) [
-              | inl g ↦ inl (g.0, To_passing f none g.1)
-              | inr h ↦ inr h
-            ]
+        | inr none ↦ elim any [ inl g ↦ inl (g.0, To_passing f none g.1) | inr h ↦ inr h ]
       ]
-]
+    ]
 
 next_after : {g : Margin} (M : Map) (ls : List ℕ) (i j : ℕ) → NextWith g M ls i j → (i < j) × (j ≤ length ls)
 next_after M ls i j n = grind arith

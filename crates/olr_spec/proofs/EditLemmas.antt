@@ -1,6 +1,6 @@
 -- What an edit changes, and what it leaves unchanged.
-use Rattle.olr_spec.proofs.Common.{◌⊎◌, ◌↔◌, ◌≡◌, ◌≢◌, ℕ, Bool, true, false, cond, ◌||◌, List, Some, None, Ok, IsTrue}
-use Rattle.olr_spec.proofs.Common.{refl, ap, ◌∙◌, nat_cmp, ◌==◌, arith, eq-eqb, ne_eqb, or_left, or_right, cases_eq}
+use Rattle.olr_spec.proofs.Common.{◌⊎◌, ◌↔◌, ◌≡◌, ◌≢◌, ℕ, Bool, true, false, ◌||◌, List, Some, None, Ok, IsTrue}
+use Rattle.olr_spec.proofs.Common.{nat_cmp, ◌==◌, arith, eq-eqb, ne_eqb, or_left, or_right, cases_eq}
 use Rattle.olr_spec.proofs.Common.{both_ways, and_parts, or_parts, not-false, nat_cmp_total, FinMap, get, insert}
 use Rattle.olr_spec.proofs.Common.{remove, entries, Coord, is_coord, Map, IsMap, Line, is_good, has_node, has_line}
 use Rattle.olr_spec.proofs.Common.{start, end, Edit, Add_node, Move_node, Drop_node, Add_line, Set_line, Drop_line}
@@ -35,8 +35,7 @@ module _ {X : Type 0} where
   left_other m k q ne = grind (arith, get-remove, nat_cmp_total, unsigned_tied, ne_eqb)
 
   pub left_same : (m : FinMap nat_cmp X) (k : ℕ) → get (remove m k) k ≡ None
-  left_same m k =
-      get-remove nat_cmp_total m k k ∙ ap (λ (b : Bool). cond b None (get m k)) (unsigned_tied k k ∙ eq-eqb k k refl)
+  left_same m k = grind (arith, get-remove, nat_cmp_total, unsigned_tied, eq-eqb)
 
 -- what an accepted edit made, and what is then found
 pub ruleset edit_laws = (made_by, got_same, got_other, left_same, left_other)

@@ -4,7 +4,8 @@ use Rattle.olr_spec.proofs.Common.{inl, inr, ◌≡◌, ◌≢◌, ◌⊎◌, �
 use Rattle.olr_spec.proofs.Common.{◌∷◌, ◌++◌, refl, sym, ap, ◌∙◌, not, subst, arith, IsTrue, ◌&&◌, ◌==◌, cases_Bool}
 use Rattle.olr_spec.proofs.Common.{has, none_twice, and_parts, and_from, Map, IsMap, has_line, end, dm, dm_of, IsRoute}
 use Rattle.olr_spec.proofs.Common.{LrpRoute, leb-true, le-leb, list_any-append, append_assoc, UniqueShortest}
-use Rattle.olr_spec.proofs.ListLemmas.{Each, Each-head, Each-tail, Each-nil, Each-cons, has_cases, dec_same}
+use Rattle.olr_spec.proofs.ListLemmas.{Each, Each-nil, Each-cons, has_cases, dec_same}
+use Rattle.olr_spec.proofs.ListLemmas.{has_here, has_there}
 use Rattle.olr_spec.proofs.RouteLemmas.{positive, IsRoute-split, IsRoute-append, dm_of-append, prefix_of_unique}
 use Rattle.olr_spec.proofs.WayLemmas.{route_known}
 use Rattle.olr_spec.specs.Margins.{Margin, counted, counted_dm, CountedRoute, IsSoundFor}
@@ -95,29 +96,20 @@ module _ (g : Margin) (M N : Map) (n : IsMap N) (no_other : HasNoOther M N) (a b
   route_there : (s t : ℕ) (ys : List ℕ) → Each (λ x. IsTrue (has_line N x)) ys → IsRoute M s t ys → IsRoute N s t ys
   route_there s t [] on w = w
   route_there s t (y ∷ ys) on w =
-      let known = Each-head (λ x. IsTrue (has_line N x)) y ys on in
-      let rest = route_there (end M y) t ys (Each-tail (λ x. IsTrue (has_line N x)) y ys on) w.2 in
-      grind (arith, known, rest, no_other.starts y known, no_other.ends y known)
+      grind (arith, no_other.starts y (on y (has_here y ys)), no_other.ends y (on y (has_here y ys)), route_there (end M y) t ys (λ x i. on x (has_there y ys x i)))
 
   route_here : (s t : ℕ) (ys : List ℕ) → IsRoute N s t ys → IsRoute M s t ys × Each (λ x. IsTrue (has_line N x)) ys
   route_here s t [] w = (w, Each-nil (λ x. IsTrue (has_line N x)))
   route_here s t (y ∷ ys) w =
-      let rest = route_here (end N y) t ys w.2 in (
-        grind (arith, no_other.known y w.0, no_other.starts y w.0, no_other.ends y w.0, rest.0),
-        Each-cons (λ x. IsTrue (has_line N x)) y ys w.0 rest.1,
-      )
+      grind (arith, no_other.known y, no_other.starts y, no_other.ends y, has_cases y ys, route_here (end N y) t ys)
 
   own_most : Each (λ x. there x ≤ here x) xs
   own_most x on =
-      let known = no_other.known x (nearly.known x on) in
-      let e = counted_own g M xs x known on in
-      subst (λ k. there x ≤ (1000 + a) * 1000 * k) (sym e) (own_weight g a (dm M x) (dm N x) (nearly.own x on))
+      grind (arith, counted_own g M xs x (no_other.known x (nearly.known x on)) on, own_weight g a (dm M x) (dm N x) (nearly.own x on))
 
   other_most : (y : ℕ) → IsTrue (has_line N y) → has xs y ≡ false → here y ≤ there y
   other_most y known off =
-      let e = counted_other g M xs y off in
-      subst (λ k. (1000 + a) * 1000 * k ≤ there y) (sym e)
-      (other_weight g.routes a (1000 - b) (dm M y) (dm N y) (leb-true _ _ enough) (nearly.others y known off))
+      grind (arith, counted_other g M xs y off, other_weight g.routes a (1000 - b) (dm M y) (dm N y) (leb-true _ _ enough) (nearly.others y known off))
 
   -- a route without a line twice that is longer here is longer there
   longer_there : (ys : List ℕ) → Each (λ x. IsTrue (has_line N x)) ys → none_twice ys ≡ true → dm_of K xs < dm_of K ys →
@@ -199,15 +191,8 @@ count_same : (g : Margin) (M : Map) (xs ws ys : List ℕ) → Each (λ x. IsTrue
     dm_of (counted g M xs) ys ≡ dm_of (counted g M ws) ys
 count_same g M xs ws [] known same = refl
 count_same g M xs ws (y ∷ ys) known same =
-    grind (
-      arith,
-      count_same g M xs ws ys (Each-tail (λ x. IsTrue (has_line M x)) y ys known) (Each-tail (λ y. has xs y ≡ has ws y) y ys same),
-      Each-head (λ x. IsTrue (has_line M x)) y ys known,
-      Each-head (λ y. has xs y ≡ has ws y) y ys same,
-      cases_Bool (has xs y),
-      counted_own,
-      counted_other,
-    )
+    let rest = count_same g M xs ws ys (λ x i. known x (has_there y ys x i)) (λ x i. same x (has_there y ys x i)) in
+    grind (arith, rest, known y (has_here y ys), same y (has_here y ys), cases_Bool (has xs y), counted_own, counted_other)
 
 -- the front of such a route, where its own lines count longer and no others
 module _ (g : Margin) (M : Map) (m : IsMap M) (s v t : ℕ) (xs rest : List ℕ)
@@ -222,10 +207,7 @@ module _ (g : Margin) (M : Map) (m : IsMap M) (s v t : ℕ) (xs rest : List ℕ)
   only_later y = has rest y && not (has xs y)
 
   same_test : (y : ℕ) → only_later y ≡ false → has xs y ≡ has (xs ++ rest) y
-  same_test y off = list_any-append-rule y off
-    where
-      list_any-append-rule : (y : ℕ) → only_later y ≡ false → has xs y ≡ has (xs ++ rest) y
-      list_any-append-rule y off = grind (arith, list_any-append (λ z. z == y) xs rest, cases_Bool (has xs y), cases_Bool (has rest y))
+  same_test y off = grind (arith, list_any-append (λ z. z == y) xs rest, cases_Bool (has xs y), cases_Bool (has rest y))
 
   same_counts : (ys : List ℕ) → Each (λ x. IsTrue (has_line M x)) ys → Each (λ y. only_later y ≡ false) ys → dm_of Front ys ≡ dm_of Whole ys
   same_counts ys known off = count_same g M xs (xs ++ rest) ys known (λ y on. same_test y (off y on))

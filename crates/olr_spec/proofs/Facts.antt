@@ -4,7 +4,7 @@ pub use Rattle.olr_spec.proofs.AgreeLemmas.{same_passing, same_record, same_star
 pub use Rattle.olr_spec.proofs.AnswerLemmas.{all_first, all_last, by_fault, map_None, one_answer, one_answer_with}
 pub use Rattle.olr_spec.proofs.AnswerLemmas.{one_follow, one_next, or_None, path_also, path_at, path_nonempty, same_by}
 pub use Rattle.olr_spec.proofs.AnswerLemmas.{sound_lines}
-pub use Rattle.olr_spec.proofs.JoinLemmas.{Linked, LinkedWith, RouteTo, between, between_is, empty_stretch}
+pub use Rattle.olr_spec.proofs.JoinLemmas.{LinkedWith, RouteTo, between, between_is, empty_stretch}
 pub use Rattle.olr_spec.proofs.JoinLemmas.{follow_linked_with, joins_last, joins_to, kept_linked_with, routes_join}
 pub use Rattle.olr_spec.proofs.JoinLemmas.{stretch_first}
 pub use Rattle.olr_spec.proofs.KeptLemmas.{back_within, dm_along-append, dm_along-legs, front_within, two_kept, whole}

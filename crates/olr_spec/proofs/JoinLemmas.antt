@@ -1,17 +1,16 @@
 -- The routes between the remaining LRPs join to the extended path.
-use Rattle.olr_spec.specs.Margins.{no_margin}
 use Rattle.olr_spec.specs.Margins.{Margin, CountedRoute, IsSoundFor}
-use Rattle.olr_spec.proofs.Common.{inl, inr, ◌≡◌, ℕ, ◌+◌, ◌-◌, min, Bool, true, false, ◌&&◌, List, ◌∷◌, ◌++◌, length}
+use Rattle.olr_spec.proofs.Common.{inl, inr, ◌≡◌, ℕ, ◌+◌, ◌-◌, min, Bool, true, ◌&&◌, List, ◌∷◌, ◌++◌, length}
 use Rattle.olr_spec.proofs.Common.{take, drop, ◌<◌, ◌≤◌, refl, ap, ◌∙◌, subst, arith, nat_le, length-drop, ◌↔◌, []}
 use Rattle.olr_spec.proofs.Common.{leb-true, le-leb, get_or-drop, slice_index, filter, cases_eq, and_parts, and_from}
-use Rattle.olr_spec.proofs.Common.{cond_both, nat_tests, take_more, ⊤, Map, start, end, LrpRoute, stretch, CoveredWith}
+use Rattle.olr_spec.proofs.Common.{nat_tests, take_more, ⊤, Map, start, end, LrpRoute, stretch, CoveredWith}
 use Rattle.olr_spec.proofs.Common.{CandidateWith, FollowWith, JoinsTo, JoinsLast, drop_more, Joins, RoutesJoin}
 use Rattle.olr_spec.proofs.RouteLemmas.{IsRoute-split}
 use Rattle.olr_spec.proofs.AnswerLemmas.{Next-candidate}
 use Rattle.olr_spec.proofs.ListLemmas.{Each, Each-tail, has_here, has_there, has_filter}
 use Rattle.olr_spec.proofs.CountedLemmas.{counted_zero, route_counted}
 use Rattle.olr_spec.proofs.ElsewhereLemmas.{counted_unique, counted_part}
-use Rattle.olr_spec.proofs.Common.{sym, kept_points, legs, first_kept, last_kept}
+use Rattle.olr_spec.proofs.Common.{sym, kept_points, legs, first_kept, last_kept, cases_Bool}
 
 -- ---- parts of a list
 
@@ -120,26 +119,16 @@ pub between_is : (a b i : ℕ) → (between a b i ≡ true) ↔ ((a ≤ i) × (i
 between_is a b i = grind (arith, and_parts, leb-true, and_from, le-leb)
 
 -- no LRP after b remains
-none_beyond : (g : Margin) (M : Map) (ls : List ℕ) (a b p : ℕ) (ks : List ℕ) → b < p → LinkedWith g M ls (p ∷ ks) →
-    filter (between a b) (p ∷ ks) ≡ []
-none_beyond g M ls a b p [] h l = grind (arith, nat_tests)
+none_beyond : (g : Margin) (M : Map) (ls : List ℕ) (a b p : ℕ) (ks : List ℕ) → b < p → LinkedWith g M ls (p ∷ ks) → filter (between a b) ks ≡ []
+none_beyond g M ls a b p [] h l = refl
 none_beyond g M ls a b p (q ∷ ks) h l = grind (arith, none_beyond g M ls a b q ks (omega arith) l.1, nat_tests)
 
 pub kept_linked_with : (g : Margin) (M : Map) (ls : List ℕ) (a b : ℕ) (ks : List ℕ) → LinkedWith g M ls ks → LinkedWith g M ls (filter (between a b) ks)
 kept_linked_with g M ls a b [] l = tt
-kept_linked_with g M ls a b (p ∷ []) l = cond_both (between a b p) (p ∷ []) [] (LinkedWith g M ls) (λ _. tt) (λ _. tt)
+kept_linked_with g M ls a b (p ∷ []) l = grind (arith, cases_Bool (between a b p))
 kept_linked_with g M ls a b (p ∷ q ∷ ks) l =
     let rest = kept_linked_with g M ls a b (q ∷ ks) l.1 in
-    let later : List ℕ = filter (between a b) ks in
-    cond_both (between a b p) (p ∷ filter (between a b) (q ∷ ks)) (filter (between a b) (q ∷ ks)) (LinkedWith g M ls)
-    (λ e. cond_both (between a b q) (q ∷ later) later (λ zs. LinkedWith g M ls zs → LinkedWith g M ls (p ∷ zs)) (λ f r. (l.0, r))
-    (λ f r. coe 1 0 (i. LinkedWith g M ls (p ∷ after p q ks l e f i)) tt) rest) (λ e. rest)
-  where
-    after : (p q : ℕ) (ks : List ℕ) → LinkedWith g M ls (p ∷ q ∷ ks) → between a b p ≡ true → between a b q ≡ false →
-        filter (between a b) ks ≡ []
-    after p q [] l e f = refl
-    after p q (r ∷ ks) l e f =
-        let high : b < q = grind (arith, nat_tests) in none_beyond g M ls a b r ks (omega arith) l.1.1
+    grind (arith, rest, none_beyond g M ls a b q ks, cases_Bool (between a b p), cases_Bool (between a b q), nat_tests)
 
 pub kept_joins : (g : Margin) (M K : Map) → IsSoundFor g M → (ls js : List ℕ) (positive negative : ℕ) →
     Carries g M K ls (first_kept (legs M ls) positive js) (last_kept (legs M ls) negative js) → FollowWith g M ls 0 js →
@@ -156,8 +145,3 @@ pub routes_join : (g : Margin) → RoutesJoin g
 routes_join g M sound ls js positive negative f e =
     kept_joins g M M sound ls js positive negative
     (carries_here g M sound ls (first_kept (legs M ls) positive js) (last_kept (legs M ls) negative js)) f
-
--- ---- without a margin
-
-abbrev pub Linked : Map → List ℕ → List ℕ → Type 0
-Linked = LinkedWith no_margin

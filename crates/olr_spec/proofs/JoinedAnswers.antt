@@ -1,10 +1,8 @@
 -- The routes between the LRPs of an answer join to the extended path.
-use Rattle.olr_spec.specs.Margins.{no_margin}
-use Rattle.olr_spec.proofs.Common.{refl, Joined, inl, Encoding}
-use Rattle.olr_spec.specs.Margins.{Margin, IsSoundFor}
-use Rattle.olr_spec.proofs.Common.{◌≡◌, ◌<◌, ◌+◌, ℕ, List, length, None, ap, arith, Map, dm_of, Path, extended_path}
-use Rattle.olr_spec.proofs.Common.{Reference, legs, first_kept, last_kept, kept_points, Points, path_fault}
-use Rattle.olr_spec.proofs.Common.{EncodingWith, JoinedWith}
+use Rattle.olr_spec.specs.Margins.{no_margin, Margin, IsSoundFor}
+use Rattle.olr_spec.proofs.Common.{refl, Joined, inl, Encoding, ◌≡◌, ◌<◌, ◌+◌, ℕ, List, length, None, ap, arith, Map}
+use Rattle.olr_spec.proofs.Common.{dm_of, Path, extended_path, Reference, legs, first_kept, last_kept, kept_points}
+use Rattle.olr_spec.proofs.Common.{Points, path_fault, EncodingWith, JoinedWith}
 use Rattle.olr_spec.proofs.Facts.{path_also, routes_join, two_kept, dm_of-append}
 use Rattle.olr_spec.proofs.DecodedLemmas.{two_of}
 use Rattle.olr_spec.proofs.FitLemmas.{long_enough, kept_ends, answered}

@@ -6,8 +6,7 @@ use Rattle.olr_spec.proofs.CountedMoves.{counted_longer, counted_length_same, cl
 use Rattle.olr_spec.proofs.Common.{◌≡◌, ℕ, ◌+◌, List, ◌∷◌, ◌<◌, ◌≤◌, sym, ap, ◌∙◌, subst, arith, slice_index, [], Map}
 use Rattle.olr_spec.proofs.Common.{start, end, SameWay, IsRoute, stretch, ChangedLine, AccountsFor, Detour, IsClear}
 use Rattle.olr_spec.proofs.Common.{KnownQuery, KnownRetained, All-contains, get_or}
-use Rattle.olr_spec.proofs.Facts.{Each, Each-head, Each-right, IsRoute-split, IsRoute-moves}
-use Rattle.olr_spec.proofs.Facts.{same_there, stretch_first}
+use Rattle.olr_spec.proofs.Facts.{Each, Each-head, Each-right, IsRoute-split, IsRoute-moves, same_there, stretch_first}
 use Rattle.olr_spec.specs.Queries.{IsKnownWith}
 use Rattle.olr_spec.proofs.QueryLemmas.{stretch_parts}
 
@@ -63,7 +62,7 @@ module _ {g : Margin} (M N : Map) (C : List ChangedLine) (there : AccountsFor C 
             ((clear_front g M N C there here s (start M (slice_index ls m)) t (part m) (stretch ls m e.last)
             (front m h lt) (after m h lt)
             (subst (λ (d : ℕ). ¬ Detour N C s t d) (k.within ∙ ap (counted_dm_of g M) parts) clear)).0 (k.before m h lt));
-        covered = ((λ c. clear_all.0 (k.covered.0 c)), (λ u. k.covered.1 (clear_all.1 u)));
+        covered = grind (arith, clear_all, k.covered);
       }
 
 -- ---- of a path

@@ -13,7 +13,7 @@ use Rattle.olr_spec.proofs.AnswerLemmas.{path_at, path_also}
 use Rattle.olr_spec.proofs.FieldLemmas.{range_legs}
 use Rattle.olr_spec.proofs.FitLemmas.{by_answer, extended_sound, answered}
 use Rattle.olr_spec.proofs.RecoverLemmas.{within_greatest, recovers_to, recovers_last, extended_once, once_apart}
-use Rattle.olr_spec.proofs.Common.{Within, Joins, line_at, none_twice, attrs_with, fold, max, map, Leg, extended_path, kept_points, ◌==◌, cases_Bool, ◌-◌}
+use Rattle.olr_spec.proofs.Common.{Within, Joins, none_twice, attrs_with, fold, max, map, Leg, extended_path, kept_points, ◌==◌, cases_Bool, ◌-◌}
 
 -- what holds of each line of a part holds of each line of a part of it
 part_of : (P : ℕ → Type 0) (ls : List ℕ) (a b p q : ℕ) → a ≤ p → p ≤ q → q ≤ b → Each P (stretch ls a b) → Each P (stretch ls p q)
@@ -54,15 +54,11 @@ routes_join_elsewhere g M N m n no_other a b enough ls js positive negative f ne
 
 -- ---- receivers
 
-allowed_more : (g : Margin) (c d : ℕ) → c ≤ d → allowed g c ≤ allowed g d
-allowed_more g c d h = grind (arith, cases_Bool (g.classes == 0))
-
 within_there : (g : Margin) (M N : Map) (c : ℕ) (xs : List ℕ) → Within M c xs → HasClasses g M N xs → Within N (allowed g c) xs
 within_there g M N c [] w h = tt
-within_there g M N c (x ∷ xs) w h = (
-  omega (arith, h x (has_here x xs), allowed_more g (line_at M x).frc c w.0),
-  within_there g M N c xs w.1 (λ y on. h y (has_there x xs y on)),
-)
+within_there g M N c (x ∷ xs) w h =
+    let rest = within_there g M N c xs w.1 (λ y on. h y (has_there x xs y on)) in
+    grind (arith, h x (has_here x xs), cases_Bool (g.classes == 0), rest)
 
 module _ (g : Margin) (M N : Map) (m : IsMap M) (ls : List ℕ) (known : Each (Known M) ls) (once : none_twice ls ≡ true) (a b : ℕ)
     (classes : HasClasses g M N (stretch ls a b)) where
@@ -78,20 +74,14 @@ module _ (g : Margin) (M N : Map) (m : IsMap M) (ls : List ℕ) (known : Each (K
   recovers_legs [] l above below j = tt
   recovers_legs (p ∷ []) l above below j = tt
   recovers_legs (p ∷ q ∷ []) l above below j =
-      let from = above p (has_here p (q ∷ [])) in
-      let to = below q (has_there p (q ∷ []) q (has_here q [])) in
-      let after = l.0.after in
-      let upto = l.0.upto in
-      recovers_last N ls (attrs_with g (legs M ls) p q).lfrc p q after upto
-      (λ far. once_apart ls p (q - 1) once (omega (arith, far)) (omega (arith, after, upto)))
-      (leg_within p q from (omega (arith, after)) to) j
-  recovers_legs (p ∷ q ∷ r ∷ ks) l above below j =
-      let from = above p (has_here p (q ∷ r ∷ ks)) in
-      let to = below q (has_there p (q ∷ r ∷ ks) q (has_here q (r ∷ ks))) in
-      let after = l.0.after in (
-        recovers_to N ls (attrs_with g (legs M ls) p q).lfrc p q (leg_within p q from (omega (arith, after)) to) j.0,
-        recovers_legs (q ∷ r ∷ ks) l.1 (Each-tail (λ k. a ≤ k) p (q ∷ r ∷ ks) above) (Each-tail (λ k. k ≤ b) p (q ∷ r ∷ ks) below) j.1,
-      )
+      recovers_last N ls (attrs_with g (legs M ls) p q).lfrc p q l.0.after l.0.upto
+      (λ far. once_apart ls p (q - 1) once (omega (arith, far)) (omega (arith, l.0.after, l.0.upto)))
+      (leg_within p q (above p (has_here p (q ∷ []))) (omega (arith, l.0.after)) (below q (has_there p (q ∷ []) q (has_here q [])))) j
+  recovers_legs (p ∷ q ∷ r ∷ ks) l above below j = (
+    recovers_to N ls (attrs_with g (legs M ls) p q).lfrc p q (leg_within p q (above p (has_here p (q ∷ r ∷ ks)))
+        (omega (arith, l.0.after)) (below q (has_there p (q ∷ r ∷ ks) q (has_here q (r ∷ ks))))) j.0,
+    recovers_legs (q ∷ r ∷ ks) l.1 (Each-tail (λ k. a ≤ k) p (q ∷ r ∷ ks) above) (Each-tail (λ k. k ≤ b) p (q ∷ r ∷ ks) below) j.1,
+  )
 
 pub recovered_elsewhere : (g : Margin) → RecoveredElsewhere g
 recovered_elsewhere g M N m n no_other a b enough P is r e nearly classes =

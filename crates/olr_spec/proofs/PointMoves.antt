@@ -1,14 +1,13 @@
 -- LRPs, answers and faults are the same on two maps that agree around a path's traversed nodes and on the positions that
 -- are covered from its LRPs.
 use Rattle.olr_spec.specs.Margins.{Margin, counted, CountedRoute}
-use Rattle.olr_spec.proofs.Common.{ap, subst}
-use Rattle.olr_spec.proofs.CountedLemmas.{counted_nil}
-use Rattle.olr_spec.proofs.Common.{◌≡◌, ℕ, ◌+◌, ◌-◌, min, Bool, true, cond, List, ◌∷◌, length, ◌<◌, ◌≤◌, refl, sym, ◌∙◌}
-use Rattle.olr_spec.proofs.Common.{arith, ◌==◌, ◌↔◌, suc, Some, [], ltb-true, slice_index, Map, IsMap, start, end}
+use Rattle.olr_spec.proofs.Common.{ap, subst, ◌≡◌, ℕ, ◌+◌, ◌-◌, min, Bool, true, cond, List, ◌∷◌, length, ◌<◌, ◌≤◌}
+use Rattle.olr_spec.proofs.Common.{refl, sym, ◌∙◌, arith, ◌↔◌, suc, [], ltb-true, slice_index, Map, IsMap, start, end}
 use Rattle.olr_spec.proofs.Common.{coord_at, SameLine, SameRound, has, IsRoute, dm_of, LrpRoute, Path, passing, limit}
 use Rattle.olr_spec.proofs.Common.{node_at, stretch, CoveredWith, fit16, CandidateWith, ValidCandidateWith, Greatest}
 use Rattle.olr_spec.proofs.Common.{NextWith, To_end, To_valid, To_passing, FollowWith, legs, first_unknown, first_break}
 use Rattle.olr_spec.proofs.Common.{path_fault, Traversed}
+use Rattle.olr_spec.proofs.CountedLemmas.{counted_nil}
 use Rattle.olr_spec.proofs.Facts.{empty_unique, empty_stretch, Each, Each-nil, Each-head, Each-tail, Each-range}
 use Rattle.olr_spec.proofs.Facts.{has_last, has_index, map_same, Alike, same_record, same_start, same_end, same_dm_of}
 use Rattle.olr_spec.proofs.Facts.{same_coord, same_passing, same_known}
@@ -101,10 +100,7 @@ unknown_same M N (x ∷ ls) h = grind (arith, unknown_same M N ls, same_known, E
 break_same : (M N : Map) (k : ℕ) (ls : List ℕ) → Each (SameLine M N) ls → first_break M k ls ≡ first_break N k ls
 break_same M N k [] h = refl
 break_same M N k (x ∷ []) h = refl
-break_same M N k (x ∷ y ∷ ls) h =
-    let tail = Each-tail (SameLine M N) x (y ∷ ls) h in
-    let e = same_end M N x (Each-head (SameLine M N) x (y ∷ ls) h) in
-    λ i. cond (e i == same_start M N y (Each-head (SameLine M N) y ls tail) i) (break_same M N (suc k) (y ∷ ls) tail i) (Some k)
+break_same M N k (x ∷ y ∷ ls) h = grind (arith, break_same M N (suc k) (y ∷ ls), same_end, same_start, Each-head, Each-tail)
 
 pub fault_same : (M N : Map) (P : Path) → Each (SameLine M N) P.lines → path_fault M P ≡ path_fault N P
 fault_same M N P h = grind (arith, break_same, same_dm_of, unknown_same)

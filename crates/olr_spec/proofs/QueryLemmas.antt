@@ -3,11 +3,10 @@
 use Rattle.olr_spec.specs.Margins.{Margin, counted, counted_dm_of, CountedRoute, IsSoundFor}
 use Rattle.olr_spec.proofs.Common.{inl, inr, ◌≡◌, ℕ, ◌+◌, ◌-◌, min, List, ◌++◌, length, ◌<◌, ◌≤◌, sym, ap, subst, arith}
 use Rattle.olr_spec.proofs.Common.{drop-drop, ◌↔◌, slice_index, cases_lt, Map, start, end, SameLine, SameRound, IsRoute}
-use Rattle.olr_spec.proofs.Common.{dm_of, Reaches, limit, stretch, CoveredWith, ChangedLine, AccountsFor}
-use Rattle.olr_spec.proofs.Common.{Detour, Needed, IsLastTestedWith, query_to_with, IsClear, SameWay}
-use Rattle.olr_spec.proofs.Facts.{Each, Each-range, has_index, same_start, same_end}
-use Rattle.olr_spec.proofs.Facts.{same_dm_of, same_ways, IsRoute-moves, unique_same, within, within_other}
-use Rattle.olr_spec.proofs.Facts.{way_between, next_start}
+use Rattle.olr_spec.proofs.Common.{dm_of, Reaches, limit, stretch, CoveredWith, ChangedLine, AccountsFor, Detour}
+use Rattle.olr_spec.proofs.Common.{Needed, IsLastTestedWith, query_to_with, IsClear, SameWay}
+use Rattle.olr_spec.proofs.Facts.{Each, Each-range, has_index, same_start, same_end, same_dm_of, same_ways}
+use Rattle.olr_spec.proofs.Facts.{IsRoute-moves, unique_same, within, within_other, way_between, next_start}
 use Rattle.olr_spec.proofs.WayLemmas.{route_known}
 use Rattle.olr_spec.proofs.JoinLemmas.{CountedTo}
 use Rattle.olr_spec.proofs.ElsewhereLemmas.{counted_part}
@@ -120,10 +119,7 @@ module _ {g : Margin} (M N : Map) (ls : List ℕ) (same : Each (SameLine M N) ls
   alike p q = same_dm_of M N (stretch ls p q) (Each-range (SameLine M N) ls p q same)
 
   pub covered_same : (j : ℕ) → min j (length ls - 1) ≤ k → CoveredWith g M ls i j ↔ CoveredWith g N ls i j
-  covered_same j h = (
-    (λ c lt. (routes (min j (length ls - 1)) lt h).0 (c lt)),
-    (λ c lt. (routes (min j (length ls - 1)) lt h).1 (c lt)),
-  )
+  covered_same j h = grind (arith, routes (min j (length ls - 1)))
 
   -- the coverage query is one of the other map too
   pub query_stays : IsLastTestedWith g N ls i k

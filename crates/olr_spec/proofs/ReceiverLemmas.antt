@@ -1,6 +1,5 @@
 -- Every receiver recovers the legs between the remaining LRPs.
-use Rattle.olr_spec.specs.Margins.{no_margin}
-use Rattle.olr_spec.specs.Margins.{Margin, allowed}
+use Rattle.olr_spec.specs.Margins.{no_margin, Margin, allowed}
 use Rattle.olr_spec.proofs.Common.{◌≡◌, ◌≢◌, ℕ, Bool, true, ◌↔◌, IsTrue, arith, eqb-true, eq-eqb, ltb-true, cases_Bool}
 use Rattle.olr_spec.proofs.Common.{cases_eq, both_ways, or_cases, Map, has_line, line_at, Leg, leg, candidates}
 use Rattle.olr_spec.proofs.Common.{Receiver, is_nearest, has_no_twin, AllPass-from_list_all, list_all, list_all-map}
@@ -9,19 +8,19 @@ use Rattle.olr_spec.proofs.Common.{slice_get, [], option_map, slice_index, ⊤, 
 use Rattle.olr_spec.proofs.Common.{none_twice, extended_path, stretch, OfPathWith, Reference, legs, leg_at, no_leg}
 use Rattle.olr_spec.proofs.Common.{attrs_with, Middle, middle_points_with, last_two, reference_by_kept_with, Points}
 use Rattle.olr_spec.proofs.Common.{path_fault, EncodingWith, Side, Within, RecoversTo, RecoversLast, Recovered}
+use Rattle.olr_spec.proofs.Common.{EncodesWith, inr, fold, max, subst}
 use Rattle.olr_spec.proofs.Facts.{at_index, has_number, Each, has_index, Known, path_also, path_at, LinkedWith}
 use Rattle.olr_spec.proofs.Facts.{joins_to, joins_last}
 use Rattle.olr_spec.specs.Receiver.{sector_on, Lrp, rating, Takes, Outgoing, Incoming, lrp_at, last_number, last_lrp}
 use Rattle.olr_spec.specs.Receiver.{decoded_coord, RecoversFrom, RecoversBy}
-use Rattle.olr_spec.proofs.Common.{EncodesWith}
 use Rattle.olr_spec.specs.Recovery.{line_by, IsLineAtWith, stretches, IsStretchesWith}
 use Rattle.olr_spec.proofs.FieldLemmas.{range_legs}
 use Rattle.olr_spec.proofs.FitLemmas.{extended_sound, by_answer}
 use Rattle.olr_spec.proofs.DecodedLemmas.{answer_decodes, Back, Form, Front, Kept, form}
 use Rattle.olr_spec.proofs.JoinLemmas.{Carries, carries_here}
-use Rattle.olr_spec.proofs.Common.{inr, fold, max, subst}
 use Rattle.olr_spec.proofs.ListLemmas.{Each-range}
-use Rattle.olr_spec.proofs.RecoverLemmas.{within_greatest, within_allowed, recovers_to, recovers_last, extended_once, once_apart}
+use Rattle.olr_spec.proofs.RecoverLemmas.{within_greatest, within_allowed, recovers_to, recovers_last, extended_once}
+use Rattle.olr_spec.proofs.RecoverLemmas.{once_apart}
 use Rattle.olr_spec.specs.Reference as fields
 
 -- ---- a test that all candidates pass
@@ -137,19 +136,19 @@ module _ {g : Margin} (M : Map) (m : IsMap M) (P : Path) (is : IsTrue (is_path P
       Q (extended_path M P e.before e.after) e.points
   same_path Q p = path_at m is none e p
 
-  abbrev Lines : List ℕ
+  abbrev pub Lines : List ℕ
   Lines = (extended_path M P e.before e.after).lines
 
-  abbrev Points_kept : List ℕ
+  abbrev pub Points_kept : List ℕ
   Points_kept = Kept M P is none r e
 
-  formed : Form g M Lines Points_kept (Front M P is none r e) (Back M P is none r e) r
+  pub formed : Form g M Lines Points_kept (Front M P is none r e) (Back M P is none r e) r
   formed = form M P is none r e
 
-  size : last_number r + 1 ≡ length Points_kept
+  pub size : last_number r + 1 ≡ length Points_kept
   size = omega (arith, (answer_decodes M P is none r e).count)
 
-  line_at_point : (s : Side) (k p : ℕ) → slice_get Points_kept k ≡ Some p → IsLineAtWith g M P s k (line_by s Lines p)
+  pub line_at_point : (s : Side) (k p : ℕ) → slice_get Points_kept k ≡ Some p → IsLineAtWith g M P s k (line_by s Lines p)
   line_at_point s k p at = path_also e (ap (option_map (line_by s Lines)) at)
 
   module _ (T : Lrp → ℕ → Type 0) (S : Side → ℤ × ℤ → ℕ → Type 0)
@@ -163,12 +162,9 @@ module _ {g : Margin} (M : Map) (m : IsMap M) (P : Path) (is : IsTrue (is_path P
         let on : k + 0 ≡ last_number r = omega arith in
         back _ (line_at_point Incoming (last_number r) h (ap (slice_get Points_kept) (sym on) ∙ at 0))
     owns_from k (h ∷ i ∷ js) at size =
-        let on : k + 0 ≡ k = omega arith in (
-          out k (omega arith) _ (line_at_point Outgoing k h (ap (slice_get Points_kept) (sym on) ∙ at 0)),
-          owns_from (suc k) (i ∷ js)
-              (λ n. let step : suc k + n ≡ k + suc n = omega arith in ap (slice_get Points_kept) step ∙ at (suc n))
-              (omega arith),
-        )
+        let on : k + 0 ≡ k = omega arith in
+        let rest : (n : ℕ) → slice_get Points_kept (suc k + n) ≡ slice_get (i ∷ js) n = λ n. let step : suc k + n ≡ k + suc n = omega arith in ap (slice_get Points_kept) step ∙ at (suc n) in
+        (out k (omega arith) _ (line_at_point Outgoing k h (ap (slice_get Points_kept) (sym on) ∙ at 0)), owns_from (suc k) (i ∷ js) rest (omega arith))
 
     recovered_of : (ws : List (List ℕ)) → RecoversBy T M r ws ↔ IsStretchesWith g M P ws
     recovered_of ws =

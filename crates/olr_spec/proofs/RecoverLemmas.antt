@@ -1,16 +1,15 @@
 -- A shortest route over lines within the LFRCNP is the leg of the extended path.
 use Rattle.olr_spec.specs.Margins.{Margin, allowed}
-use Rattle.olr_spec.proofs.Common.{IsMap, nat_tests, cases_Bool, ◌==◌}
-use Rattle.olr_spec.proofs.ListLemmas.{Each, Each-head, Each-tail, Known}
-use Rattle.olr_spec.proofs.Common.{inl, inr, ◌≡◌, ◌≢◌, ℕ, zero, suc, ◌+◌, ◌-◌, max, true, false, not, List, ◌∷◌, ◌++◌}
-use Rattle.olr_spec.proofs.Common.{length, ◌<◌, ◌≤◌, ◌↔◌, IsTrue, map, refl, ap, ◌∙◌, subst, arith, [], slice_index}
-use Rattle.olr_spec.proofs.Common.{fold, eq-eqb, ne_eqb, both_ways, and_parts, and_from, or_parts, list_any-append, Map}
-use Rattle.olr_spec.proofs.Common.{line_at, start, end, has, LrpRoute, Path, is_path, none_twice, Tried, extended_path}
-use Rattle.olr_spec.proofs.Common.{stretch, Leg, legs, JoinsTo, JoinsLast, Within, RecoversTo, RecoversLast}
-use Rattle.olr_spec.proofs.Common.{length-drop, length-append, drop, not_from_false, not-true, length-take-le}
+use Rattle.olr_spec.proofs.Common.{IsMap, nat_tests, cases_Bool, ◌==◌, inl, inr, ◌≡◌, ◌≢◌, ℕ, zero, suc, ◌+◌, ◌-◌, max}
+use Rattle.olr_spec.proofs.Common.{true, false, not, List, ◌∷◌, ◌++◌, length, ◌<◌, ◌≤◌, ◌↔◌, IsTrue, map, refl, ap, ◌∙◌}
+use Rattle.olr_spec.proofs.Common.{subst, arith, [], slice_index, fold, eq-eqb, ne_eqb, both_ways, and_parts, and_from}
+use Rattle.olr_spec.proofs.Common.{or_parts, list_any-append, Map, line_at, start, end, has, LrpRoute, Path, is_path}
+use Rattle.olr_spec.proofs.Common.{none_twice, Tried, extended_path, stretch, Leg, legs, JoinsTo, JoinsLast, Within}
+use Rattle.olr_spec.proofs.Common.{RecoversTo, RecoversLast, length-drop, length-append, drop, not_from_false, not-true}
+use Rattle.olr_spec.proofs.Common.{length-take-le}
+use Rattle.olr_spec.proofs.ListLemmas.{Each, Each-head, Each-tail, Known, dec_same}
 use Rattle.olr_spec.proofs.Facts.{has_index, extended_keeps}
 use Rattle.olr_spec.specs.Receiver.{Shortest, One_line, More_lines}
-use Rattle.olr_spec.proofs.ListLemmas.{dec_same}
 
 -- ---- lists
 
@@ -33,10 +32,8 @@ pub within_allowed : (g : Margin) (M : Map) → IsMap M → (c : ℕ) (xs : List
     Within M (allowed g c) xs
 within_allowed g M m c [] known w = tt
 within_allowed g M m c (x ∷ xs) known w =
-    let good = m.good x (Each-head (Known M) x xs known) in (
-      grind (arith, nat_tests, and_parts, good, w.0, cases_Bool (g.classes == 0)),
-      within_allowed g M m c xs (Each-tail (Known M) x xs known) w.1,
-    )
+    let good = m.good x (Each-head (Known M) x xs known) in
+    grind (arith, nat_tests, and_parts, good, cases_Bool (g.classes == 0), within_allowed g M m c xs (Each-tail (Known M) x xs known) w.1)
 
 -- ---- a unique shortest path is the only shortest route over any lines that include it
 

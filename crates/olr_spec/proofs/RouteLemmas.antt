@@ -1,5 +1,5 @@
 -- Routes, and the shortest path.
-use Rattle.olr_spec.proofs.Common.{◌≡◌, ◌≢◌, ℕ, ◌+◌, ◌<◌, ◌≤◌, List, ◌∷◌, ◌++◌, reverse, inl, inr, refl, sym, ap, ◌∙◌}
+use Rattle.olr_spec.proofs.Common.{◌≡◌, ℕ, ◌+◌, ◌<◌, ◌≤◌, List, ◌∷◌, ◌++◌, reverse, inl, inr, refl, sym, ap, ◌∙◌}
 use Rattle.olr_spec.proofs.Common.{subst, arith, IsTrue, [], cases_order, and_parts, nat_tests, reverse-append, Map}
 use Rattle.olr_spec.proofs.Common.{IsMap, has_node, has_line, end, dm, IsRoute, dm_of, FirstSmaller, PrecedesInTieOrder}
 use Rattle.olr_spec.proofs.Common.{reverse-reverse, append_cancel_right, NoLongerSuffix, OneLeast, PrefixOfLeast}
@@ -62,8 +62,7 @@ compare_lists (x ∷ xs) (y ∷ ys) = elim (cases_order x y) [
 
 not_self : (xs : List ℕ) → ¬ FirstSmaller xs xs
 not_self [] h = h
-not_self (x ∷ xs) (inl h) = absurd (omega arith)
-not_self (x ∷ xs) (inr h) = not_self xs h.1
+not_self (x ∷ xs) h = grind (arith, not_self xs)
 
 with_front : (zs xs ys : List ℕ) → FirstSmaller xs ys → FirstSmaller (zs ++ xs) (zs ++ ys)
 with_front [] xs ys h = h
@@ -109,11 +108,7 @@ empty_least M s = grind (arith, nothing_below_nil)
 -- ---- the unique shortest path
 
 pub empty_unique : EmptyIsUnique
-empty_unique M m s = record { route = refl; others = λ ys w ne. nonempty ys w ne }
-  where
-    nonempty : (ys : List ℕ) → IsRoute M s s ys → ys ≢ [] → 0 < dm_of M ys
-    nonempty [] w ne = absurd (ne refl)
-    nonempty (y ∷ ys) w ne = omega (arith, positive M m y w.0)
+empty_unique M m s = record { route = refl; others = elim [ [] ↦ λ w ne. absurd (ne refl) | y ∷ ys ↦ λ w ne. omega (arith, positive M m y w.0) ] }
 
 pub unique_least : UniqueIsLeast
 unique_least M s t xs o = grind (arith, not_before_itself)

@@ -5,28 +5,19 @@ use Rattle.olr_spec.proofs.Common.{Contains, true, false, ◌-◌, [], cases_lt,
 use Rattle.olr_spec.proofs.Common.{SameLine, SameRound, dm, has, IsRoute, dm_of, Reaches, UniqueShortest, ChangedLine}
 use Rattle.olr_spec.proofs.Common.{AccountsFor, Detour, Near, NearStays, SameWay}
 use Rattle.olr_spec.proofs.RouteLemmas.{IsRoute-append, dm_of-append}
-use Rattle.olr_spec.proofs.ListLemmas.{Each, Each-nil, Each-cons, Each-head, Each-tail}
+use Rattle.olr_spec.proofs.ListLemmas.{Each, Each-nil, Each-cons, Each-head, Each-tail, has_here}
 use Rattle.olr_spec.proofs.AgreeLemmas.{turned_round, by_leaving, same_known, same_start, same_end, same_dm}
-
-pub turned_lines : (M N : Map) (xs : List ℕ) → Each (SameLine M N) xs → Each (SameLine N M) xs
-turned_lines M N xs h x i = sym (h x i)
 
 -- ---- lines with the same ends and lengths
 
 pub same_way : (M N : Map) (x : ℕ) → SameLine M N x → SameWay M N x
-same_way M N x e = record {
-  known = same_known M N x e;
-  from = same_start M N x e;
-  to = same_end M N x e;
-  len = same_dm M N x e;
-}
+same_way M N x e = grind (arith, same_known, same_start, same_end, same_dm)
 
 pub same_ways : (M N : Map) (xs : List ℕ) → Each (SameLine M N) xs → Each (SameWay M N) xs
 same_ways M N xs h x on = same_way M N x (h x on)
 
 pub same_way_on : (L M N : Map) (x : ℕ) → SameWay L M x → SameWay M N x → SameWay L N x
-same_way_on L M N x v w =
-    record { known = v.known ∙ w.known; from = v.from ∙ w.from; to = v.to ∙ w.to; len = v.len ∙ w.len }
+same_way_on L M N x v w = grind arith
 
 pub ways_dm_of : (M N : Map) (xs : List ℕ) → Each (SameWay M N) xs → dm_of M xs ≡ dm_of N xs
 ways_dm_of M N [] h = refl
@@ -35,10 +26,7 @@ ways_dm_of M N (x ∷ xs) h =
 
 pub IsRoute-moves : (M N : Map) (s t : ℕ) (xs : List ℕ) → Each (SameWay M N) xs → IsRoute M s t xs → IsRoute N s t xs
 IsRoute-moves M N s t [] h w = w
-IsRoute-moves M N s t (x ∷ xs) h w =
-    let is = Each-head (SameWay M N) x xs h in
-    let rest = IsRoute-moves M N (end M x) t xs (Each-tail (SameWay M N) x xs h) w.2 in
-    (sym is.known ∙ w.0, sym is.from ∙ w.1, coe 0 1 (i. IsRoute N (is.to i) t xs) rest)
+IsRoute-moves M N s t (x ∷ xs) h w = grind (arith, h x (has_here x xs), IsRoute-moves M N (end M x) t xs (Each-tail (SameWay M N) x xs h))
 
 -- ---- routes
 
@@ -84,13 +72,10 @@ module _ (M N : Map) (s limit : ℕ) (round : (v : ℕ) → Reaches M s limit v 
   other v x r k e = let is = by_leaving N M v x (turned_round M N v r) k e in (sym is, is)
 
   pub within_other : (t : ℕ) → SameRoutes N M s t limit
-  within_other t xs w h = same_ways N M xs (turned_lines M N xs (onward N other s t [] xs refl w (omega arith)))
+  within_other t xs w h = same_ways N M xs (λ x i. sym (onward N other s t [] xs refl w (omega arith) x i))
 
   pub reach_same : (v : ℕ) → Reaches M s limit v ↔ Reaches N s limit v
-  reach_same v = (
-    (λ r. let p = route_moves M N s v limit (within v) r.0 (r.1, r.2) in (r.0, p.0, p.1)),
-    (λ r. let p = route_moves N M s v limit (within_other v) r.0 (r.1, r.2) in (r.0, p.0, p.1)),
-  )
+  reach_same v = grind (arith, route_moves M N s v limit (within v), route_moves N M s v limit (within_other v))
 
 abbrev pub detour_of : {M : Map} {C : List ChangedLine} {s t d : ℕ} (first last : ChangedLine) → Contains C first → Contains C
     last → (before after : List ℕ) → IsRoute M s first.from before → IsRoute M last.to t after →
@@ -170,13 +155,8 @@ near_moves M N T round s w d (x ∷ xs) on route h = elim (cases_Bool (has T s))
   | inr e ↦
       let is : SameLine M N x = by_leaving M N s x (round s e) route.0 route.1 in
       let n = near_moves M N T round (end M x) w (d - dm M x) xs on route.2 (omega arith) in
-      record {
-        node = n.node;
-        route = x ∷ n.route;
-        touched = n.touched;
-        leads = (sym (same_known M N x is) ∙ route.0, sym (same_start M N x is) ∙ route.1, coe 0 1 (i. IsRoute N (same_end M N x is i) n.node n.route) n.leads);
-        within = omega (arith, same_dm M N x is);
-      }
+      let way = same_way M N x is in
+      record { node = n.node; route = x ∷ n.route; touched = n.touched; leads = grind (arith, way, n.leads); within = omega (arith, way.len) }
 ]
 
 pub near_same : NearStays

@@ -47,10 +47,13 @@ one_follows M ls x y k p q =
     (coe 0 1 (i. passing M (p.joins i) ≡ true) p.through)
     (leaving M v x p.known p.joins) (leaving M v y q.known q.joins) (entering M v (last ls) k refl) p.onward q.onward
 
+last_back : (xs : List ℕ) (y : ℕ) (ys : List ℕ) → last (xs ++ y ∷ ys) ≡ last (y ∷ ys)
+last_back [] y ys = refl
+last_back (x ∷ []) y ys = refl
+last_back (x ∷ z ∷ xs) y ys = last_back (z ∷ xs) y ys
+
 pub last_push : (ls : List ℕ) (x : ℕ) → last (ls ++ x ∷ []) ≡ x
-last_push [] x = refl
-last_push (y ∷ []) x = refl
-last_push (y ∷ z ∷ ls) x = last_push (z ∷ ls) x
+last_push ls x = last_back ls x []
 
 pub first_known : (M : Map) (c ls : List ℕ) → StartRun M c ls → IsTrue (has_line M (first ls)) →
     IsTrue (has_line M (first (c ++ ls)))
@@ -62,8 +65,7 @@ pub same_start_run : (M : Map) (ls c d : List ℕ) → IsTrue (has_line M (first
 same_start_run M ls [] [] k p q e = refl
 same_start_run M ls (x ∷ c) (y ∷ d) k p q e =
     let rest : c ≡ d = same_start_run M ls c d k p.1 q.1 (omega arith) in
-    let is = one_precedes M (c ++ ls) x y (first_known M c ls p.1 k) p.0 (coe 1 0 (i. MayPrecede M y ((rest i) ++ ls)) q.0) in
-    λ i. is i ∷ rest i
+    grind (arith, rest, one_precedes M (c ++ ls) x y, first_known M c ls)
 same_start_run M ls _ _ k p q e = absurd (omega arith)
 
 pub same_end_run : (M : Map) (ls c d : List ℕ) → IsTrue (has_line M (last ls)) → EndRun M ls c → EndRun M ls d →
@@ -118,11 +120,6 @@ pub one_end : OneEndRun
 one_end M m ls c d k p q = grind (arith, one_run, end_runs)
 
 -- ---- the path with its extended start
-
-last_back : (xs : List ℕ) (y : ℕ) (ys : List ℕ) → last (xs ++ y ∷ ys) ≡ last (y ∷ ys)
-last_back [] y ys = refl
-last_back (x ∷ []) y ys = refl
-last_back (x ∷ z ∷ xs) y ys = last_back (z ∷ xs) y ys
 
 pub last_known : (M : Map) (xs ls : List ℕ) → 0 < length ls → IsTrue (has_line M (last ls)) →
     IsTrue (has_line M (last (xs ++ ls)))

@@ -35,8 +35,7 @@ EndRun-known M ls (x ∷ c) h = Each-cons (Known M) x c h.0.known (EndRun-known 
 
 pub EndRun-push : (M : Map) (ls c : List ℕ) (x : ℕ) → EndRun M ls c → MayFollow M (ls ++ c) x → EndRun M ls (c ++ x ∷ [])
 EndRun-push M ls [] x p q = (coe 0 1 (i. MayFollow M (append-nil ls i) x) q, tt)
-EndRun-push M ls (y ∷ c) x p q =
-    (p.0, EndRun-push M (ls ++ y ∷ []) c x p.1 (coe 1 0 (i. MayFollow M (append_assoc ls (y ∷ []) c i) x) q))
+EndRun-push M ls (y ∷ c) x p q = grind (arith, EndRun-push M (ls ++ y ∷ []) c x, append_assoc)
 
 -- ---- on another map
 

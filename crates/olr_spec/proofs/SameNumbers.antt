@@ -1,15 +1,14 @@
 -- Ascending lists of numbers, by the numbers that they contain.
 use Rattle.olr_spec.proofs.Common.{IsStrictlyIncreasing, nat_cmp, eqb-true, ne_eqb, arith, subst, Less, AllByRecursion}
-use Rattle.olr_spec.proofs.Common.{List, refl, true, ◌==◌, has, sym, ◌<◌, ◌∙◌, ◌∷◌, ◌≡◌, ◌≤◌, [], ap, ℕ}
+use Rattle.olr_spec.proofs.Common.{List, refl, true, ◌==◌, has, sym, ◌<◌, ◌∙◌, ◌∷◌, ◌≡◌, ◌≤◌, [], ap, ℕ, Contains}
+use Rattle.olr_spec.proofs.Common.{get_or_default, eq-eqb, list_any_at}
 use Rattle.olr_spec.proofs.ListLemmas.{has_here}
 use Rattle.std.proofs.lemmas.Cmp.{ranked}
 use Rattle.std.proofs.lemmas.Grind.{common_steps}
-use Rattle.std.proofs.lemmas.Map.Keys.{IsDistinct-from_apart, sorted_from_strictly_increasing}
-use Rattle.olr_spec.proofs.Common.{Contains, get_or_default, eq-eqb, list_any_at}
+use Rattle.std.proofs.lemmas.Map.Keys.{IsDistinct-from_apart, sorted_from_strictly_increasing, below_from_sorted}
 use Rattle.std.proofs.lemmas.List.Folds.{Any-from_list_any}
 use Rattle.std.specs.List.{IsDistinct}
 use Rattle.std.specs.List.Sorted.{IsStrictlySortedBy}
-use Rattle.std.proofs.lemmas.Map.Keys.{below_from_sorted}
 
 pub distinct_from_ascending : (xs : List ℕ) → IsStrictlyIncreasing xs → IsDistinct ◌==◌ xs
 distinct_from_ascending xs up = grind (arith, common_steps, IsDistinct-from_apart, ne_eqb, below_from_sorted, sorted_from_strictly_increasing)
@@ -36,13 +35,10 @@ same_sorted [] [] a b h = refl
 same_sorted [] (y ∷ ys) a b h = let e = h y in let f = has_here y ys in absurd cc
 same_sorted (x ∷ xs) [] a b h = let e = h x in let f = has_here x xs in absurd cc
 same_sorted (x ∷ xs) (y ∷ ys) a b h =
-    let low : y ≤ x = in_list y x ys b.0 (sym (h x) ∙ has_here x xs) in
-    let high : x ≤ y = in_list x y xs a.0 (h y ∙ has_here y ys) in
-    let is : x ≡ y = omega arith in
+    let is : x ≡ y = grind (arith, in_list y x ys b.0, in_list x y xs a.0, h x, h y, has_here x xs, has_here y ys) in
     let above_y : AllByRecursion (λ (z : ℕ). nat_cmp x z ≡ Less) ys =
     subst (λ (k : ℕ). AllByRecursion (λ (z : ℕ). nat_cmp k z ≡ Less) ys) (sym is) b.0 in
-    let same : (n : ℕ) → has (x ∷ xs) n ≡ has (x ∷ ys) n = λ n. h n ∙ ap (λ (k : ℕ). has (k ∷ ys) n) (sym is) in
-    let tails : xs ≡ ys = same_sorted xs ys a.1 b.1 (λ n. tail_has x n xs ys a.0 above_y (same n)) in
+    let tails = same_sorted xs ys a.1 b.1 (λ n. tail_has x n xs ys a.0 above_y (h n ∙ ap (λ (k : ℕ). has (k ∷ ys) n) (sym is))) in
     λ i. is i ∷ tails i
 
 pub same_ascending : (xs ys : List ℕ) → IsStrictlyIncreasing xs → IsStrictlyIncreasing ys →

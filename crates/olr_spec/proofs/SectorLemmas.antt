@@ -12,11 +12,8 @@ use Rattle.std.proofs.Common.{neg_ℤ}
 pub le_yes : (a b : ℤ) → int_le a b ≡ true → a ≤ℤ b
 le_yes a b e = record { le = subst T (sym e) tt }
 
-T_is : (b : Bool) → T b → b ≡ true
-T_is b h = grind arith
-
 pub le_test : (a b : ℤ) → a ≤ℤ b → int_le a b ≡ true
-le_test a b h = T_is (int_le a b) h.le
+le_test a b h = grind (arith, h.le)
 
 -- ---- the numbers below n
 
@@ -61,6 +58,14 @@ turns_into x y e n = omega (arith, neg_right e x, neg_left n y, ints)
 
 side_turned : (k : ℕ) → k < 25 → (e n : ℤ) → side e n (k + 8) ≡ side (neg_ℤ n) e k
 side_turned k lt e n = grind (arith, turned, turns_into)
+
+-- (e, n) is (a, b) turned by a quarter
+pub sector_turned : (a b e n : ℤ) (j k : ℕ) → IsSector a b k → e ≡ b → n ≡ neg_ℤ a → k < 24 → j ≡ 8 + k → IsSector e n j
+sector_turned a b e n j k s p q h is =
+    let at : k + 8 ≡ j = omega arith in
+    let next : suc k + 8 ≡ suc j = omega arith in
+    let back : neg_ℤ n ≡ a = omega (arith, ints) in
+    grind (arith, side_turned k (omega arith) e n, side_turned (suc k) (omega arith) e n)
 
 -- quarter q + 1 of a direction is quarter q of the direction turned back
 side_on : (e n : ℤ) (q j : ℕ) → q < 3 → j ≤ 8 → side e n (suc q * 8 + j) ≡ side (neg_ℤ n) e (q * 8 + j)

@@ -156,17 +156,11 @@ module _ (g : Margin) (M N : Map) (m : IsMap M) (n : IsMap N) (P : Path) (is : I
     -- the traversed nodes
     traversed_stays : (v : ℕ) → TraversedOfExtended M P v ↔ TraversedOfExtended N P v
     traversed_stays v = (
-      (λ p. record {
-        before = p.before;
-        after = p.after;
-        tried = tried_there p.before p.after p.tried;
-        traversed = (traversed_moves p.before p.after p.tried v).0 p.traversed;
-      }),
+      (λ p. search (tried_there p.before p.after p.tried, (traversed_moves p.before p.after p.tried v).0 p.traversed) depth 6),
       (λ p.
-          let there = tried_there o.before o.after o.tried in
           let k : Each (Known N) P.lines = λ x h. sym (same_known M N x (same x h)) ∙ known x h in
-          let runs = one_tried N n P nonempty (k (first P.lines) (has_first P.lines nonempty))
-          (k (last P.lines) (has_last P.lines nonempty)) p.before p.after o.before o.after p.tried there in
+          let runs = one_tried N n P nonempty (k (first P.lines) (has_first P.lines nonempty)) (k (last P.lines) (has_last P.lines nonempty))
+          p.before p.after o.before o.after p.tried (tried_there o.before o.after o.tried) in
           record {
             before = o.before;
             after = o.after;

@@ -1,6 +1,5 @@
 -- A path has exactly one list of coverage queries, and they determine its footprint.
-use Rattle.olr_spec.specs.Margins.{no_margin}
-use Rattle.olr_spec.specs.Margins.{Margin}
+use Rattle.olr_spec.specs.Margins.{no_margin, Margin}
 use Rattle.olr_spec.proofs.Common.{inl, inr, ◌≡◌, ℕ, zero, suc, ◌+◌, ◌-◌, min, true, List, ◌∷◌, length, ◌<◌, ◌≤◌, None}
 use Rattle.olr_spec.proofs.Common.{IsTrue, Contains, refl, sym, ap, ◌∙◌, subst, arith, MatchOption, ◌⊎◌, T, []}
 use Rattle.olr_spec.proofs.Common.{cases_lt, cases_eq, cases_order, dec_le, AllZip, Map, IsMap, has, dm_of, Path}
@@ -18,10 +17,7 @@ use Rattle.olr_spec.proofs.QueryLists.{query_for, query_from_with, queries_here}
 no_later : {g : Margin} (M : Map) (ls : List ℕ) (i j k : ℕ) → IsLastTestedWith g M ls i j → IsLastTestedWith g M ls i k → ¬ (j < k)
 no_later M ls i j k p q lt = elim p.last [
   | inl bare ↦ bare (q.before j p.after lt)
-  | inr all ↦ elim q.needed [
-    | inl e ↦ absurd (omega arith)
-    | inr n ↦ absurd (omega (arith, all k n))
-  ]
+  | inr all ↦ grind (arith, q.needed, all k)
 ]
 
 pub one_last_tested_with : (g : Margin) → OneLastTested g
@@ -48,10 +44,7 @@ module _ (g : Margin) (M : Map) (m : IsMap M) (ls : List ℕ) (i f : ℕ)
         | yes c ↦ elim (cases_lt k most) [
           | inr done ↦ found (inr (λ j w. omega (arith, far.others w.0 (w.1, w.2))))
           | inl more ↦ test_on fuel (k + 1) (omega arith) (omega arith) (omega arith)
-              (λ j b before_k. elim (cases_eq j k) [
-                | inl e ↦ subst (CoveredWith g M ls i) (sym e) c
-                | inr ne ↦ before j b (omega arith)
-              ])
+              (λ j b before_k. grind (arith, cases_eq j k, c, before j b))
               (inr (f, far.holds.0, far.holds.1, omega arith))
         ]
       ]
@@ -98,19 +91,17 @@ module _ (g : Margin) (M : Map) (m : IsMap M) (P : Path) (is : IsTrue (is_path P
   -- the footprint
   foot_there : (queries : List CoverageQuery) → QueriesOfExtendedWith g M P queries → (v : ℕ) → FootOfWith g M P v
       → TraversedOfExtended M P v ⊎ ((l : CoverageQuery) × Contains queries l × Sees M l v)
-  foot_there queries o v f = by (path_at m is sound o f)
-    where
-      traversed : Traversed M (extended_path M P o.before o.after).lines o.before o.after v → TraversedOfExtended M P v
-      traversed h = record { before = o.before; after = o.after; tried = o.tried; traversed = h }
-
-      by : TouchedWith g M (extended_path M P o.before o.after).lines o.before o.after o.points v
-          → TraversedOfExtended M P v ⊎ ((l : CoverageQuery) × Contains queries l × Sees M l v)
-      by (On_path n) = inl (traversed (inl n))
-      by (On_start_run n) = inl (traversed (inr (inl n)))
-      by (On_end_run n) = inl (traversed (inr (inr n)))
-      by (Within_reach (i, on, far, (q, query, sees))) =
-          let l = query_for g M _ (0 ∷ o.points) queries o.holds i on far in
-          inr (l.0, l.1, subst (λ (k : CoverageQuery). Sees M k v) (one_query M _ i q l.0 query l.2) sees)
+  foot_there queries o v f =
+      let traversed : Traversed M (extended_path M P o.before o.after).lines o.before o.after v → TraversedOfExtended M P v =
+      λ h. record { before = o.before; after = o.after; tried = o.tried; traversed = h } in
+      elim (path_at m is sound o f) [
+        | On_path n ↦ inl (traversed (inl n))
+        | On_start_run n ↦ inl (traversed (inr (inl n)))
+        | On_end_run n ↦ inl (traversed (inr (inr n)))
+        | Within_reach (i, on, far, (q, query, sees)) ↦
+            let l = query_for g M _ (0 ∷ o.points) queries o.holds i on far in
+            inr (l.0, l.1, subst (λ (k : CoverageQuery). Sees M k v) (one_query M _ i q l.0 query l.2) sees)
+      ]
 
   foot_here : (queries : List CoverageQuery) → QueriesOfExtendedWith g M P queries → (v : ℕ)
       → TraversedOfExtended M P v ⊎ ((l : CoverageQuery) × Contains queries l × Sees M l v) → FootOfWith g M P v

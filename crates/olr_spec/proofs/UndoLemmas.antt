@@ -1,6 +1,6 @@
 -- One edit restores the map from before an accepted edit, and the empty map is sound.
-use Rattle.olr_spec.proofs.Common.{inl, inr, ◌≡◌, ◌≢◌, ℕ, Bool, true, false, cond, ◌||◌, List, ◌∷◌, map, Option, Some}
-use Rattle.olr_spec.proofs.Common.{None, Result, Ok, sym, ap, ◌∙◌, nat_cmp, ◌==◌, [], arith, eqb-true, filter, cases_eq}
+use Rattle.olr_spec.proofs.Common.{◌≡◌, ◌≢◌, ℕ, Bool, true, false, cond, ◌||◌, List, ◌∷◌, map, Option, Some}
+use Rattle.olr_spec.proofs.Common.{None, Result, Ok, ap, nat_cmp, ◌==◌, [], arith, eqb-true, filter, cases_eq}
 use Rattle.olr_spec.proofs.Common.{cases_Bool, and_from, or_cases, list_any, nat_cmp_total, FinMap, get, insert, remove}
 use Rattle.olr_spec.proofs.Common.{entries, nat_cmp-IsAntisymmetric, Map, IsMap, Line, has_node, line_at, coord_at}
 use Rattle.olr_spec.proofs.Common.{Edit, Add_node, Move_node, Drop_node, Add_line, Set_line, Drop_line, edited, in_use}
@@ -12,10 +12,7 @@ use Rattle.olr_spec.proofs.EditLemmas.{got_other, got_same, left_other, left_sam
 
 module _ {X : Type 0} (m : FinMap nat_cmp X) (k : ℕ) where
   restored : (n : FinMap nat_cmp X) → get n k ≡ get m k → ((q : ℕ) → q ≢ k → get n q ≡ get m q) → n ≡ m
-  restored n here other = same_map nat_cmp_total nat_cmp-IsAntisymmetric n m (λ q. elim (cases_eq q k) [
-    | inl is ↦ rw is here
-    | inr ne ↦ other q ne
-  ])
+  restored n here other = same_map nat_cmp_total nat_cmp-IsAntisymmetric n m (λ q. grind (arith, cases_eq q k, other q))
 
   drop_added : (v : X) → get m k ≡ None → remove (insert m k v) k ≡ m
   drop_added v e = restored (remove (insert m k v) k) (grind (arith, left_same)) (λ q ne. grind (arith, left_other, got_other))
@@ -47,14 +44,9 @@ passed_line test o h = grind arith
 
 -- a node that isn't on a sound map has no lines
 unused_where_absent : (M : Map) → IsMap M → (v : ℕ) → has_node M v ≡ false → in_use M v ≡ false
-unused_where_absent M m v absent = elim (cases_Bool (in_use M v)) [
-  | inr free ↦ free
-  | inl used ↦
-      let test : Line → Bool = λ l. l.to == v || l.from == v in
-      let x = any_has test (entries M.lines) used in
-      let line = passed_line test (get M.lines x.0) (sym (has-lines_where M test x.0) ∙ x.1) in
-      grind (arith, line.1, line.2, or_cases (line.0.to == v) (line.0.from == v), eqb-true, m.ends x.0, m.starts x.0)
-]
+unused_where_absent M m v absent =
+    let test : Line → Bool = λ l. l.to == v || l.from == v in
+    grind (arith, cases_Bool (in_use M v), any_has test (entries M.lines), passed_line, has-lines_where M test, or_cases, eqb-true, m.ends, m.starts)
 
 -- ---- edits
 

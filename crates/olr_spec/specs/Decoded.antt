@@ -6,13 +6,6 @@ use Rattle.std.specs.Prelude.{nat_le, Option, Some, None, if◌then◌else◌}
 use Rattle.olr_spec.specs.Coordinates.{Coord, from_abs24, from_rel16}
 use Rattle.olr_spec.specs.Reference.{Reference}
 
--- the relative values of the LRPs after the first
-abbrev pub lon_steps : Reference → List ℤ
-lon_steps r = map (λ m. m.dlon) r.middle ++ r.last.dlon ∷ []
-
-abbrev pub lat_steps : Reference → List ℤ
-lat_steps r = map (λ m. m.dlat) r.middle ++ r.last.dlat ∷ []
-
 -- a sum of relative values, in units
 abbrev pub steps_sum : List ℤ → ℤ
 steps_sum [] = pos 0
@@ -23,8 +16,8 @@ abbrev pub decoded : Reference → ℕ → Option (ℤ × ℤ)
 decoded r k =
     if nat_le k (length r.middle + 1)
     then Some (
-      from_abs24 r.first.lon +ℤ steps_sum (take k (lon_steps r)),
-      from_abs24 r.first.lat +ℤ steps_sum (take k (lat_steps r)),
+      from_abs24 r.first.lon +ℤ steps_sum (take k (map (λ m. m.dlon) r.middle ++ r.last.dlon ∷ [])),
+      from_abs24 r.first.lat +ℤ steps_sum (take k (map (λ m. m.dlat) r.middle ++ r.last.dlat ∷ [])),
     )
     else None
 

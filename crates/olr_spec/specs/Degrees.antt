@@ -48,12 +48,10 @@ pub data CoordFault : Type 0 where
   Text Range : CoordFault
 
 -- at most 180 degrees either way
-abbrev pub at_most_180 : ℤ → Result ℤ CoordFault
-at_most_180 z = if within (neg_ℤ (pos (1800000 * unit4))) (pos (1800000 * unit4)) z then Ok z else Err Range
-
 abbrev pub degrees_or_fault : Option ℤ → Result ℤ CoordFault
 degrees_or_fault None = Err Text
-degrees_or_fault (Some z) = at_most_180 z
+degrees_or_fault (Some z) =
+    if within (neg_ℤ (pos (1800000 * unit4))) (pos (1800000 * unit4)) z then Ok z else Err Range
 
 abbrev pub read_degrees : List ℕ → Result ℤ CoordFault
 read_degrees text = degrees_or_fault (degrees text)

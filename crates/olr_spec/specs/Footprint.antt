@@ -15,18 +15,15 @@ use Rattle.olr_spec.specs.Queries.{NodeOf, CoverageQuery, IsQueryWith}
 abbrev pub Sees : Map → CoverageQuery → ℕ → Type 0
 Sees M l v = Reaches M l.from l.within v
 
--- reached by the coverage query of an LRP whose line is followed by two or more lines; for later LRPs nothing is
--- searched
-abbrev pub SearchedWith : Margin → Map → List ℕ → List ℕ → ℕ → Type 0
-SearchedWith g M ls is v =
-    (i : ℕ) × IsTrue (has is i) × (i + 2 < length ls) × ((l : CoverageQuery) × IsQueryWith g M ls i l × Sees M l v)
-
--- on the extended path, on one of the tried runs, or reached by a coverage query
+-- on the extended path, on one of the tried runs, or reached by the coverage query of an LRP whose line is followed by
+-- two or more lines; for later LRPs nothing is searched
 pub data TouchedWith (g : Margin) (M : Map) (ls b a js : List ℕ) (v : ℕ) : Type 0 where
   On_path : NodeOf M ls v → TouchedWith g M ls b a js v
   On_start_run : NodeOf M b v → TouchedWith g M ls b a js v
   On_end_run : NodeOf M a v → TouchedWith g M ls b a js v
-  Within_reach : SearchedWith g M ls (0 ∷ js) v → TouchedWith g M ls b a js v
+  Within_reach :
+      (i : ℕ) × IsTrue (has (0 ∷ js) i) × (i + 2 < length ls) × ((l : CoverageQuery) × IsQueryWith g M ls i l × Sees M l v) →
+      TouchedWith g M ls b a js v
 
 abbrev pub FootOfWith : Margin → Map → Path → ℕ → Type 0
 FootOfWith g M P v = OfPathWith g M P (λ E b a js. TouchedWith g M E.lines b a js v)
@@ -36,15 +33,6 @@ abbrev pub FootWith : Margin → Map → Path → ℕ → Type 0
 FootWith g M P v = MatchOption (path_fault M P) (FootOfWith g M P v) (λ _. ⊥)
 
 -- ---- without a margin, as the program encodes
-
-abbrev pub Searched : Map → List ℕ → List ℕ → ℕ → Type 0
-Searched = SearchedWith no_margin
-
-abbrev pub Touched : Map → List ℕ → List ℕ → List ℕ → List ℕ → ℕ → Type 0
-Touched = TouchedWith no_margin
-
-abbrev pub FootOf : Map → Path → ℕ → Type 0
-FootOf = FootOfWith no_margin
 
 abbrev pub Foot : Map → Path → ℕ → Type 0
 Foot = FootWith no_margin

@@ -14,11 +14,9 @@
 --     changes    what edits change, and which routes they can affect
 --     receivers      what every receiver recovers from a reference, and where the nearest node is that of the LRP
 --     queries      a path has one list of coverage queries; if changes affect neither these nor its traversed nodes,
---         its
---         answer is retained
+--         its answer is retained
 use Rattle.std.specs.Prelude.{◌≡◌, ℕ, ◌+◌, ◌*◌, ◌<◌, ◌≤◌, ℤ, pos, List, [], ◌++◌, length, map, Option, Some, None}
-use Rattle.std.specs.Prelude.{is_some, All}
-use Rattle.std.specs.Prelude.{Contains, Ok, ◌↔◌, ◌⊎◌, IsTrue, IsFalse}
+use Rattle.std.specs.Prelude.{is_some, All, Contains, Ok, ◌↔◌, ◌⊎◌, IsTrue, IsFalse}
 use Rattle.std.specs.List.{AllByRecursion, AllZip, concat}
 use Rattle.std.specs.List.Sorted.{IsStrictlyIncreasing}
 use Rattle.olr_spec.specs.Map.{Map, empty_map, IsMap, Line, has_line, coord_at, lines_in, lines_out, Edit, edited}
@@ -28,11 +26,9 @@ use Rattle.olr_spec.specs.Margins.{Margin, counted, IsSoundFor}
 use Rattle.olr_spec.specs.Elsewhere.{HasNoOther, IsNearly, IsNearlyAlong, HasClasses, KeptLines, RecoversLegs, suffices}
 use Rattle.olr_spec.specs.Labels.{Settled}
 use Rattle.olr_spec.specs.Extension.{Path, is_path, first, last, LongestStart, LongestEnd, limit}
-use Rattle.olr_spec.specs.Points.{stretch, CoveredWith, NextWith, FollowWith, last_position}
+use Rattle.olr_spec.specs.Points.{stretch, CoveredWith, NextWith, FollowWith, last_position, OfPathWith}
 use Rattle.olr_spec.specs.Bearings.{IsSector, sector}
-use Rattle.olr_spec.specs.Points.{OfPathWith}
-use Rattle.olr_spec.specs.Reference.{reference_with}
-use Rattle.olr_spec.specs.Reference.{Reference, leg, legs, first_kept, last_kept, kept_points}
+use Rattle.olr_spec.specs.Reference.{reference_with, Reference, leg, legs, first_kept, last_kept, kept_points}
 use Rattle.olr_spec.specs.Encoding.{Answer, Points, Encodes, EncodesWith, IsPoint}
 use Rattle.olr_spec.specs.Bytes.{IsReference, HasBytes, v3_fault}
 use Rattle.olr_spec.specs.Decoded.{decoded, IsNear}

@@ -1,11 +1,11 @@
 -- The location reference points (LRPs) of an extended path, by position: position i below n is the start of line i, and
 -- position n the end of the last line (White Paper, encoding steps, intermediate points).
 --     node_at M ls i, stretch ls i j      the node at position i; the lines from position i to position j
---     Covered M ls i j      position j is covered: the path reaches it from line i by the unique shortest path
---     Candidate M ls i j, Next M ls i j      j may be the next LRP after i; j is the next LRP after i
---     Follow M ls i js      js are the LRPs after i, up to the one that has no next
---     CoveredWith g, CandidateWith g, ..      the same with a margin; without one it is 0 and 0
---     OfPath M P Q      Q holds of the extended path, its tried runs and its LRPs
+--     CoveredWith g M ls i j      position j is covered: the path reaches it from line i by the unique shortest path
+--     CandidateWith g M ls i j, NextWith g M ls i j      j may be the next LRP after i; j is the next LRP after i
+--     FollowWith g M ls i js      js are the LRPs after i, up to the one that has no next
+--     Candidate, NoNext, Follow      the same without a margin
+--     OfPathWith g M P Q      Q holds of the extended path, its tried runs and its LRPs
 use Rattle.std.specs.Prelude.{◌≡◌, ℕ, ◌+◌, ◌-◌, ◌<◌, ◌≤◌, min, Bool, ◌&&◌, List, [], ◌∷◌, length, nat_lt, slice_index}
 use Rattle.std.specs.Prelude.{slice_range, if◌then◌else◌, IsTrue, IsFalse}
 use Rattle.olr_spec.specs.Margins.{Margin, no_margin, CountedRoute}
@@ -85,23 +85,11 @@ pub record OfPathWith (g : Margin) (M : Map) (P : Path) (Q : Path → List ℕ �
 
 -- ---- without a margin, as the program encodes
 
-abbrev pub Covered : Map → List ℕ → ℕ → ℕ → Type 0
-Covered = CoveredWith no_margin
-
 abbrev pub Candidate : Map → List ℕ → ℕ → ℕ → Type 0
 Candidate = CandidateWith no_margin
-
-abbrev pub ValidCandidate : Map → List ℕ → ℕ → ℕ → Type 0
-ValidCandidate = ValidCandidateWith no_margin
-
-abbrev pub Next : Map → List ℕ → ℕ → ℕ → Type 0
-Next = NextWith no_margin
 
 abbrev pub NoNext : Map → List ℕ → ℕ → Type 0
 NoNext = NoNextWith no_margin
 
 abbrev pub Follow : Map → List ℕ → ℕ → List ℕ → Type 0
 Follow = FollowWith no_margin
-
-abbrev pub OfPath : Map → Path → (Path → List ℕ → List ℕ → List ℕ → Type 0) → Type 0
-OfPath = OfPathWith no_margin

@@ -4,20 +4,18 @@
 --     TraversedOf M P v      v is one of the traversed nodes of the path
 --     Needed M ls i m      whether a position that is near enough may be the next LRP after i depends on whether
 --         position m is covered
---     IsLastTested M ls i k      k is the last position that is tested: positions are tested in order from i + 1 on, as
---         long as they are covered and needed
---     CoverageQuery, query_to M ls i k      a coverage query: where it begins, the node of position k, and the distance
---         along the
---         path between
---     KnownQuery, IsKnown M ls e      a coverage query along a path's own lines ls, by its positions in them; that it
---         is right
+--     IsLastTestedWith g M ls i k      k is the last position that is tested: positions are tested in order from i + 1 on,
+--         as long as they are covered and needed
+--     CoverageQuery, query_to_with g M ls i k      a coverage query: where it begins, the node of position k, and what the
+--         lines between count
+--     KnownQuery, IsKnownWith g M ls e      a coverage query along a path's own lines ls, by its positions in them; that
+--         it is right
 --     AreKnown M ls ks      each of these is
 --     KnownOf M ls queries ks      each of these is, and is one of the path's coverage queries
---     QueriesOfWith g, KnownOfWith g, ..      the same with a margin; a query's length is what its lines count
+--     AreKnownWith g, KnownOfWith g      the same with a margin
 --     IsClear M C l      no detour over the changed lines C is as short
---     QueriesFrom M ls is queries, QueriesOf M P queries      one coverage query for each LRP of the list is, in order;
---         the
---         coverage queries of the path
+--     QueriesFromWith g M ls is queries, QueriesOfWith g M P queries      one coverage query for each LRP of the list is,
+--         in order; the coverage queries of the path
 use Rattle.std.specs.Prelude.{◌≡◌, ℕ, ◌+◌, ◌-◌, ◌<◌, ◌≤◌, min, Bool, List, [], ◌∷◌, length, filter, nat_lt, slice_index}
 use Rattle.std.specs.Prelude.{MatchOption, Contains, ◌⊎◌, ◌↔◌, IsTrue}
 use Rattle.std.specs.List.{All, AllZip}
@@ -130,32 +128,8 @@ IsClear M C l = ¬ Detour M C l.from l.to l.within
 
 -- ---- without a margin, as the program encodes
 
-abbrev pub IsLastTested : Map → List ℕ → ℕ → ℕ → Type 0
-IsLastTested = IsLastTestedWith no_margin
-
-abbrev pub query_to : Map → List ℕ → ℕ → ℕ → CoverageQuery
-query_to = query_to_with no_margin
-
-abbrev pub IsQuery : Map → List ℕ → ℕ → CoverageQuery → Type 0
-IsQuery = IsQueryWith no_margin
-
-abbrev pub QueriesFrom : Map → List ℕ → List ℕ → List CoverageQuery → Type 0
-QueriesFrom = QueriesFromWith no_margin
-
-abbrev pub QueriesOfExtended : Map → Path → List CoverageQuery → Type 0
-QueriesOfExtended = QueriesOfExtendedWith no_margin
-
-abbrev pub QueriesOf : Map → Path → List CoverageQuery → Type 0
-QueriesOf = QueriesOfWith no_margin
-
-abbrev pub IsKnown : Map → List ℕ → KnownQuery → Type 0
-IsKnown = IsKnownWith no_margin
-
 abbrev pub AreKnown : Map → List ℕ → List KnownQuery → Type 0
 AreKnown = AreKnownWith no_margin
-
-abbrev pub IsKnownOf : Map → List ℕ → List CoverageQuery → KnownQuery → Type 0
-IsKnownOf = IsKnownOfWith no_margin
 
 abbrev pub KnownOf : Map → List ℕ → List CoverageQuery → List KnownQuery → Type 0
 KnownOf = KnownOfWith no_margin

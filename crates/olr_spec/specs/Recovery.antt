@@ -1,7 +1,7 @@
 -- What a receiver should recover of a path, and when it can.
 --     IsLineAt M P s k x      line x of the extended path leaves LRP k of its reference, or enters it
---     own_lines ls ks, OwnLines M P xs      these lines of all LRPs, in order
---     OwnLinesOf M P A xs      of an answer: none if it has no reference
+--     own_lines ls ks, OwnLinesWith g M P xs      these lines of all LRPs, in order
+--     OwnLinesOfWith g M P A xs      of an answer: none if it has no reference
 --     Distinct far M P r      the path's own line at each LRP is the nearest candidate by the measure far, and has no
 --         twin
 --     IsLineAtWith g, DistinctWith g, ..      the same with a margin
@@ -30,8 +30,7 @@ use Rattle.olr_spec.specs.Reference.{kept_points}
 use Rattle.olr_spec.specs.Encoding.{Answer, Points, Refused}
 use Rattle.olr_spec.specs.Decoded.{decoded_bound}
 use Rattle.olr_spec.specs.Receiver.{Side, Outgoing, Incoming, node_on, coordinate_on, Measure, candidates}
-use Rattle.olr_spec.specs.Receiver.{decoded_coord}
-use Rattle.olr_spec.specs.Receiver.{last_number, is_nearest, has_no_twin}
+use Rattle.olr_spec.specs.Receiver.{decoded_coord, last_number, is_nearest, has_no_twin}
 
 -- the line that leaves position i, or the line that enters it
 abbrev pub line_by : Side → List ℕ → ℕ → ℕ
@@ -155,12 +154,6 @@ are_spaced n d k s g cs =
 
 abbrev pub IsLineAt : Map → Path → Side → ℕ → ℕ → Type 0
 IsLineAt = IsLineAtWith no_margin
-
-abbrev pub OwnLines : Map → Path → List ℕ → Type 0
-OwnLines = OwnLinesWith no_margin
-
-abbrev pub OwnLinesOf : Map → Path → Answer → List ℕ → Type 0
-OwnLinesOf = OwnLinesOfWith no_margin
 
 abbrev pub DistinctAt : Measure → Map → Path → Side → ℕ → ℤ × ℤ → Type 0
 DistinctAt = DistinctAtWith no_margin

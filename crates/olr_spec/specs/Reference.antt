@@ -6,7 +6,7 @@
 --     kept_points gs positive negative js      of the LRPs 0 and js, those that remain after the offsets have cut off
 --         whole legs
 --     reference gs positive negative js      the reference of the remaining LRPs
---     attrs_with g, reference_with g, ..      the same with a margin
+--     reference_with g gs positive negative js      the same with a margin
 use Rattle.std.specs.Prelude.{ℕ, ◌+◌, ◌-◌, ◌*◌, ◌/◌, max, ℤ, Bool, ◌&&◌, List, [], ◌∷◌, length, filter, take, drop, map}
 use Rattle.std.specs.Prelude.{fold, nat_lt, nat_le, ◌==◌, slice_index_or, slice_range, Option, Some, None}
 use Rattle.std.specs.Prelude.{if◌then◌else◌}
@@ -192,24 +192,6 @@ reference_with g gs positive negative js =
     (negative - to_back gs (last_kept gs negative js)) (kept_points gs positive negative js)
 
 -- ---- without a margin, as the program encodes
-
-abbrev pub attrs : List Leg → ℕ → ℕ → Attrs
-attrs = attrs_with no_margin
-
-abbrev pub first_point : List Leg → ℕ → ℕ → First
-first_point = first_point_with no_margin
-
-abbrev pub middle_point : List Leg → ℕ → ℕ → ℕ → Middle
-middle_point = middle_point_with no_margin
-
-abbrev pub middle_points : List Leg → ℕ → ℕ → List ℕ → List Middle
-middle_points = middle_points_with no_margin
-
-abbrev pub reference_by_kept : List Leg → ℕ → ℕ → ℕ → ℕ → List ℕ → Reference
-reference_by_kept = reference_by_kept_with no_margin
-
-abbrev pub reference_by : List Leg → ℕ → ℕ → List ℕ → Reference
-reference_by = reference_by_with no_margin
 
 abbrev pub reference : List Leg → ℕ → ℕ → List ℕ → Reference
 reference = reference_with no_margin
