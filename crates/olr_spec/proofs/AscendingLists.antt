@@ -96,15 +96,10 @@ ascends-remove xs i up at k lt =
 -- a number that is removed is no longer in the list
 gone : (xs : List ℕ) (i x : ℕ) → IsStrictlyIncreasing xs → i < length xs → get_or xs i 0 ≡ x → has (remove xs i) x ≡ false
 gone xs i x up at is = has_not (remove xs i) x (λ k lt e.
-    grind (
-      arith,
-      cases_lt k i,
-      get_or-remove_below xs i 0 k,
-      get_or-remove_above xs i 0 k,
-      length-remove xs i at,
-      AllPairs-from_increasing xs up k i 0,
-      AllPairs-from_increasing xs up i (k + 1) 0,
-    ))
+    let near = length-remove xs i at in
+    let next = AllPairs-from_increasing xs up k i 0 in
+    let later = AllPairs-from_increasing xs up i (k + 1) 0 in
+    grind (arith, cases_lt k i, get_or-remove_below xs i 0 k, get_or-remove_above xs i 0 k))
 
 pub has-remove : (xs : List ℕ) (i x n : ℕ) → IsStrictlyIncreasing xs → i < length xs → get_or xs i 0 ≡ x →
     has (remove xs i) n ≡ (not (x == n) && has xs n)

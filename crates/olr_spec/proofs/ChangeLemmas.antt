@@ -32,13 +32,8 @@ edit_accounted M N e p = grind (arith, edit_laws, nodes_accounted, lines_account
 pub edit_differs : EditsDiffer
 edit_differs M N e p =
     let accounted = edit_accounted M N e p in
-    record {
-      nodes = λ v off. (edits_are_local M N e [] (λ u. has (touched_nodes M e) u ≡ false) p
-          (λ u on off. both_ways (has (touched_nodes M e) u) off on) (λ x on. refl)).nodes v off;
-      lines = other_lines M N e p;
-      there = accounted.0;
-      here = accounted.1;
-    }
+    let local = edits_are_local M N e [] (λ u. has (touched_nodes M e) u ≡ false) p (λ u on off. both_ways (has (touched_nodes M e) u) off on) (λ x on. refl) in
+    search (local.nodes, other_lines M N e p, accounted)
 
 -- ---- no difference
 

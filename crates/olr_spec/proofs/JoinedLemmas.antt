@@ -1,8 +1,7 @@
 -- The lines of a path without fault join, and so do those of the extended path.
 use Rattle.olr_spec.proofs.Common.{◌≡◌, ◌<◌, ℕ, suc, List, ◌∷◌, ◌++◌, length, None, refl, arith, length-append, ◌==◌}
-use Rattle.olr_spec.proofs.Common.{[], eqb-true, IsTrue, Some, cond_both, Map, start, end, IsRoute, Path, is_path}
-use Rattle.olr_spec.proofs.Common.{Tried, last, MayPrecede, MayFollow, extended_path, AreJoined, first_break}
-use Rattle.olr_spec.proofs.Common.{path_fault}
+use Rattle.olr_spec.proofs.Common.{[], eqb-true, IsTrue, Map, start, end, Path, is_path, Tried, MayPrecede, MayFollow}
+use Rattle.olr_spec.proofs.Common.{extended_path, AreJoined, first_break, path_fault, cases_Bool}
 use Rattle.olr_spec.proofs.Facts.{IsRoute-append, Each, Each-head, Each-tail, Each-from, Known, or_None, map_None}
 use Rattle.olr_spec.proofs.Facts.{sound_lines, path_nonempty, last_push, extended_keeps}
 
@@ -13,15 +12,7 @@ joined_of M k [] h a e = absurd (omega arith)
 joined_of M k (x ∷ []) h a e = (Each-head (Known M) x [] a, refl, refl)
 joined_of M k (x ∷ y ∷ ls) h a e =
     let rest = Each-tail (Known M) x (y ∷ ls) a in
-    cond_both (end M x == start M y) (first_break M (suc k) (y ∷ ls)) (Some k)
-    (λ o. o ≡ None → AreJoined M (x ∷ y ∷ ls))
-    (λ t on. (
-      Each-head (Known M) x (y ∷ ls) a,
-      refl,
-      coe 1 0 (i. IsRoute M (eqb-true (end M x) (start M y) t i) (end M (last (y ∷ ls))) (y ∷ ls))
-          (joined_of M (suc k) (y ∷ ls) (omega arith) rest on),
-    ))
-    (λ t off. absurd cc) e
+    grind (arith, joined_of M (suc k) (y ∷ ls), rest, Each-head (Known M) x (y ∷ ls) a, eqb-true, cases_Bool (end M x == start M y))
 
 pub path_joined : (M : Map) (P : Path) → IsTrue (is_path P.lines) → path_fault M P ≡ None → AreJoined M P.lines
 path_joined M P is e = grind (arith, map_None, or_None, joined_of, path_nonempty, Each-from, sound_lines)

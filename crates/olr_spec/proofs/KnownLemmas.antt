@@ -70,8 +70,5 @@ module _ {g : Margin} (M N : Map) (C : List ChangedLine) (there : AccountsFor C 
 pub known_kept : (g : Margin) → KnownRetained g
 known_kept g M N C there here ls queries clear ks known k d lt =
     let e = known k d lt in
-    record {
-      among = e.among;
-      right = known_stays M N C there here ls (get_or ks k d) e.right
-          (All-contains (IsClear N C) queries (get_or ks k d).query clear e.among);
-    }
+    let right = known_stays M N C there here ls (get_or ks k d) e.right (All-contains (IsClear N C) queries (get_or ks k d).query clear e.among) in
+    search (e.among, right)

@@ -26,11 +26,7 @@ module _ (g : Margin) (M N : Map) (n : IsMap N) (no_other : HasNoOther M N) (a b
   nearly_part : (p q : ℕ) → from ≤ p → p ≤ q → q ≤ to → IsNearly a b M N (stretch ls p q)
   nearly_part p q f h t =
       let on = part_of (λ x. has (stretch ls from to) x ≡ true) ls from to p q f h t (λ x i. i) in
-      record {
-        known = λ x i. nearly.known x (on x i);
-        own = λ x i. nearly.own x (on x i);
-        others = λ y there off. nearly.all y there;
-      }
+      grind (arith, on, nearly.known, nearly.own, nearly.all)
 
   line_there : (p : ℕ) → from ≤ p → p < to → p < length ls → IsTrue (has_line N (slice_index ls p))
   line_there p f lt h =

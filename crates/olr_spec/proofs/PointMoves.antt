@@ -1,29 +1,20 @@
 -- LRPs, answers and faults are the same on two maps that agree around a path's traversed nodes and on the positions that
 -- are covered from its LRPs.
-use Rattle.olr_spec.specs.Margins.{Margin, counted, CountedRoute}
-use Rattle.olr_spec.proofs.Common.{ap, subst, ◌≡◌, ℕ, ◌+◌, ◌-◌, min, Bool, true, cond, List, ◌∷◌, length, ◌<◌, ◌≤◌}
-use Rattle.olr_spec.proofs.Common.{refl, sym, ◌∙◌, arith, ◌↔◌, suc, [], ltb-true, slice_index, Map, IsMap, start, end}
-use Rattle.olr_spec.proofs.Common.{coord_at, SameLine, SameRound, has, IsRoute, dm_of, LrpRoute, Path, passing, limit}
-use Rattle.olr_spec.proofs.Common.{node_at, stretch, CoveredWith, fit16, CandidateWith, ValidCandidateWith, Greatest}
-use Rattle.olr_spec.proofs.Common.{NextWith, To_end, To_valid, To_passing, FollowWith, legs, first_unknown, first_break}
-use Rattle.olr_spec.proofs.Common.{path_fault, Traversed}
+use Rattle.olr_spec.specs.Margins.{Margin, CountedRoute}
+use Rattle.olr_spec.proofs.Common.{◌≡◌, ℕ, ◌+◌, ◌-◌, min, Bool, true, cond, List, ◌∷◌, length, ◌<◌, ◌≤◌, refl, sym}
+use Rattle.olr_spec.proofs.Common.{arith, ◌↔◌, suc, [], ltb-true, slice_index, Map, IsMap, start, end, coord_at}
+use Rattle.olr_spec.proofs.Common.{SameLine, SameRound, has, dm_of, Path, passing, limit, node_at, stretch, CoveredWith}
+use Rattle.olr_spec.proofs.Common.{fit16, CandidateWith, ValidCandidateWith, Greatest, NextWith, To_end, To_valid}
+use Rattle.olr_spec.proofs.Common.{To_passing, FollowWith, legs, first_unknown, first_break, path_fault, Traversed}
 use Rattle.olr_spec.proofs.CountedLemmas.{counted_nil}
 use Rattle.olr_spec.proofs.Facts.{empty_unique, empty_stretch, Each, Each-nil, Each-head, Each-tail, Each-range}
 use Rattle.olr_spec.proofs.Facts.{has_last, has_index, map_same, Alike, same_record, same_start, same_end, same_dm_of}
 use Rattle.olr_spec.proofs.Facts.{same_coord, same_passing, same_known}
 
 -- the empty route, on any map
-pub empty_route : (M N : Map) → IsMap N → (s t s' t' : ℕ) (xs : List ℕ) → xs ≡ [] → s ≡ s' → t ≡ t' → LrpRoute M s t xs
-    → LrpRoute N s' t' xs
-empty_route M N n s t s' t' xs e f g l =
-    coe 0 1 (i. LrpRoute N s' ((sym f ∙ (coe 0 1 (i. IsRoute M s t (e i)) l.route) ∙ g) i) (sym e i)) (empty_unique N n s')
-
 empty_counted : (g : Margin) (M N : Map) → IsMap N → (s t s' t' : ℕ) (xs : List ℕ) → xs ≡ [] → s ≡ s' → t ≡ t' →
     CountedRoute g M s t xs → CountedRoute g N s' t' xs
-empty_counted g M N n s t s' t' xs e p q l =
-    let none = λ (K : Map). ap (counted g K) e ∙ counted_nil g K in
-    subst (λ (K : Map). LrpRoute K s' t' xs) (sym (none N))
-    (empty_route M N n s t s' t' xs e p q (subst (λ (K : Map). LrpRoute K s t xs) (none M) l))
+empty_counted g M N n s t s' t' xs e p q l = grind (arith, counted_nil g N, counted_nil g M, empty_unique N n s', l.route)
 
 -- if no line is between, a position is covered on any map
 pub close_stays : (g : Margin) (M N : Map) → IsMap M → IsMap N → (ls : List ℕ) → Each (SameLine M N) ls → (i j : ℕ) → i < j

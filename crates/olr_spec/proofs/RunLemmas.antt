@@ -2,7 +2,7 @@
 use Rattle.olr_spec.proofs.Common.{◌≡◌, ◌≢◌, ℕ, ◌+◌, true, List, ◌∷◌, ◌++◌, map, length, ◌<◌, ◌≤◌}
 use Rattle.olr_spec.proofs.Common.{IsTrue, refl, sym, subst, arith, append-nil, append_assoc, [], cases_lt}
 use Rattle.olr_spec.proofs.Common.{cases_order, and_parts, cond_both, nat_tests, Map, IsMap, dm, has_line, lines_in}
-use Rattle.olr_spec.proofs.Common.{lines_out, start, end, has, line_at, dm_of, passing, passes_between, first, last}
+use Rattle.olr_spec.proofs.Common.{lines_out, start, end, has, line_at, dm_of, passes_between, first, last}
 use Rattle.olr_spec.proofs.Common.{MayPrecede, MayFollow, StartRun, EndRun, LongestEnd, Tried, Path, from_start}
 use Rattle.olr_spec.proofs.Common.{taken_start, limit, extended_path, OneStartRun, OneEndRun}
 use Rattle.olr_spec.proofs.RouteLemmas.{positive}
@@ -36,16 +36,12 @@ one_precedes : (M : Map) (ls : List ℕ) (x y : ℕ) → IsTrue (has_line M (fir
     MayPrecede M y ls → x ≡ y
 one_precedes M ls x y k p q =
     let v = start M (first ls) in
-    one_way_in v (start M) (end M) (lines_in M v) (lines_out M v) x y (first ls)
-    (subst (λ (n : ℕ). passing M n ≡ true) p.joins p.through)
-    (entering M v x p.known p.joins) (entering M v y q.known q.joins) (leaving M v (first ls) k refl) p.onward q.onward
+    grind (arith, one_way_in v (start M) (end M) (lines_in M v) (lines_out M v) x y (first ls), entering M v, leaving M v)
 
 one_follows : (M : Map) (ls : List ℕ) (x y : ℕ) → IsTrue (has_line M (last ls)) → MayFollow M ls x → MayFollow M ls y → x ≡ y
 one_follows M ls x y k p q =
     let v = end M (last ls) in
-    one_way_out v (start M) (end M) (lines_in M v) (lines_out M v) x y (last ls)
-    (coe 0 1 (i. passing M (p.joins i) ≡ true) p.through)
-    (leaving M v x p.known p.joins) (leaving M v y q.known q.joins) (entering M v (last ls) k refl) p.onward q.onward
+    grind (arith, one_way_out v (start M) (end M) (lines_in M v) (lines_out M v) x y (last ls), entering M v, leaving M v)
 
 last_back : (xs : List ℕ) (y : ℕ) (ys : List ℕ) → last (xs ++ y ∷ ys) ≡ last (y ∷ ys)
 last_back [] y ys = refl

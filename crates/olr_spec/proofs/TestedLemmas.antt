@@ -109,7 +109,7 @@ module _ (g : Margin) (M : Map) (m : IsMap M) (P : Path) (is : IsTrue (is_path P
       let ls = (extended_path M P p.before p.after).lines in
       let js = some_follow g M m ls (length ls) 0 (omega arith) in
       let touched : TouchedWith g M ls p.before p.after js.0 v = grind arith in
-      record { before = p.before; after = p.after; points = js.0; tried = p.tried; follow = js.1; holds = touched }
+      search (p.tried, js.1, touched) depth 6
   foot_here queries o v (inr r) =
       let i = query_from_with g M ((extended_path M P o.before o.after).lines) (0 ∷ o.points) queries o.holds r.0 r.1 in
       path_also o (Within_reach (i.0, i.1, i.2, (r.0, i.3, r.2)))
