@@ -1,34 +1,16 @@
 -- The nodes of a range of cells, and of a window.
-use Rattle.olr_spec.proofs.Common.{◌≡◌, ℕ, ◌+◌, ◌-◌, ◌<◌, ◌≤◌, inl, inr, ℤ, Bool, true, false, nat_lt, nat_le, List}
-use Rattle.olr_spec.proofs.Common.{length, take, drop, get_or, Contains, IsTrue, IsFalse, arith, ap, ◌∙◌, subst}
-use Rattle.olr_spec.proofs.Common.{cases_lt, ltb-true, leb-false, get_or-drop, get_or-take, length-drop, length-take-le}
-use Rattle.olr_spec.proofs.Common.{Map, coord_at, Coord}
+use Rattle.olr_spec.proofs.Common.{◌≡◌, ℕ, ◌+◌, ◌-◌, ◌<◌, ◌≤◌, inl, inr, ℤ, Bool, List, length, take, drop, get_or}
+use Rattle.olr_spec.proofs.Common.{Contains, IsTrue, IsFalse, arith, ap, ◌∙◌, subst, cases_lt, ltb-true, leb-false}
+use Rattle.olr_spec.proofs.Common.{get_or-drop, get_or-take, length-drop, length-take-le, Map, coord_at, Coord}
 use Rattle.olr_spec.specs.Ambiguity.{is_farther, usual_slack}
 use Rattle.olr_ambiguity.specs.declared.grid.Placed.{Placed}
 use Rattle.olr_ambiguity.specs.declared.rivals.Window.{Window}
-use Rattle.olr_ambiguity.specs.Grids.{Starts, Ends, cell_at, cells_from, lowest_lat, lowest_lon, IsGridOf, IsWindow, Notes}
+use Rattle.olr_ambiguity.specs.Grids.{Starts, Ends, cell_at, cells_from, lowest_lat, IsGridOf, IsWindow, Notes}
 
 -- an element whose cell is within is between the two positions
 between : (es : List Placed) (first last i j k : ℕ) (e : Placed) → Starts es first i → Ends es last j → k < length es →
     get_or es k e ≡ e → first ≤ e.cell → e.cell ≤ last → (i ≤ k) × (k < j)
-between es first last i j k e s f lt at low high = (
-  elim (cases_lt k i) [
-    | inl before ↦
-        let less : nat_lt (get_or es k e).cell first ≡ true = s.0 k e (omega arith) before in
-        let under = ltb-true (get_or es k e).cell first less in
-        let same : (get_or es k e).cell ≡ e.cell = ap (λ (g : Placed). g.cell) at in
-        absurd (omega (arith, under, same, low))
-    | inr after ↦ after
-  ],
-  elim (cases_lt k j) [
-    | inl before ↦ before
-    | inr after ↦
-        let more : nat_le (get_or es k e).cell last ≡ false = f.1 k e after lt in
-        let over = leb-false (get_or es k e).cell last more in
-        let same : (get_or es k e).cell ≡ e.cell = ap (λ (g : Placed). g.cell) at in
-        absurd (omega (arith, over, same, high))
-  ],
-)
+between es first last i j k e s f lt at low high = grind (arith, s.0 k e, f.1 k e, cases_lt, ltb-true, leb-false)
 
 -- from position i on, or from an earlier one
 pub in_range : (es : List Placed) (first last i n j : ℕ) → Starts es first i → Ends es last j → n ≤ i → j ≤ length es →
@@ -43,17 +25,9 @@ in_range es first last i n j s f few more e h low high =
       get_or-take (j - n) (drop n es) k e (omega (arith, b.0, b.1, few)) ∙ get_or-drop n es k e ∙ ap (λ (m : ℕ). get_or es m e) on ∙ h.2,
     )
 
--- a cell of the window is in the range of its row
-pub in_row : (w0 w1 row column : ℕ) → w0 ≤ column → column ≤ w1 → (cell_at row w0 ≤ cell_at row column) × (cell_at row column ≤ cell_at row w1)
-in_row w0 w1 row column low high = (omega (arith, low), omega (arith, high))
-
 -- a grid of other nodes, each of which it has
 pub grid_more : (M : Map) (F G : ℕ → Type 0) (es : List Placed) → IsGridOf M F es → ((v : ℕ) → G v → F v) → IsGridOf M G es
-grid_more M F G es g more =
-    record {
-      placing = record { right = g.placing.right; whole = λ v asked. g.placing.whole v (more v asked) };
-      sorted = g.sorted;
-    }
+grid_more M F G es g more = grind (arith, more, g.placing.whole)
 
 -- ---- rows of a window
 
@@ -96,6 +70,5 @@ whole_window M rival es w p c row found g win h past near v is =
     let rows = win.rows e.place close in
     let columns = win.columns e.place close in
     let r = cells_from lowest_lat e.place.lat in
-    let cells = in_row w.columns.0 w.columns.1 r (cells_from lowest_lon e.place.lon) columns.0 columns.1 in
     subst (λ (u : ℕ). Contains found u) same
-    (h.whole e r there is_e rows.0 (omega (arith, rows.1, past)) (omega (arith, cells.0, right.2)) (omega (arith, cells.1, right.2)))
+    (h.whole e r there is_e rows.0 (omega (arith, rows.1, past)) (omega (arith, columns.0, right.2)) (omega (arith, columns.1, right.2)))

@@ -1,42 +1,33 @@
 -- Tests of a list's elements, one after another, and what is noted of them.
-use Rattle.olr_spec.proofs.Common.{◌≡◌, ◌≢◌, ℕ, suc, ◌+◌, ◌<◌, ◌⊎◌, inl, inr, Bool, true, false, not, ◌||◌, ◌&&◌, ◌==◌}
-use Rattle.olr_spec.proofs.Common.{List, [], ◌∷◌, ◌++◌, filter, take, length, get_or, Contains, IsTrue, IsFalse, arith}
-use Rattle.olr_spec.proofs.Common.{sym, ap, ◌∙◌, subst, refl, ◌↔◌, eq-eqb, ne_eqb, cases_Bool, or_left, or_right}
-use Rattle.olr_spec.proofs.Common.{and_from, and_parts, both_ways, take_more, has, IsStrictlyIncreasing, Map, IsMap}
-use Rattle.olr_spec.proofs.Common.{has_line, has_node, coord_at, start, leg, Side, node_on, coordinate_on, ℤ}
+use Rattle.olr_spec.proofs.Common.{◌≡◌, ◌≢◌, ℕ, suc, ◌+◌, ◌<◌, ◌⊎◌, inl, inr, Bool, true, false, not, ◌&&◌, ◌==◌, List}
+use Rattle.olr_spec.proofs.Common.{[], ◌∷◌, ◌++◌, filter, take, length, get_or, Contains, IsTrue, IsFalse, arith, sym}
+use Rattle.olr_spec.proofs.Common.{ap, ◌∙◌, subst, refl, ◌↔◌, eq-eqb, ne_eqb, cases_Bool, or_left, and_parts, both_ways}
+use Rattle.olr_spec.proofs.Common.{take_more, has, IsStrictlyIncreasing, Map, IsMap, has_line, has_node, coord_at}
+use Rattle.olr_spec.proofs.Common.{start, leg, Side, node_on, coordinate_on, ℤ, All, is_some, map, map-append}
+use Rattle.olr_spec.proofs.Common.{append_assoc, append-nil, length-take-le, Reference}
 use Rattle.std.specs.List.{list_any}
 use Rattle.std.proofs.lemmas.List.Elements.{Contains-push_cases, Contains-get_or}
 use Rattle.std.proofs.lemmas.List.Folds.{Any-from_list_any}
-use Rattle.olr_spec.proofs.Common.{All, is_some}
 use Rattle.std.proofs.lemmas.List.Kept.{IsStrictlyIncreasing-filter}
-use Rattle.olr_spec.specs.Receiver.{Outgoing, Incoming}
+use Rattle.olr_spec.specs.Receiver.{Outgoing, Incoming, decoded_coord}
 use Rattle.olr_spec.specs.Ambiguity.{is_farther, usual_slack, is_outdone_for_all, is_rival, lines_on, all_nodes}
-use Rattle.olr_spec.proofs.ListLemmas.{has-filter}
+use Rattle.olr_spec.specs.Ambiguity.{Obstacle, Same_sector, Other_bearing, Other_node, obstacles_at, obstacles_from}
+use Rattle.olr_spec.specs.Ambiguity.{side_at}
+use Rattle.olr_spec.proofs.ListLemmas.{has-filter, has_here, has_there}
 use Rattle.olr_spec.proofs.OrderLemmas.{exactly_in, exactly_out, has-all_nodes, all_nodes_ascend}
 use Rattle.olr_spec.proofs.SameNumbers.{has_from, in_from, same_ascending}
-use Rattle.std.specs.Prelude.{unwrap_or}
-use Rattle.olr_spec.specs.Map.{no_line}
 use Rattle.olr_ambiguity.specs.declared.grid.Placed.{Placed}
 use Rattle.olr_ambiguity.specs.Grids.{Notes}
-use Rattle.olr_spec.proofs.Common.{map, map-append, append_assoc, append-nil, length-take-le, Reference}
-use Rattle.olr_spec.specs.Receiver.{decoded_coord}
-use Rattle.olr_spec.specs.Ambiguity.{Obstacle, Same_sector, Other_bearing, Other_node, obstacles_at, obstacles_from, side_at}
 
 pub none_any : (p : ℕ → Bool) (xs : List ℕ) → ((x : ℕ) → has xs x ≡ true → p x ≡ false) → list_any p xs ≡ false
 none_any p [] h = refl
-none_any p (x ∷ xs) h =
-    ap (λ (b : Bool). b || list_any p xs) (h x (or_left (x == x) (has xs x) (eq-eqb x x refl)))
-    ∙ none_any p xs (λ y on. h y (or_right (x == y) (has xs y) on))
+none_any p (x ∷ xs) h = grind (arith, h x (has_here x xs), none_any p xs (λ y on. h y (has_there x xs y on)))
 
 -- ---- rivals
 
 line_there : (M : Map) (s : Side) (w y : ℕ) → has (lines_on s M w) y ≡ true → node_on s (leg M y) ≡ w
-line_there M Outgoing w y h =
-    let on = (exactly_out M w y).0 h in
-    ap (λ (o : _). (unwrap_or o no_line).from) on.1.0 ∙ on.1.1
-line_there M Incoming w y h =
-    let on = (exactly_in M w y).0 h in
-    ap (λ (o : _). (unwrap_or o no_line).to) on.1.0 ∙ on.1.1
+line_there M Outgoing w y h = grind (arith, exactly_out M w y)
+line_there M Incoming w y h = grind (arith, exactly_in M w y)
 
 line_known : (M : Map) (s : Side) (w y : ℕ) → has (lines_on s M w) y ≡ true → IsTrue (has_line M y)
 line_known M Outgoing w y h = ap is_some ((exactly_out M w y).0 h).1.0
@@ -69,16 +60,10 @@ module _ (M : Map) (s : Side) (p : ℤ × ℤ) (x w : ℕ) where
       let off : is_farther usual_slack p (coordinate_on s (leg M x)) (coordinate_on s (leg M y)) ≡ true =
       ap (is_farther usual_slack p (coordinate_on s (leg M x))) there ∙ far in
       ap not (or_left (is_farther usual_slack p (coordinate_on s (leg M x)) (coordinate_on s (leg M y))) _ off)) in
-      elim (cases_Bool (not (w == node_on s (leg M x)))) [
-        | inl is ↦ ap (λ (b : Bool). b && open_lines) is ∙ none
-        | inr isnt ↦ ap (λ (b : Bool). b && open_lines) isnt
-      ]
+      grind (arith, none, cases_Bool (not (w == node_on s (leg M x))))
 
   pub close : is_rival M s p x w ≡ true → is_farther usual_slack p (coordinate_on s (leg M x)) (coord_at M w) ≡ false
-  close is = elim (cases_Bool (is_farther usual_slack p (coordinate_on s (leg M x)) (coord_at M w))) [
-    | inl far ↦ absurd (both_ways (is_rival M s p x w) (not_far far) is)
-    | inr near ↦ near
-  ]
+  close is = grind (arith, cases_Bool (is_farther usual_slack p (coordinate_on s (leg M x)) (coord_at M w)), not_far, both_ways)
 
   pub rival_known : IsMap M → is_rival M s p x w ≡ true → IsTrue (has_node M w)
   rival_known m is =
@@ -133,19 +118,7 @@ all_found M p found up sound whole =
     same_ascending found (filter p (all_nodes M)) up (IsStrictlyIncreasing-filter p (all_nodes M) (all_nodes_ascend M)) (λ v.
     let both : has (filter p (all_nodes M)) v ≡ (p v && has_node M v) =
     has-filter p (all_nodes M) v ∙ ap (λ (b : Bool). p v && b) (has-all_nodes M v) in
-    elim (cases_Bool (has found v)) [
-      | inl is ↦
-          let there = sound v (in_from found v is) in
-          is ∙ sym (both ∙ and_from (p v) (has_node M v) there.0 there.1)
-      | inr isnt ↦
-          let none : (p v && has_node M v) ≡ false = elim (cases_Bool (p v && has_node M v)) [
-            | inl yes_both ↦
-                let parts = and_parts (p v) (has_node M v) yes_both in
-                absurd (both_ways (has found v) isnt (has_from found v (whole v parts.1 parts.0)))
-            | inr neither ↦ neither
-          ] in
-          isnt ∙ sym (both ∙ none)
-    ])
+    grind (arith, both, sound v, whole v, in_from found v, has_from found v, cases_Bool (has found v), cases_Bool (p v), cases_Bool (has_node M v)))
 
 -- ---- what was found at an LRP, and at one after another
 
@@ -163,20 +136,7 @@ pub joined_at : (k : ℕ) (start one two three : List (ℕ × Obstacle)) (ts us 
     one ≡ start ++ each k (λ y. Same_sector y) ts → two ≡ one ++ each k (λ y. Other_bearing y) us →
     three ≡ two ++ each k (λ v. Other_node v) rs → three ≡ start
     ++ numbered k (map (λ y. Same_sector y) ts ++ map (λ y. Other_bearing y) us ++ map (λ v. Other_node v) rs)
-joined_at k start one two three ts us rs a b c =
-    let T : List (ℕ × Obstacle) = each k (λ y. Same_sector y) ts in
-    let U : List (ℕ × Obstacle) = each k (λ y. Other_bearing y) us in
-    let R : List (ℕ × Obstacle) = each k (λ v. Other_node v) rs in
-    let front : List Obstacle = map (λ y. Same_sector y) ts ++ map (λ y. Other_bearing y) us in
-    let two_parts : numbered k front ≡ T ++ U =
-    map-append (λ (o : Obstacle). (k, o)) (map (λ y. Same_sector y) ts) (map (λ y. Other_bearing y) us)
-    ∙ (λ i. tag k (λ y. Same_sector y) ts i ++ tag k (λ y. Other_bearing y) us i) in
-    let parts : numbered k (front ++ map (λ v. Other_node v) rs) ≡ (T ++ U) ++ R =
-    map-append (λ (o : Obstacle). (k, o)) front (map (λ v. Other_node v) rs)
-    ∙ (λ i. two_parts i ++ tag k (λ v. Other_node v) rs i) in
-    c ∙ ap (λ (zs : List (ℕ × Obstacle)). zs ++ R) (b ∙ ap (λ (zs : List (ℕ × Obstacle)). zs ++ U) a)
-    ∙ ap (λ (zs : List (ℕ × Obstacle)). zs ++ R) (append_assoc start T U) ∙ append_assoc start (T ++ U) R
-    ∙ ap (λ (zs : List (ℕ × Obstacle)). start ++ zs) (sym parts)
+joined_at k start one two three ts us rs a b c = grind (arith, a, b, c, map-append, tag, append_assoc)
 
 abbrev at : Map → Reference → ℕ → ℕ → List (ℕ × Obstacle)
 at M r k x = numbered k (obstacles_at M (side_at r k) (decoded_coord r k) x)
@@ -188,9 +148,7 @@ from_more M r k [] x =
     append-nil (at M r k x) ∙ sym (ap (λ (n : ℕ). at M r n x) here)
 from_more M r k (y ∷ xs) x =
     let step : suc k + length xs ≡ k + suc (length xs) = omega arith in
-    ap (λ (zs : List (ℕ × Obstacle)). at M r k y ++ zs) (from_more M r (suc k) xs x)
-    ∙ sym (append_assoc (at M r k y) (obstacles_from M r (suc k) xs) (at M r (suc k + length xs) x))
-    ∙ ap (λ (n : ℕ). (at M r k y ++ obstacles_from M r (suc k) xs) ++ at M r n x) step
+    grind (arith, from_more M r (suc k) xs x, append_assoc, step)
 
 pub one_more : (M : Map) (r : Reference) (xs : List ℕ) (k x : ℕ) → k < length xs → get_or xs k x ≡ x →
     obstacles_from M r 0 (take (k + 1) xs) ≡ obstacles_from M r 0 (take k xs) ++ at M r k x

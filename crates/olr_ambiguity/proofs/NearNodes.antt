@@ -1,6 +1,7 @@
 -- The nodes in the windows of a reference's LRPs.
-use Rattle.olr_spec.proofs.Common.{◌≡◌, ◌∙◌, ◌+◌, ◌⊎◌, inl, inr, or_cases, take, ◌&&◌, ◌<◌, subst, ℕ, ℤ, List, Option, Some, sym, ap, slice_get, length, unwrap_or, Contains, IsTrue, IsFalse}
+use Rattle.olr_spec.proofs.Common.{◌≡◌, ◌∙◌, ◌+◌, ◌⊎◌, or_cases, take, ◌<◌, subst, ℕ, ℤ, List, Option, Some, sym, ap, slice_get, length, unwrap_or, Contains, IsTrue, IsFalse}
 use Rattle.olr_spec.proofs.Common.{le-leb, get_or, list_any_at, is_some, Coord, Map, IsMap, Reference, coord_at, has_node, leg, coordinate_on, no_coord}
+use Rattle.olr_spec.proofs.Common.{arith, and_from}
 use Rattle.std.proofs.lemmas.Option.{slice_get-get_or, slice_get_within}
 use Rattle.std.proofs.lemmas.List.Folds.{list_any_more}
 use Rattle.std.specs.FinMap.{get}
@@ -9,26 +10,17 @@ use Rattle.olr_spec.proofs.OptionLemmas.{some_of}
 use Rattle.olr_spec.specs.Receiver.{decoded_coord}
 use Rattle.olr_spec.specs.Ambiguity.{is_farther, is_rival, side_at, usual_slack}
 use Rattle.olr_ambiguity.specs.declared.rivals.Window.{Window}
-use Rattle.olr_ambiguity.specs.Grids.{AreNodes, AreWindows, IsWindow, is_in, cells_from, lowest_lat, lowest_lon}
+use Rattle.olr_ambiguity.specs.Grids.{AreNodes, AreWindows, IsWindow, is_in}
 use Rattle.olr_ambiguity.proofs.Lists.{close, rival_known}
 
 in_window : (p : ℤ × ℤ) (c d : Coord) (w : Window) → IsWindow p c w → IsFalse (is_farther usual_slack p c d) → IsTrue (is_in w d)
-in_window p c d w h near =
-    let rows = h.rows d near in
-    let columns = h.columns d near in
-    let row = cells_from lowest_lat d.lat in
-    let column = cells_from lowest_lon d.lon in
-    λ i. le-leb w.rows.0 row rows.0 i && le-leb row w.rows.1 rows.1 i && le-leb w.columns.0 column columns.0 i
-    && le-leb column w.columns.1 columns.1 i
+in_window p c d w h near = grind (arith, h.rows d near, h.columns d near, le-leb, and_from)
 
 -- a coordinate in one of the windows so far, which are in the hull, or in the next one
 pub in_next : (ws : List Window) (k : ℕ) (w hull : Window) (d : Coord) → k < length ws → w ≡ get_or ws k w →
     (IsTrue (list_any (λ u. is_in u d) (take k ws)) → IsTrue (is_in hull d)) →
     IsTrue (list_any (λ u. is_in u d) (take (k + 1) ws)) → IsTrue (is_in hull d) ⊎ IsTrue (is_in w d)
-in_next ws k w hull d lt at inside h = elim (or_cases _ _ (sym (list_any_more (λ (u : Window). is_in u d) ws k w lt) ∙ h)) [
-  | inl before ↦ inl (inside before)
-  | inr last ↦ inr (ap (λ (u : Window). is_in u d) at ∙ last)
-]
+in_next ws k w hull d lt at inside h = grind (arith, or_cases, list_any_more (λ (u : Window). is_in u d) ws k w lt)
 
 module _ (M : Map) (ids : List (Option ℕ)) (places : List Coord) (beside : length ids ≡ length places) (nodes : AreNodes M ids places) where
   pub in_slot : (k v : ℕ) → slice_get ids k ≡ Some (Some v) → IsTrue (has_node M v)

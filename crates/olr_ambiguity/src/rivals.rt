@@ -34,6 +34,7 @@ fn reach_of(place: DecodedPlace, here: Coord) -> u128
 }
 
 /// How far in longitude, in units, a node may be for a cosine in millionths, greater than 0.
+#[tactic(auto, using(crate::proofs::Windows::most_of))]
 fn widened(reach: u128, cosine: u128) -> u128
     requires reach { reach ≤ 5 * 10 ^ 31 }
     requires some { 0 < cosine }

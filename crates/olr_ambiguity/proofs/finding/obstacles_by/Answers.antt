@@ -1,8 +1,7 @@
-use Rattle.olr_spec.proofs.Common.{◌≡◌, ◌∙◌, ◌++◌, ℤ, Side, length, refl, sym, subst, ap, get_or, get_or_default}
+use Rattle.olr_spec.proofs.Common.{◌≡◌, ◌∙◌, ◌++◌, length, refl, sym, ap, get_or, get_or_default, arith}
 use Rattle.olr_spec.specs.Receiver.{decoded_coord}
 use Rattle.olr_spec.specs.Ambiguity.{obstacles_at, side_at}
 use Rattle.std.proofs.lemmas.Option.{slice_get_read}
-use Rattle.olr_ambiguity.specs.Grids.{HasRivals}
 use Rattle.olr_ambiguity.specs.OwnLines.{side_of}
 use Rattle.olr_ambiguity.specs.Places.{place_of}
 use Rattle.olr_ambiguity.proofs.Lists.{one_more, numbered}
@@ -24,16 +23,9 @@ loop-k-preserved g c =
 
 pub push_at-requires-clause-grid : goal.push_at-requires-clause-grid
 push_at-requires-clause-grid g c =
-    let M = g.M.MapRead.map c.args.map.now in
-    let r = c.args.reference.now in
     let k = c.loop-k.k in
-    let es = c.args.grid.now.nodes.items in
-    let own = c.own_line-own.result in
+    let x = c.own_line-own.result.id in
     let same = c.own_line-own.ensures.same in
-    let side : side_of own.side ≡ side_at r k = ap side_of same.1 ∙ c.side_at-side.ensures r c.requires.count in
-    let place : place_of own.place ≡ decoded_coord r k = ap place_of same.2 ∙ c.place_at-place.ensures.value in
-    let here : own.id ≡ get_or c.args.own.now k own.id =
-    same.0 ∙ c.index-own-k.is ∙ get_or_default c.args.own.now k c.index-own-k.result own.id c.loop-k-test.true in
-    subst (λ (s : Side). HasRivals M s (place_of own.place) own.id es) (sym side)
-    (subst (λ (p : ℤ × ℤ). HasRivals M (side_at r k) p own.id es) (sym place)
-    (c.requires.grid k own.id (slice_get_read c.args.own.now (length c.args.own.now) k own.id refl c.loop-k-test.true here)))
+    let at = same.0 ∙ c.index-own-k.is ∙ get_or_default c.args.own.now k c.index-own-k.result x c.loop-k-test.true in
+    let rivals = c.requires.grid k x (slice_get_read c.args.own.now (length c.args.own.now) k x refl c.loop-k-test.true at) in
+    grind (arith, same, c.side_at-side.ensures c.args.reference.now c.requires.count, c.place_at-place.ensures.value, rivals)

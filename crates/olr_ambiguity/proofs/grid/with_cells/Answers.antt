@@ -22,11 +22,7 @@ loop-id-preserved g c =
     let right_e : IsTrue (has_node M e.node) × (e.place ≡ coord_at M e.node) × (e.cell ≡ cell_of e.place) =
     (is_node, c.coord_of-place.ensures, c.cell_of.ensures) in
     record {
-      right = λ f h. elim (Contains-push_cases old e f (subst (λ (es : List Placed). Contains es f) pushed h)) [
-        | inl before ↦ inv.right f before
-        | inr same ↦
-            subst (λ (x : Placed). IsTrue (has_node M x.node) × (x.place ≡ coord_at M x.node) × (x.cell ≡ cell_of x.place)) same right_e
-      ];
+      right = λ f h. let cases = Contains-push_cases old e f (subst (λ (es : List Placed). Contains es f) pushed h) in grind (arith, cases, inv.right f, right_e);
       whole = λ k lt. elim (cases_lt k c.loop-id.id-index) [
         | inl before ↦
             let w = inv.whole k before in

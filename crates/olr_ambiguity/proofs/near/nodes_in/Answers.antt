@@ -14,10 +14,7 @@ loop-k-preserved c =
     let place = c.index-places-k.result in
     let lt = c.loop-k-test.true in
     record {
-      right = λ v there. elim ((c.in_ok-push_near.ensures v).0 there) [
-        | inl before ↦ inv.right v before
-        | inr new ↦ (k, slice_get_read ids (length ids) k id refl lt c.index-ids-k.is ∙ ap (λ o. Some o) new.0)
-      ];
+      right = λ v there. grind (arith, (c.in_ok-push_near.ensures v).0 there, inv.right v, slice_get_read ids (length ids) k id refl lt c.index-ids-k.is);
       whole = λ j v d below at beside near. elim (cases_lt j k) [
         | inl before ↦ (c.in_ok-push_near.ensures v).1 (inl (inv.whole j v d before at beside near))
         | inr last ↦
