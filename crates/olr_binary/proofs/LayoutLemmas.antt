@@ -54,11 +54,8 @@ no_fault_tests : (p q r s : Bool)
     → (if p then Some Length else
     (if not q then Some Status else (if not r then Some Flags else (if s then Some Reserved else None)))) ≡ None
     → (q ≡ true) × (r ≡ true) × (s ≡ false)
-no_fault_tests true q r s e = absurd cc
-no_fault_tests false false r s e = absurd cc
-no_fault_tests false true false s e = absurd cc
-no_fault_tests false true true true e = absurd cc
 no_fault_tests false true true false e = (refl, refl, refl)
+no_fault_tests p q r s e = absurd cc
 
 pub no_fault : (b : List ℕ) → v3_fault b ≡ None → HasNoFault b
 no_fault b e =

@@ -7,7 +7,7 @@ use Rattle.base64.proofs.EngineFacts.{decode_of-encode_of}
 use Rattle.olr_spec.specs.Bytes.{V3Fault as Fault}
 use Rattle.olr_spec.proofs.BytesLemmas.{one_decoding}
 use Rattle.olr_spec.proofs.ReadLemmas.{encoded_passes}
-use Rattle.olr_binary.specs.declared.faults.V3Fault.TheVariants.{Length, Status, Flags, Reserved, Memory}
+use Rattle.olr_binary.specs.declared.faults.V3Fault.TheVariants.{Memory}
 use Rattle.olr_binary.specs.declared.faults.TextFault.{TextFault}
 use Rattle.olr_binary.specs.declared.faults.TextFault.TheVariants.{Bytes, NotBase64}
 use Rattle.olr_binary.specs.Faults.{IsFaultOf, IsOfText}
@@ -36,14 +36,11 @@ bytes-no_text text b f decoded fault r is =
 pub fault-no_text : (text : List ℕ) (f : TextFault) → IsFaultOf text f → IsOfText f → (r : Reference) →
     ¬ IsTextOf r text
 fault-no_text text (Bytes Memory) fault reported r is = reported
-fault-no_text text (Bytes Length) fault reported r is = bytes-no_text text fault.0 _ fault.1 fault.2 r is
-fault-no_text text (Bytes Status) fault reported r is = bytes-no_text text fault.0 _ fault.1 fault.2 r is
-fault-no_text text (Bytes Flags) fault reported r is = bytes-no_text text fault.0 _ fault.1 fault.2 r is
-fault-no_text text (Bytes Reserved) fault reported r is = bytes-no_text text fault.0 _ fault.1 fault.2 r is
 fault-no_text text NotBase64 fault reported r is =
     let some = decode-text r text is in
     let none = fault.1 in
     cc (some, none)
+fault-no_text text f fault reported r is = bytes-no_text text fault.0 _ fault.1 fault.2 r is
 
 pub no_text : {T : Type 0} (text : List ℕ) (r : Result T TextFault) → IfErr r (λ f. IsFaultOf text f) →
     IfErr r (λ f. IsOfText f → (s : Reference) → ¬ IsTextOf s text)
