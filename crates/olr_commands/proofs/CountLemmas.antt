@@ -6,8 +6,7 @@ use Rattle.std.proofs.Math.Bool.{or-false}
 use Rattle.olr_commands.specs.State.{Named, Content, same_name, path_named, with_path, NamesDiffer, Path_exists}
 use Rattle.olr_commands.specs.State.{Bad_path, when, Change, Add_path, Set_path, with_change, State, Make, step}
 use Rattle.olr_commands.specs.State.{changes_made, IsState}
-use Rattle.olr_commands.specs.Counts.{Affects, By_name, By_node, By_line, CountIs, all_nodes, all_lines, gives}
-use Rattle.olr_commands.specs.Counts.{Raises}
+use Rattle.olr_commands.specs.Counts.{Affects, By_name, By_node, By_line, CountIs, all_nodes, all_lines, gives, Raises}
 use Rattle.olr_commands.proofs.NameLemmas.{same_is, not_named, set_name}
 use Rattle.olr_commands.proofs.StateLemmas.{ends, when_ok, passed, steps_keep}
 
@@ -52,8 +51,7 @@ path_set name path (p ∷ ps) h = grind (arith, set_name, cases_Bool, path_set n
 only_name : (c : Content) (x : Change) (name : List ℕ) → all_nodes c (x ∷ []) ≡ [] → all_lines (x ∷ []) ≡ [] →
     ((q : List ℕ) → gives q x ≡ same_name q name) → (p : Named) → Affects c (x ∷ []) p → same_name p.name name ≡ true
 only_name c x name a b d p (By_name h) = sym (d p.name) ∙ sym (or-false (gives p.name x)) ∙ h
-only_name c x name a b d p (By_node v h f) = grind arith
-only_name c x name a b d p (By_line y h f) = grind arith
+only_name c x name a b d p h = grind arith
 
 by_name : (c : Content) (x : Change) (name : List ℕ) → ((q : List ℕ) → gives q x ≡ same_name q name) → (p : Named) →
     same_name p.name name ≡ true → Affects c (x ∷ []) p

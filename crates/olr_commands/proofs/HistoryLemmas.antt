@@ -10,9 +10,8 @@ use Rattle.olr_spec.proofs.UndoLemmas.{empty_sound}
 use Rattle.olr_spec.specs.Joins.{JoinedWith}
 use Rattle.olr_spec.proofs.JoinedAnswers.{joined_with}
 use Rattle.olr_commands.specs.State.{Named, Content, path_named, same_name, ArePaths, NamesDiffer, IsContent, Fault}
-use Rattle.olr_commands.specs.State.{Change, after, Command, Make, Compact, Begin, Commit, Abort, State, start_state}
-use Rattle.olr_commands.specs.State.{step, changes_made, changes_made_in, IsState, Dump, Show_node, Show_line}
-use Rattle.olr_commands.specs.State.{Show_margin}
+use Rattle.olr_commands.specs.State.{Change, after, Command, Make, State, start_state, step, changes_made}
+use Rattle.olr_commands.specs.State.{changes_made_in, IsState, Dump}
 use Rattle.olr_commands.specs.Reply.{Entry, entry, Paths, HasAnswer, Published, ChangedOf, Differences, IsReply}
 use Rattle.olr_commands.specs.Reply.{Outcome, IsOutcome, Dumped, Reply}
 use Rattle.olr_commands.specs.History.{Run, brought_by, next_state, all_changes_made, OneOf, IsPublished, names}
@@ -218,7 +217,6 @@ names_changed before later es i c =
 reported_of : (s t : State) (c : Command) (es : List Entry) → reports s.batch c ≡ true → IsReply s c t (Paths es) →
     Differences s.content t.content es
 reported_of s t (Make x) es e h = grind arith
-reported_of s t (Commit count) es e h = grind arith
 reported_of s t c es e h = grind arith
 
 pub is_named : (s t : State) (c : Command) (o : Outcome) → IsContent t.content → IsOutcome s c o t → IsNamed s c o t
@@ -228,15 +226,8 @@ dumped_of : (c : Content) (b : Option (List Change)) (t : State) (x : Command) (
     IsContent c → step (record { content = c; batch = b }) x ≡ Ok t →
     IsReply (record { content = c; batch = b }) x t (Dumped count text)
     → IsDump (record { content = c; batch = b }) count text × (t ≡ record { content = c; batch = b })
-dumped_of c b t Dump count text i is h = grind (arith, when_ok, not-false, dumps_run)
-dumped_of c (Some xs) t (Make x) count text i is h = absurd cc
-dumped_of c b t (Show_node v) count text i is h = absurd cc
-dumped_of c b t (Show_line x) count text i is h = absurd cc
-dumped_of c b t Show_margin count text i is h = absurd cc
-dumped_of c b t Compact count text i is h = absurd cc
-dumped_of c b t Begin count text i is h = absurd cc
-dumped_of c b t Abort count text i is h = absurd cc
-dumped_of c b t x count text i is h = absurd h
+dumped_of c None t Dump count text i is h = grind (arith, when_ok, not-false, dumps_run)
+dumped_of c b t x count text i is h = grind arith
 
 pub is_dumped : (s t : State) (c : Command) (o : Outcome) → IsContent s.content → IsOutcome s c o t → IsDumped s o t
 is_dumped s t c o i h count text is = let p = rw is at h in dumped_of s.content s.batch t c count text i p.0 p.1

@@ -4,10 +4,8 @@ use Rattle.olr_commands.proofs.Common.{MapFault, edited, edits_keep}
 use Rattle.std.proofs.Common.{◌≡◌, ℕ, ◌+◌, ◌≤◌, arith, Bool, true, false, List, [], ◌∷◌, ◌++◌, length, Option, Some}
 use Rattle.std.proofs.Common.{None, Result, Ok, Err, refl, ap, subst}
 use Rattle.olr_commands.specs.State.{Content, Fault, when, Change, On_map, Add_path, Set_path, Drop_path, Set_margin}
-use Rattle.olr_commands.specs.State.{with_map, with_change, next, after, Command, Make, Show, Report, Explain, Begin}
-use Rattle.olr_commands.specs.State.{Commit, Abort, State, full, step, step_in, IsContent, AllAccepted, IsBatch}
-use Rattle.olr_commands.specs.State.{IsState, HasCoords, Dump, Compact, Preview, Ambiguous, Show_node, Show_line}
-use Rattle.olr_commands.specs.State.{Show_margin, Depends}
+use Rattle.olr_commands.specs.State.{with_map, with_change, next, after, Command, Make, Begin, Commit, Abort, State}
+use Rattle.olr_commands.specs.State.{full, step, step_in, IsContent, AllAccepted, IsBatch, IsState, HasCoords}
 use Rattle.olr_commands.proofs.NameLemmas.{differ_push, differ_set, differ_filter, paths_push, paths_set, paths_filter}
 use Rattle.std.proofs.lemmas.List.{length_push}
 use Rattle.std.proofs.lemmas.Result.{IfOk-at_ok}
@@ -80,22 +78,7 @@ Ends P c b x = P (record { content = c; batch = b })
 module _ (P : State → Type 0) where
   ends_in : (c : Content) (b : Option (List Change)) (x : Command) → Ends P c b x → IfOk (step_in c b x) P
   ends_in c None (Make x) h = grind arith
-  ends_in c (Some xs) (Make x) h = grind arith
-  ends_in c b (Show name) h = grind arith
-  ends_in c None (Show_node v) h = grind arith
-  ends_in c None (Show_line x) h = grind arith
-  ends_in c None (Depends nodes) h = grind arith
-  ends_in c None Dump h = grind arith
-  ends_in c None Compact h = h
-  ends_in c None (Ambiguous name) h = grind arith
-  ends_in c b Show_margin h = h
-  ends_in c b (Explain text) h = grind arith
-  ends_in c (Some xs) Preview h = h
-  ends_in c (Some xs) (Commit count) h = grind arith
-  ends_in c (Some xs) Abort h = h
-  ends_in c b Report h = h
-  ends_in c None Begin h = h
-  ends_in c b x h = tt
+  ends_in c b x h = grind arith
 
   pub ends : (s t : State) (x : Command) → step s x ≡ Ok t → Ends P s.content s.batch x → P t
   ends s t x is h = IfOk-at_ok P is (ends_in s.content s.batch x h)

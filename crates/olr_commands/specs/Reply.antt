@@ -17,11 +17,10 @@ use Rattle.olr_spec.specs.Encoding.{Answer, Points, Refused, Refusal, EncodesWit
 use Rattle.olr_spec.specs.Bytes.{HasBytes}
 use Rattle.olr_model.specs.Edits.{allocates}
 use Rattle.olr_binary.specs.Text.{text_of}
-use Rattle.olr_commands.specs.State.{Named, Content, path_named, Fault, Syntax, Range, Map_fault, Path_exists, No_path}
-use Rattle.olr_commands.specs.State.{Bad_path, Not_a_reference, Memory, Batch_open, No_batch, Count_differs, Batch_full}
-use Rattle.olr_commands.specs.State.{Not_a_record, Dump, Change, On_map, Drop_path, State, Command, Make, Show, Report}
-use Rattle.olr_commands.specs.State.{Explain, Begin, Preview, Commit, Abort, Show_node, Show_line, Show_margin, Depends}
-use Rattle.olr_commands.specs.State.{Compact, Ambiguous, Set_margin, step, with_held}
+use Rattle.olr_commands.specs.State.{Named, Content, path_named, Fault, Syntax, Range, Bad_path, Not_a_reference}
+use Rattle.olr_commands.specs.State.{Memory, Dump, Change, On_map, Drop_path, State, Command, Make, Show, Report}
+use Rattle.olr_commands.specs.State.{Explain, Begin, Preview, Commit, Abort, Show_node, Show_line, Show_margin}
+use Rattle.olr_commands.specs.State.{Depends, Compact, Ambiguous, Set_margin, step, with_held}
 use Rattle.olr_commands.specs.RecordText.{record_line}
 use Rattle.olr_commands.specs.Dump.{dump_lines, node_changes, line_changes}
 use Rattle.olr_commands.specs.Dependents.{Dependents}
@@ -136,19 +135,12 @@ IsReply s Abort t reply = reply ≡ Paths []
 
 -- a fault that takes precedence over out of memory
 abbrev pub is_reported_first : Fault → Bool
-is_reported_first (Map_fault fault) = true
-is_reported_first Path_exists = true
-is_reported_first No_path = true
-is_reported_first Batch_open = true
-is_reported_first No_batch = true
-is_reported_first Count_differs = true
-is_reported_first Batch_full = true
-is_reported_first Not_a_record = true
 is_reported_first Bad_path = false
 is_reported_first (Not_a_reference fault) = false
 is_reported_first Memory = false
 is_reported_first Syntax = false
 is_reported_first Range = false
+is_reported_first _ = true
 
 abbrev pub may_want : Result State Fault → Bool
 may_want (Ok t) = true
