@@ -19,15 +19,7 @@ use Rattle.olr_records.specs.Records.{digits, longitude, latitude, one, none, pa
 use Rattle.olr_records.specs.Records.{depends_record, few_nodes, ambiguous_record, margin_record}
 use Rattle.olr_records.proofs.TestLemmas.{all_weaker, ◌also◌}
 
--- a record of the word explain and one field
-pub explain_record : (fs : List Field) → length fs ≡ 2 → slice_index_or fs 0 [] ≡ codes "explain" →
-    read fs ≡ Ok (Explain (slice_index_or fs 1 []))
-explain_record [] two e = absurd (omega arith)
-explain_record (w ∷ []) two e = absurd (omega arith)
-explain_record (w ∷ t ∷ []) two e = let is : w ≡ codes "explain" = e in rw is refl
-explain_record (w ∷ t ∷ x ∷ fs) two e = absurd (omega arith)
-
--- and one of the word report
+-- a record of the word report alone
 pub report_record : (fs : List Field) → length fs ≡ 1 → slice_index_or fs 0 [] ≡ codes "report" → read fs ≡ Ok Report
 report_record [] one e = absurd (omega arith)
 report_record (w ∷ []) one e = let is : w ≡ codes "report" = e in rw is refl

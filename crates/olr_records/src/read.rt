@@ -1,5 +1,5 @@
 //! Commands, decoded from records.
-ghost use Rattle.std.specs.Prelude.{◌≡◌, ◌↔◌, ℕ, List, drop, IsTrue, IfSome, IfNone, Ok};
+ghost use Rattle.std.specs.Prelude.{◌≡◌, ◌↔◌, drop, IsTrue, Ok};
 ghost use Rattle.csv.specs.Records.{fields_of};
 ghost use Rattle.olr_commands.specs.State.{Explain, Report, Commit};
 ghost use Rattle.olr_commands.specs.Words.{command_of};
@@ -25,19 +25,6 @@ pub fn read_command(alloc: Global, fields: &ByteRecord) -> Result<Command, ReadF
         return Err(ReadFault::Syntax);
     }
     read_by(alloc, field(fields, 0), fields)
-}
-
-/// The text of a record that decodes to the command `explain`, as it is in the record. None of any other record.
-#[tactic(auto, using(crate::proofs::ReadLemmas::explain_record, crate::proofs::FirstFields::explain_len, crate::proofs::FirstFields::explain_word))]
-pub fn text_to_explain(fields: &ByteRecord) -> Option<&[u8]>
-    ensures some { IfSome result (λ text. records.read (fields_of fields.now) ≡ Ok (Explain text.now)) }
-    ensures none { IfNone result ((text : List ℕ) → ¬ (records.read (fields_of fields.now) ≡ Ok (Explain text))) }
-{
-    if fields.len() == 2 && is(field(fields, 0), b"explain") {
-        Some(field(fields, 1))
-    } else {
-        None
-    }
 }
 
 /// Whether a record decodes to the command `report`.

@@ -2,7 +2,7 @@
 
 ghost use Rattle.std.specs.Prelude.{◌≡◌, ◌≢◌, ◌++◌, length, Ok, IfOk, OnOk, is_ok};
 ghost use Rattle.csv.specs.Records.{fields_of};
-ghost use Rattle.olr_commands.specs.State.{Explain, Report};
+ghost use Rattle.olr_commands.specs.State.{Report};
 ghost use Rattle.olr_records.specs.Records.{read};
 ghost use Rattle.olr_input.specs.Sessions.{Given};
 ghost use Rattle.olr_run.specs.Runs.{CarriedOut, IsReport, answer_text, WritesText, AnswersRecord, AreRenewal, RenewsFrom};
@@ -12,26 +12,10 @@ use olr_commands::{CommandFault, Reply};
 use olr_input::{RunFault, Session};
 use olr_records::{
     append_count, append_entry, append_reply, dump_text, fault_text, is_report, read_command,
-    read_fault_text, text_to_explain,
+    read_fault_text,
 };
 use olr_register::Register;
 use std::alloc::{AllocError, Global};
-
-/// Carries out a record that decodes to the command `explain` with this text, which isn't copied.
-fn explain_text(
-    register: &Register,
-    fields: &ByteRecord,
-    text: &[u8],
-) -> Result<Reply, &'static str>
-    requires { read (fields_of fields.now) ≡ Ok (Explain text.now) }
-    ensures { CarriedOut register.now (fields_of fields.now) register.now result }
-{
-    register.is_sound();
-    match register.explain(text) {
-        Ok(reply) => Ok(reply),
-        Err(fault) => Err(fault_text(fault)),
-    }
-}
 
 /// Carries out the command of a record. Returns the reply, or the line of the fault.
 fn carry_out(
@@ -41,9 +25,6 @@ fn carry_out(
 ) -> Result<Reply, &'static str>
     ensures { CarriedOut register.old (fields_of fields.now) register.new result }
 {
-    if let Some(text) = text_to_explain(fields) {
-        return explain_text(register, fields, text);
-    }
     match read_command(alloc, fields) {
         Ok(command) => match register.apply(command) {
             Ok(reply) => Ok(reply),
