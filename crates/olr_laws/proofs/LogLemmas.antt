@@ -1,18 +1,17 @@
 -- A run that is cut off, and the next one from what is left of its log.
-use Rattle.std.proofs.Common.{◌≡◌, ◌∙◌, ℕ, Bool, true, false, List, [], ◌∷◌, ◌++◌, take, length, map, Option, Some, None, Ok, Err}
+use Rattle.std.proofs.Common.{◌≡◌, ◌∙◌, ℕ, Bool, true, false, List, [], ◌∷◌, ◌++◌, take, length, Option, Some, None, Ok, Err}
 use Rattle.std.proofs.Common.{inl, refl, sym, ap, subst, suc, Result, length-append, ◌+◌}
 use Rattle.olr_run.proofs.Common.{append-nil, append_assoc, Appends, Outcome, run_join, Field, read, Claims, SoundOutcome, texts}
 use Rattle.olr_run.proofs.Common.{SoundOutcomes, In_last, records_of, outcome_text, Registered, Represents, EndedOn, Known}
 use Rattle.olr_run.proofs.Common.{RunFault}
-use Rattle.olr_commands.specs.Dump.{steps}
-use Rattle.olr_commands.specs.State.{Change, Command, Content, Fault, IsContent, IsState, State, start_state, step, Abort}
+use Rattle.olr_commands.specs.State.{Change, Content, IsContent, IsState, State, start_state, step, Abort}
 use Rattle.olr_commands.proofs.HistoryLemmas.{start_sound}
 use Rattle.olr_commands.proofs.StateLemmas.{steps_keep}
 use Rattle.olr_log.specs.Logs.{kept_of, left_of, is_own_of}
 use Rattle.olr_log.specs.declared.log_file.LogFile.{LogFile}
 use Rattle.olr_records.proofs.ReadLemmas.{coords_read}
 use Rattle.olr_run.specs.LogEnds.{BeginsWith, LastsOn}
-use Rattle.olr_run.specs.Logged.{closed, Leads, UpTo}
+use Rattle.olr_run.specs.Logged.{Accepted, closed, Leads, UpTo}
 use Rattle.olr_run.specs.Output.{CutOff, Before_next, No_text, Not_sent}
 use Rattle.olr_commands.specs.History.{Run}
 use Rattle.std.proofs.lemmas.List.Concat.{flat_map-append}
@@ -67,23 +66,14 @@ next_continues s t rs qs os next c sent sound u second =
 
 -- ---- a content to which records lead is sound
 
-steps_sound : (s t : State) (rs : List (List Field)) (cs : List Command) → IsState s → map read rs ≡ map (λ c. Ok c) cs →
-    steps s cs ≡ Ok t → IsState t
-steps_sound s t rs [] sound decoded e = subst IsState (let same : s ≡ t = cc in same) sound
-steps_sound s t [] (c ∷ cs) sound decoded e = absurd cc
-steps_sound s t (r ∷ rs) (c ∷ cs) sound decoded e =
-    by_step (step s c) refl (λ v first more. steps_sound v t rs cs first (let rest : map read rs ≡ map (λ x. Ok x) cs = cc in rest) more)
-  where
-    asked : read r ≡ Ok c
-    asked = cc
-
-    by_step : (a : Result State Fault) → step s c ≡ a → ((v : State) → IsState v → steps v cs ≡ Ok t → IsState t) → IsState t
-    by_step (Ok v) is more = more v (steps_keep s v c sound (coords_read r c asked) is) (rw is at e)
-    by_step (Err fault) is more = absurd (let never = rw is at e in cc)
+accepted_sound : (rs : List (List Field)) (s t : State) → IsState s → Accepted s rs t → IsState t
+accepted_sound [] s t sound a = subst IsState a sound
+accepted_sound (r ∷ rs) s t sound a =
+    accepted_sound rs a.3 t (steps_keep s a.3 a.0 sound (coords_read r a.0 a.1) a.4) a.5
 
 begins_sound : (own : Bool) (text : List ℕ) (c : Content) → BeginsWith own text c → IsContent c
-begins_sound true text c l = (steps_sound start_state (closed c) l.records l.commands start_sound l.decoded l.leads).content
-begins_sound false text c l = (steps_sound start_state (closed c) (records_of text) l.commands start_sound l.decoded l.leads).content
+begins_sound true text c l = (accepted_sound l.records start_state (closed c) start_sound l.accepted).content
+begins_sound false text c l = (accepted_sound (records_of text) start_state (closed c) start_sound l).content
 
 -- ---- what was written
 
@@ -134,7 +124,7 @@ outcomes_of Each Then stop old rs before new later (Ok end) f run s represents =
       texts_are = whole r.4.outcomes r.2 r.4.wrote;
     }
 outcomes_of Each Then stop old rs before new later (Err e) f run s represents =
-    let r = run s represents in
+    let r = run.0 s represents in
     let front = cut_front stop r.4.outcomes r.2 e r.4.wrote in
     record {
       state = r.0;
@@ -170,7 +160,7 @@ module _ {D F : Type 0} (d : disk.Ghosts D) (f : folder.Ghosts F D) {W : Type 0}
       BeginsWith (is_own_of log) (kept_of log) c → Only (kept_of log) (left_of log) → pending o ≡ [] → (text : List ℕ) →
       left_of last text → LeftBy c rs o p text
   left_by log last least stop rs o p code (Not_begun same rejected status gone) began honest c says only none text left = absurd began
-  left_by log last least stop rs o p code (Begun read start old new begins end run many g length after status) began honest c says only none text left =
+  left_by log last least stop rs o p code (Begun read start old new begins end run g length after status) began honest c says only none text left =
       let b = begins.leads honest.0 honest.1 c says in
       let r =
       outcomes_of (LastsOn contents start o last p) (LastsOn contents start o last p) stop old rs (written contents o) new
@@ -182,7 +172,7 @@ module _ {D F : Type 0} (d : disk.Ghosts D) (f : folder.Ghosts F D) {W : Type 0}
       BeginsWith (is_own_of log) (kept_of log) c
       → Outcomes Claims (closed c) qs (written contents u) (written contents v)
   answers log last least stop qs u v code (Not_begun same rejected status gone) began honest c says = absurd began
-  answers log last least stop qs u v code (Begun read start old new begins end run many g length after status) began honest c says =
+  answers log last least stop qs u v code (Begun read start old new begins end run g length after status) began honest c says =
       outcomes_of (LastsOn contents start u last v) Claims stop old qs (written contents u) new (written contents v) end
       (λ s os t lasts. lasts.0) run (closed c) (begins.leads honest.0 honest.1 c says).0
 

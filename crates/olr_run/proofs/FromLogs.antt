@@ -10,8 +10,8 @@ use Rattle.olr_log.specs.declared.folder.Folder as folder
 use Rattle.olr_log.specs.declared.log_file.LogFile.{LogFile}
 use Rattle.std.specs.List.{concat}
 use Rattle.olr_commands.specs.Dump.{dump_lines}
-use Rattle.olr_run.proofs.Dumped.{content_dump_leads, dump_leads}
-use Rattle.olr_run.proofs.LogRecords.{same_content}
+use Rattle.olr_run.proofs.Dumped.{dump_leads}
+use Rattle.olr_run.proofs.LogRecords.{is_content, same_content}
 use Rattle.olr_run.proofs.Running.{represented}
 use Rattle.olr_run.proofs.Sending.{Then, faulted_sent, ran_sent}
 use Rattle.std.proofs.KnownBytes.{Keeps-refl}
@@ -19,7 +19,8 @@ use Rattle.olr_run.specs.LogEnds.{AreRecordsOf, Begins, BeginsWith, LastsOn, Unb
 use Rattle.olr_run.specs.Logged.{closed, Leads, Survives, UpTo}
 use Rattle.olr_run.specs.Logs.{LastsWhole, LastsCut}
 use Rattle.olr_run.specs.Ends.{LeftAfter}
-use Rattle.olr_run.specs.Restored.{IsContentOf}
+use Rattle.olr_run.specs.Restored.{HasContentOf, IsContentOf, LeadsNowhere}
+use Rattle.olr_run.specs.Output.{records_of}
 use Rattle.olr_input.specs.Buffers.{written}
 use Rattle.olr_input.specs.Journals.{Only}
 use Rattle.olr_input.specs.declared.buffered.Buffered.{Buffered}
@@ -35,12 +36,11 @@ module _ {D F : Type 0} {d : disk.Ghosts D} {f : folder.Ghosts F D} where
 
   pub begins_from : (log read start : LogFile D F d f) (register : Registered) → IsContent register.kept.content →
       is_own_of read ≡ is_own_of log → kept_of read ≡ kept_of log → ((t : List ℕ) → left_of read t → left_of log t)
-      → (is_clean read ≡ true → (c : Content) × IsContentOf (kept_of log) c × Represents register.kept (closed c))
-      → (is_clean read ≡ true → (c : Content) → Leads (kept_of log) c → Represents register.kept (closed c))
+      → (is_clean read ≡ true → HasContentOf (kept_of log) register)
       → (is_own_of read ≡ true → is_clean start ≡ true → (kept_of start ≡ kept_of read) ⊎ AreRecordsOf register (kept_of start))
       → (is_own_of read ≡ false → AreRecordsOf register (kept_of start))
       → (Only (kept_of read) (left_of read) → Only (kept_of start) (left_of start)) → Begins log read start register
-  begins_from log read start register sound own same less content leads kept renewed durable =
+  begins_from log read start register sound own same less content kept renewed durable =
       record {
         same = same;
         less = less;
@@ -54,26 +54,29 @@ module _ {D F : Type 0} {d : disk.Ghosts D} {f : folder.Ghosts F D} where
       rewritten c represents led records =
           subst (λ (x : List ℕ). Leads x c) (sym (records c represents)) (led (represented register (closed c) sound represents))
 
+      same_register : is_clean read ≡ true → (c : Content) → IsContentOf (kept_of log) c → Represents register.kept (closed c)
+      same_register clean c l =
+          let there = content clean in
+          subst (λ (x : Content). Represents register.kept (closed x)) (same_content (kept_of log) there.0 c there.1 l) there.2
+
       by_own : (b : Bool) → is_own_of read ≡ b → is_clean read ≡ true → is_clean start ≡ true → (c : Content) →
           BeginsWith b (kept_of log) c → Represents register.kept (closed c) × Leads (kept_of start) c
-      by_own true is clean now c l = (
-        leads clean c l,
-        elim (kept is now) [
-          | inl still ↦ subst (λ (x : List ℕ). Leads x c) (sym (still ∙ same)) l
-          | inr records ↦ rewritten c (leads clean c l) (dump_leads (kept_of log) c l) records
-        ],
-      )
+      by_own true is clean now c l =
+          let represents = same_register clean c (is_content (kept_of log) c l) in (
+            represents,
+            elim (kept is now) [
+              | inl still ↦ subst (λ (x : List ℕ). Leads x c) (sym (still ∙ same)) l
+              | inr records ↦ rewritten c represents (dump_leads l.records c l.accepted) records
+            ],
+          )
       by_own false is clean now c l =
-          let there = content clean in
-          let e : there.0 ≡ c = same_content (kept_of log) there.0 c there.1 l in
-          let represents : Represents register.kept (closed c) =
-          subst (λ (x : Content). Represents register.kept (closed x)) e there.2 in
-          (represents, rewritten c represents (content_dump_leads (kept_of log) c l) (renewed is))
+          let represents = same_register clean c l in
+          (represents, rewritten c represents (dump_leads (records_of (kept_of log)) c l) (renewed is))
 
   -- a log that may have been replaced before the start failed
   pub unbegun_after : (log read last : LogFile D F d f) (rejected : Bool) (register : Registered) → kept_of read ≡ kept_of log →
       ((t : List ℕ) → left_of read t → left_of log t)
-      → (is_clean read ≡ true → (c : Content) × IsContentOf (kept_of log) c × Represents register.kept (closed c))
+      → (is_clean read ≡ true → HasContentOf (kept_of log) register)
       → ((t : List ℕ) → left_of last t → left_of read t ⊎ (t ≡ kept_of read) ⊎ AreRecordsOf register t)
       → rejected ≡ false → Unbegun log last rejected
   unbegun_after log read last rejected register same less content cut fails = (
@@ -91,8 +94,7 @@ module _ {D F : Type 0} {d : disk.Ghosts D} {f : folder.Ghosts F D} where
 
   pub unbegun_read : (log read : LogFile D F d f) (rejected : Bool) → kept_of read ≡ kept_of log →
       ((t : List ℕ) → left_of read t → left_of log t)
-      → (rejected ≡ true → is_clean read ≡ true → (c : Content) → IsContentOf (kept_of log) c → ⊥)
-      → Unbegun log read rejected
+      → (rejected ≡ true → is_clean read ≡ true → LeadsNowhere (kept_of log)) → Unbegun log read rejected
   unbegun_read log read rejected same less refused = (read, same, λ t left. inl (less t left), refused)
 
   -- ---- the end
@@ -130,6 +132,8 @@ module _ {D F : Type 0} {d : disk.Ghosts D} {f : folder.Ghosts F D} where
   closed_run contents start last o p g (Ok end) after stop old new records run =
       ran_sent _ _ (whole_closed contents start last o p g (Ok end) after) stop old (written contents o) new
       (written contents p) (written contents p) (Keeps-refl (written contents p)) records end run
-  closed_run contents start last o p g (Err e) after stop old new records run =
-      faulted_sent _ _ (cut_closed contents start last o p g (Err e) after e refl) stop old (written contents o) new
-      (written contents p) (written contents p) (Keeps-refl (written contents p)) records e run
+  closed_run contents start last o p g (Err e) after stop old new records run = (
+    faulted_sent _ _ (cut_closed contents start last o p g (Err e) after e refl) stop old (written contents o) new
+        (written contents p) (written contents p) (Keeps-refl (written contents p)) records e run.0,
+    run.1,
+  )

@@ -32,9 +32,12 @@ use Rattle.olr_input.specs.declared.ends.RunFault.TheVariants as fault
 -- ---- answers
 
 -- the outcome of the last answer
-pub last_of : (os : List Outcome) (ws : List Answer) (w : Answer) → map answer_of os ≡ ws ++ w ∷ [] →
+abbrev pub LastOf : List Outcome → List Answer → Answer → Type 0
+LastOf os ws w =
     (before : List Outcome) × (last : Outcome) × (os ≡ before ++ last ∷ []) × (map answer_of before ≡ ws)
     × (answer_of last ≡ w)
+
+pub last_of : (os : List Outcome) (ws : List Answer) (w : Answer) → map answer_of os ≡ ws ++ w ∷ [] → LastOf os ws w
 last_of [] [] w e = absurd cc
 last_of [] (x ∷ ws) w e = absurd cc
 last_of (o ∷ []) [] w e = ([], o, refl, refl, cc)
@@ -154,20 +157,14 @@ module _ {S : Type 0} (left : S → List (List Field) → Type 0) (contents : S 
   exchanged done (r ∷ rs) w (t ∷ ws) (d ∷ ds) es m b l k at h =
       let took = taken done r w m h.0 at h.1 in
       let wrote = seen h.0 h.2.0 (Wrote t) h.2.1 in
-      let next : At (done ++ r ∷ []) (w ++ t.0) h.2.0 =
-      record {
-        rest = took.rest;
-        splits = took.splits;
-        are_left = wrote.0 took.rest took.are_left;
-        wrote = Appends-trans (contents a) (contents h.0) (contents h.2.0) w t.0 took.wrote wrote.1;
-      } in
       let same = seen h.2.0 h.2.2.0 (Renewed d) h.2.2.1 in
       let on : At (done ++ r ∷ []) (w ++ t.0) h.2.2.0 =
       record {
-        rest = next.rest;
-        splits = next.splits;
-        are_left = same.0 next.rest next.are_left;
-        wrote = Appends-kept (contents a) (contents h.2.0) (contents h.2.2.0) (w ++ t.0) next.wrote same.1;
+        rest = took.rest;
+        splits = took.splits;
+        are_left = same.0 took.rest (wrote.0 took.rest took.are_left);
+        wrote = Appends-kept (contents a) (contents h.2.0) (contents h.2.2.0) (w ++ t.0)
+            (Appends-trans (contents a) (contents h.0) (contents h.2.0) w t.0 took.wrote wrote.1) same.1;
       } in
       rw (← append_assoc done (r ∷ []) rs, ← append_assoc w t.0 (joined ws))
       (exchanged (done ++ r ∷ []) rs (w ++ t.0) ws ds es h.2.2.0 b (omega arith) (omega arith) on h.2.2.2)
@@ -231,30 +228,23 @@ module _ {S : Type 0} (left : S → List (List Field) → Type 0) (contents : S 
           record { outcomes = h.2; each = h.3; stops = h.5; wrote = cut h.2 h.4 h.6 },
         )
 
-    nothing_more : (m : S) → Keeps (contents m) (contents b) → Appends (contents m) (contents b) []
-    nothing_more m later =
-        Appends-kept (contents m) (contents m) (contents b) [] (Appends-nil (contents m)) later
-
-    cut_before : (e : RunFault) (rs : List (List Field)) (ws : List Answer) (ds : List Renewal) (m : S) →
-        e ≢ fault.Write → At rs (joined ws) m → Keeps (contents m) (contents b) → Gives Each all rs ws ds →
-        AnsweredOn stop (GoesOn stop) old rs ws ds new
-        → FaultedOn Each stop old (Some all) (contents a) new (contents b) e
-    cut_before e rs ws ds m no_write at later give answered =
-        cut_in e _ rs ws ds (joined ws) [] m at (nothing_more m later) give answered
-        (λ os are going. output.Before_next no_write going (append-nil (joined ws) ∙ written_as os ws are))
-
-    cut_unsent : (e : RunFault) (rs : List (List Field)) (ws : List Answer) (ds : List Renewal) (m : S) →
-        e ≡ fault.Write → At rs (joined ws) m → Keeps (contents m) (contents b) → Gives Each all rs ws ds →
-        AnsweredOn stop (GoesOn stop) old rs ws ds new
-        → FaultedOn Each stop old (Some all) (contents a) new (contents b) e
-    cut_unsent e rs ws ds m write at later give answered =
-        cut_in e _ rs ws ds (joined ws) [] m at (nothing_more m later) give answered
-        (λ os are going. output.Not_sent write (append-nil (joined ws) ∙ written_as os ws are))
-
     -- the records were taken, and answered, up to the last events
     reached : (es : List Event) (x : Exchanged happens a b es) →
         (n : S) × At x.records (joined x.answers) n × History happens n es b
     reached es x = exchanged [] x.records [] x.answers x.renewals es a b x.each x.each_renewal start x.history
+
+    -- before the next answer
+    cut_here : (e : RunFault) (last : Event) (x : Exchanged happens a b (last ∷ [])) →
+        ((m n : S) → happens m last n → Keeps (contents m) (contents n)) → Gives Each all x.records x.answers x.renewals →
+        AnsweredOn stop (GoesOn stop) old x.records x.answers x.renewals new
+        → ((os : List Outcome) (w : List ℕ) → GoesOn stop os → w ≡ texts os → output.CutOff stop os w e)
+        → FaultedOn Each stop old (Some all) (contents a) new (contents b) e
+    cut_here e last x keeps give answered cut =
+        let n = reached (last ∷ []) x in
+        let later = subst (λ (p : S). Keeps (contents n.0) (contents p)) n.2.2 (keeps n.0 n.2.0 n.2.1) in
+        cut_in e _ x.records x.answers x.renewals (joined x.answers) [] n.0 n.1
+        (Appends-kept (contents n.0) (contents n.0) (contents b) [] (Appends-nil (contents n.0)) later) give answered
+        (λ os are going. cut os (joined x.answers ++ []) going (append-nil (joined x.answers) ∙ written_as os x.answers are))
 
     ran_on : (end : Status) (h : RanIn happens stop old a new b end) → Gives Each all h.x.records h.x.answers h.x.renewals →
         RanOn Each stop old (Some all) (contents a) new (contents b) end
@@ -272,18 +262,13 @@ module _ {S : Type 0} (left : S → List (List Field) → Type 0) (contents : S 
         Gives Each all (cut_parts h).0 (cut_parts h).1 (cut_parts h).2 →
         FaultedOn Each stop old (Some all) (contents a) new (contents b) e
     cut_on e (In_taking of x answered) give =
-        let n = reached (Not_taken e ∷ []) x in
-        cut_before e x.records x.answers x.renewals n.0 (not_writing e of) n.1
-        (subst (λ (p : S). Keeps (contents n.0) (contents p)) n.2.2 (seen n.0 n.2.0 (Not_taken e) n.2.1)) give answered
-    cut_on e (runs.Not_sent is x answered) give =
-        let n = reached (Not_sent ∷ []) x in
-        cut_unsent e x.records x.answers x.renewals n.0 is n.1
-        (subst (λ (p : S). Keeps (contents n.0) (contents p)) n.2.2 (seen n.0 n.2.0 Not_sent n.2.1)) give answered
-    cut_on e (Past_the_most is r x most answered) give =
-        let n = reached (Took r ∷ []) x in
-        cut_before e x.records x.answers x.renewals n.0
-        (λ write. let never : fault.TooMany ≡ fault.Write = sym is ∙ write in cc) n.1
-        (subst (λ (p : S). Keeps (contents n.0) (contents p)) n.2.2 (seen n.0 n.2.0 (Took r) n.2.1).1) give answered
+        cut_here e (Not_taken e) x (λ m n h. seen m n (Not_taken e) h) give answered
+        (λ os w going is. output.Before_next (not_writing e of) going is)
+    cut_on e (runs.Not_sent write x answered) give =
+        cut_here e Not_sent x (λ m n h. seen m n Not_sent h) give answered (λ os w going is. output.Not_sent write is)
+    cut_on e (Past_the_most many r x most answered) give =
+        cut_here e (Took r) x (λ m n h. (seen m n (Took r) h).1) give answered
+        (λ os w going is. output.Before_next (λ write. let never : fault.TooMany ≡ fault.Write = sym many ∙ write in cc) going is)
     cut_on e (No_text is r w x answered) give =
         let n = reached (Took r ∷ []) x in
         let t = taken x.records r (joined x.answers) n.0 n.2.0 n.1 n.2.1 in
@@ -302,7 +287,7 @@ module _ {S : Type 0} (left : S → List (List Field) → Type 0) (contents : S 
         output.In_last is o.0 o.1 front rest o.2 (ap (λ (w : Answer). w.0) o.4) some
         (ap (λ (v : List ℕ). v ++ front) (written_as o.0 x.answers o.3)))
 
-    too_many : (e : RunFault) → CutIn happens stop old a new b e → HadTooMany (Err e) (Some all)
+    too_many : (e : RunFault) → CutIn happens stop old a new b e → HadTooMany e (Some all)
     too_many e (In_taking of x answered) is = absurd (subst IsOfTaking is of)
     too_many e (runs.Not_sent write x answered) is = absurd cc
     too_many e (Past_the_most _ r x most answered) is =
@@ -327,22 +312,20 @@ module _ {S : Type 0} (left : S → List (List Field) → Type 0) (contents : S 
       (records : Records) (r : Result Status RunFault) → IsContent old.kept.content → IfSome records (left a)
       → IfOk r (RanIn happens stop old a new b) → IfErr r (CutIn happens stop old a new b)
       → EndedOn Whole Part stop old records (contents a) new (contents b) r
-      × HadTooMany r records
   on_records_as Whole Part whole part (Some all) (Ok end) base begins h k =
       let start = started left contents happens seen a all begins in
-      (ran_on left contents happens seen a all stop old new b base start Whole end h (whole all end h), tt)
+      ran_on left contents happens seen a all stop old new b base start Whole end h (whole all end h)
   on_records_as Whole Part whole part (Some all) (Err e) base begins h k =
       let start = started left contents happens seen a all begins in (
         cut_on left contents happens seen a all stop old new b base start Part e k (part all e k),
         too_many left contents happens seen a all stop old new b base start Part e k,
       )
-  on_records_as Whole Part whole part None (Ok end) base begins h k = (tt, tt)
+  on_records_as Whole Part whole part None (Ok end) base begins h k = tt
   on_records_as Whole Part whole part None (Err e) base begins h k = (tt, λ is. tt)
 
   pub on_records : (records : Records) (r : Result Status RunFault) → IsContent old.kept.content → IfSome records (left a)
       → IfOk r (RanIn happens stop old a new b) → IfErr r (CutIn happens stop old a new b)
       → EndedOn Claims Claims stop old records (contents a) new (contents b) r
-      × HadTooMany r records
   on_records =
       on_records_as Claims Claims (λ all end h s t rest os is claims run texts. claims)
       (λ all e h s t rest os is claims run texts. claims)
@@ -353,7 +336,7 @@ module _ {S W : Type 0} (left : S → List (List Field) → Type 0) (failed : S 
   pub plain_on : (r : Result Status RunFault) → IsContent old.kept.content →
       IfOk r (RanIn (OfPlain left failed contents) stop old a new b)
       → IfErr r (CutIn (OfPlain left failed contents) stop old a new b) → (records : Records) → IfSome records (left source)
-      → EndedOn Claims Claims stop old records (contents a.1) new (contents b.1) r × HadTooMany r records
+      → EndedOn Claims Claims stop old records (contents a.1) new (contents b.1) r
   plain_on r base ran cut records begins =
       on_records (left_at left failed contents) (written_at contents) (OfPlain left failed contents)
       (plain_sees left failed contents) stop old new a b records r base
@@ -377,17 +360,20 @@ both_left left_of_first left first second None qs h k = tt
 pub cut_at_first : (Each : State → List (List Field) → List Outcome → State → Type 0) →
     ((s : State) (rs : List (List Field)) → IsContent s.content → Each s rs [] s) → (stop : Bool) (old : Registered)
     (before : Known) (records : Records) → IsContent old.kept.content →
-    FaultedOn Each stop old records before old before fault.Memory
-cut_at_first Each none stop old before None base = tt
-cut_at_first Each none stop old before (Some all) base = λ s represents. (
-  s,
-  represents,
-  [],
-  Appends-nil before,
-  record {
-    outcomes = [];
-    each = none s all (represented old s base represents);
-    stops = tt;
-    wrote = output.Before_next (λ write. let never : fault.Memory ≡ fault.Write = write in cc) (and-false stop) refl;
-  },
+    FaultedOn Each stop old records before old before fault.Memory × HadTooMany fault.Memory records
+cut_at_first Each none stop old before None base = (tt, λ many. tt)
+cut_at_first Each none stop old before (Some all) base = (
+  λ s represents. (
+    s,
+    represents,
+    [],
+    Appends-nil before,
+    record {
+      outcomes = [];
+      each = none s all (represented old s base represents);
+      stops = tt;
+      wrote = output.Before_next (λ write. let never : fault.Memory ≡ fault.Write = write in cc) (and-false stop) refl;
+    },
+  ),
+  λ many. absurd cc,
 )

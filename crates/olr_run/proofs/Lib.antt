@@ -7,6 +7,7 @@ pub mod InputRuns
 pub mod Sending
 pub mod Ending
 pub mod Dumping
+pub mod Accepting
 pub mod Dumped
 pub mod Renewals
 pub mod Plain

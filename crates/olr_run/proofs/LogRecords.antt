@@ -2,7 +2,7 @@
 use Rattle.olr_run.proofs.Common.{append-nil, append_assoc, Field, records_of, read}
 use Rattle.std.proofs.Common.{◌≡◌, ◌∙◌, ◌==◌, ◌<◌, ◌≤◌, ◌+◌, ℕ, zero, suc, true, false, List, [], ◌∷◌, ◌++◌, length}
 use Rattle.std.proofs.Common.{map, Some, Ok, ◌⊎◌, inl, inr, refl, sym, ap, subst, arith, length-append}
-use Rattle.std.specs.List.{list_all, concat, AllByRecursion, join_with_byte}
+use Rattle.std.specs.List.{list_all, concat, join_with_byte}
 use Rattle.std.proofs.lemmas.Bool.{and_parts}
 use Rattle.csv.specs.Machine.{next_record, step}
 use Rattle.csv.specs.Reading.{records_from, default_config, strip_bom}
@@ -11,12 +11,11 @@ use Rattle.csv.specs.declared.parser.State.{State as CsvState}
 use Rattle.csv.specs.declared.parser.State.TheVariants as st
 use Rattle.olr_commands.specs.Recordable.{is_name_byte}
 use Rattle.olr_commands.specs.State.{Command, Content, State, start_state}
-use Rattle.olr_records.specs.Records.{Read}
 use Rattle.olr_commands.specs.RecordText.{fields_line}
-use Rattle.olr_commands.specs.Dump.{steps}
-use Rattle.olr_run.specs.Logged.{IsKept, closed, Leads}
+use Rattle.olr_run.specs.Logged.{Accepted, closed, Leads}
 use Rattle.olr_run.specs.Restored.{IsContentOf}
 use Rattle.olr_records.proofs.PlainLemmas.{Plain, AllPlain}
+use Rattle.olr_run.proofs.Accepting.{accepted_once}
 use Rattle.olr_run.proofs.Plain.{fields_plain}
 
 -- ---- one field
@@ -103,24 +102,20 @@ word_of [] c e = absurd cc
 word_of ([] ∷ fs) c e = absurd cc
 word_of ((b ∷ w) ∷ fs) c e = (b, w, fs, refl)
 
-all_read : (n : ℕ) (rs : List (List Field)) (cs : List Command) → length rs < n → map read rs ≡ map (λ c. Ok c) cs →
-    AllByRecursion IsKept cs
-    → records_from default_config n st.StartRecord (concat (map fields_line rs)) ≡ rs
+all_read : (n : ℕ) (rs : List (List Field)) (s t : State) → length rs < n → Accepted s rs t →
+    records_from default_config n st.StartRecord (concat (map fields_line rs)) ≡ rs
 unfolding records_from next_record
-all_read zero rs cs l d k = absurd (omega arith)
-all_read (suc n) [] cs l d k = refl
-all_read (suc n) (r ∷ rs) [] l d k = absurd cc
-all_read (suc n) (r ∷ rs) (c ∷ cs) l d k =
-    let first : read r ≡ Ok c = cc in
-    let more : map read rs ≡ map (λ x. Ok x) cs = cc in
-    let word = word_of r c first in
-    let plain = fields_plain r c first k.0 in
+all_read zero rs s t l a = absurd (omega arith)
+all_read (suc n) [] s t l a = refl
+all_read (suc n) (r ∷ rs) s t l a =
+    let word = word_of r a.0 a.1 in
+    let plain = fields_plain r a.0 a.1 a.2 in
     let one : next_record default_config st.StartRecord [] [] (fields_line r ++ concat (map fields_line rs))
     ≡ Some (r, st.StartRecord, concat (map fields_line rs)) =
     subst (λ (x : List Field). next_record default_config st.StartRecord [] [] (fields_line x ++ concat (map fields_line rs))
     ≡ Some (x, st.StartRecord, concat (map fields_line rs))) (sym word.3)
     (record_read word.2 word.0 word.1 (concat (map fields_line rs)) (subst AllPlain word.3 plain)) in
-    rw one (ap (λ (x : List (List Field)). r ∷ x) (all_read n rs cs (omega arith) more k.1))
+    rw one (ap (λ (x : List (List Field)). r ∷ x) (all_read n rs a.3 t (omega arith) a.5))
 
 some_bytes : (r : List Field) → 1 ≤ length (fields_line r)
 some_bytes r = let size = length-append (join_with_byte 44 r) (10 ∷ []) in omega arith
@@ -146,52 +141,30 @@ starts : (b : ℕ) (w : List ℕ) (fs : List Field) (more : List ℕ) →
 starts b w [] more = (_, refl)
 starts b w (g ∷ fs) more = (_, refl)
 
-no_mark : (rs : List (List Field)) (cs : List Command) → map read rs ≡ map (λ c. Ok c) cs → AllByRecursion IsKept cs →
+no_mark : (rs : List (List Field)) (s t : State) → Accepted s rs t →
     strip_bom (concat (map fields_line rs)) ≡ concat (map fields_line rs)
 unfolding strip_bom
-no_mark [] cs d k = refl
-no_mark (r ∷ rs) [] d k = absurd cc
-no_mark (r ∷ rs) (c ∷ cs) d k =
-    let first : read r ≡ Ok c = cc in
-    let word = word_of r c first in
-    let plain = fields_plain r c first k.0 in
+no_mark [] s t a = refl
+no_mark (r ∷ rs) s t a =
+    let word = word_of r a.0 a.1 in
+    let plain = fields_plain r a.0 a.1 a.2 in
     let begin = and_parts (is_name_byte word.0) (list_all is_name_byte word.1) (subst AllPlain word.3 plain).0 in
     let more = concat (map fields_line rs) in
     let text : fields_line r ++ more ≡ word.0 ∷ (starts word.0 word.1 word.2 more).0 =
     ap (λ (x : List Field). fields_line x ++ more) word.3 ∙ (starts word.0 word.1 word.2 more).1 in
     ap strip_bom text ∙ strip_keeps word.0 (starts word.0 word.1 word.2 more).0 (no_mark_byte word.0 begin.0) ∙ sym text
 
-pub logs_read : (text : List ℕ) (c : Content) (l : Leads text c) → records_of text ≡ l.records
-logs_read text c l =
+pub is_content : (text : List ℕ) (c : Content) → Leads text c → IsContentOf text c
+is_content text c l =
     let size = longer l.records in
+    let read_back : records_of text ≡ l.records =
     ap records_of l.lines
-    ∙ ap (λ (x : List ℕ). records_from default_config (length x + 1) st.StartRecord x) (no_mark l.records l.commands l.decoded l.kept)
-    ∙ all_read (length (concat (map fields_line l.records)) + 1) l.records l.commands (omega arith) l.decoded l.kept
-
--- so the content of a log is that to which its records lead
-abbrev oks : List Command → List (Read Command)
-oks cs = map (λ c. Ok c) cs
-
-ok_of : (cs ds : List Command) → oks cs ≡ oks ds → cs ≡ ds
-ok_of [] [] e = refl
-ok_of [] (d ∷ ds) e = absurd cc
-ok_of (c ∷ cs) [] e = absurd cc
-ok_of (c ∷ cs) (d ∷ ds) e =
-    let first : c ≡ d = cc in
-    let rest : oks cs ≡ oks ds = cc in λ i. first i ∷ ok_of cs ds rest i
-
-pub one_content : (text : List ℕ) (c d : Content) → Leads text c → IsContentOf text d → c ≡ d
-one_content text c d l r =
-    let same : l.commands ≡ r.commands =
-    ok_of l.commands r.commands (sym l.decoded ∙ ap (map read) (sym (logs_read text c l)) ∙ r.decoded) in
-    let both : closed c ≡ closed d =
-    (let e = sym l.leads ∙ ap (steps start_state) same ∙ r.leads in cc) in
-    ap (λ (s : State). s.content) both
+    ∙ ap (λ (x : List ℕ). records_from default_config (length x + 1) st.StartRecord x)
+    (no_mark l.records start_state (closed c) l.accepted)
+    ∙ all_read (length (concat (map fields_line l.records)) + 1) l.records start_state (closed c) (omega arith) l.accepted in
+    subst (λ (rs : List (List Field)). Accepted start_state rs (closed c)) (sym read_back) l.accepted
 
 -- records lead to one content
 pub same_content : (text : List ℕ) (c d : Content) → IsContentOf text c → IsContentOf text d → c ≡ d
 same_content text c d l r =
-    let same : l.commands ≡ r.commands = ok_of l.commands r.commands (sym l.decoded ∙ r.decoded) in
-    let both : closed c ≡ closed d =
-    (let e = sym l.leads ∙ ap (steps start_state) same ∙ r.leads in cc) in
-    ap (λ (s : State). s.content) both
+    ap (λ (s : State). s.content) (accepted_once (records_of text) start_state (closed c) (closed d) l r)

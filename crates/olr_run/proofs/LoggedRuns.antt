@@ -2,23 +2,23 @@
 use Rattle.olr_run.proofs.Common.{IfErr, IfSome, Outcome, Field, SoundOutcome, append-nil, append_assoc}
 use Rattle.olr_run.proofs.Common.{length-map, Known, Event, Took, Ended, Not_taken, Not_sent, Wrote, Cut, History}
 use Rattle.olr_run.proofs.Common.{exchanges, RanIn, CutIn, Keeps, Past_the_most, In_text, Appends, Registered, RunFault}
-use Rattle.olr_run.proofs.Common.{Claims, EndedOn, Records}
+use Rattle.olr_run.proofs.Common.{Claims, EndedOn, Records, last_events}
 use Rattle.std.proofs.Common.{◌≡◌, ◌∙◌, ℕ, Bool, false, List, [], ◌∷◌, ◌++◌, length, map, Some, None, refl, sym}
 use Rattle.std.proofs.Common.{ap, subst, arith, length-append}
 use Rattle.std.specs.Prelude.{IfOk, OnOk, Ok, Err, Option, Result}
-use Rattle.olr_commands.specs.State.{Change, Content, IsContent, State}
+use Rattle.olr_commands.specs.State.{Change, IsContent, State}
 use Rattle.std.specs.Io.KnownBytes.{append_known}
-use Rattle.olr_run.specs.Runs.{Exchanged, HadTooMany, In_taking, No_text, OutcomesRenewed, IsRenewal, answer_of, once_sent}
+use Rattle.olr_run.specs.Runs.{Exchanged, In_taking, No_text, OutcomesRenewed, IsRenewal, answer_of, once_sent}
 use Rattle.olr_input.specs.Sessions.{Answer, Renewal, Renewed, Unasked, Given, Lacking}
 use Rattle.olr_run.specs.Runs as runs
-use Rattle.olr_run.specs.Logged.{Leads, UpTo}
+use Rattle.olr_run.specs.Logged.{Leads, Survives, UpTo}
 use Rattle.olr_run.specs.Logs.{Began, LastsWhole, LastsCut}
-use Rattle.olr_run.proofs.InputRuns.{Sees, cut_parts, Gives, last_of, on_records_as, same_left}
-use Rattle.olr_run.proofs.Sending.{Then, ended_sent, many_sent}
+use Rattle.olr_run.proofs.InputRuns.{Sees, cut_parts, Gives, LastOf, last_of, on_records_as, same_left}
+use Rattle.olr_run.proofs.Sending.{Then, ended_sent}
 use Rattle.olr_run.proofs.Logging.{Going, HoldsBatch, Logs, LogsSome, logs_pass, logs_same, logs_settle, logs_longer, logs_renew}
-use Rattle.olr_run.proofs.Logging.{no_front, up_later, up_to_all}
+use Rattle.olr_run.proofs.Logging.{fresh, survives_only, up_on, up_to_all}
 use Rattle.olr_input.specs.Buffers.{pending, written}
-use Rattle.olr_input.specs.Gates.{Compaction, Passes, ready, is_closed}
+use Rattle.olr_input.specs.Gates.{Compaction, Passes, Untouched, ready, is_closed}
 use Rattle.olr_input.specs.KeptLines.{Waiting}
 use Rattle.olr_input.specs.Unkept.{waiting}
 use Rattle.olr_input.specs.LoggedRuns.{LogHappens}
@@ -38,13 +38,10 @@ renewed_split : (s t : State) (rs : List (List Field)) (r : List Field) (os : Li
     OutcomesRenewed s (rs ++ r ∷ []) (os ++ o ∷ []) (ds ++ Unasked ∷ []) t →
     (m : State) × OutcomesRenewed s rs os ds m × SoundOutcome m r o t
 renewed_split s t [] r [] o [] l k h = (s, refl, subst (λ (u : State). SoundOutcome s r o u) h.3 h.1)
-renewed_split s t [] r (p ∷ os) o ds l k h = absurd (omega arith)
-renewed_split s t [] r [] o (d ∷ ds) l k h = absurd (omega arith)
-renewed_split s t (q ∷ rs) r [] o ds l k h = absurd (omega arith)
-renewed_split s t (q ∷ rs) r (p ∷ os) o [] l k h = absurd (omega arith)
 renewed_split s t (q ∷ rs) r (p ∷ os) o (d ∷ ds) l k h =
     let more = renewed_split h.0 t rs r os o ds (omega arith) (omega arith) h.3 in
     (more.0, (h.0, h.1, h.2, more.1), more.2)
+renewed_split s t rs r os o ds l k h = absurd (omega arith)
 
 -- ---- what is written
 
@@ -130,17 +127,23 @@ module _ {S W J : Type 0} (left : S → List (List Field) → Type 0) (contents 
     log_passes rs os t m n a p =
         logs_pass j.kept j.may_leave contents base s rs os t [] [] m.0.gate n.0.gate m.1 n.1 a p
 
+    log_end : (end : Status) (rs : List (List Field)) (os : List Outcome) (t : State) (m n : Logged S J × Buffered W) →
+        Log rs os t [] m → History Happens m (last_events end) n → Log rs os t [] n
+    log_end ended.Stopped rs os t m n a h = subst (λ (x : Logged S J × Buffered W). Log rs os t [] x) h a
+    log_end end rs os t m n a h =
+        subst (λ (x : Logged S J × Buffered W). Log rs os t [] x) h.2 (log_passes rs os t m h.0 a h.1.0)
+
+    -- what is sent before a record is taken, or can't be
+    log_untouched : (rs : List (List Field)) (os : List Outcome) (t : State) (m n : Logged S J × Buffered W) (g : Gate J) →
+        Log rs os t [] m → Passes j.kept j.may_leave contents m.0.gate m.1 g n.1 [] → Untouched g n.0.gate →
+        waiting n.0.gate.unkept ≡ waiting g.unkept → Log rs os t [] n
+    log_untouched rs os t m n g a passes untouched waits =
+        logs_same j.kept j.may_leave contents base s rs os t [] g n.0.gate n.1 untouched waits
+        (logs_pass j.kept j.may_leave contents base s rs os t [] [] m.0.gate g m.1 n.1 a passes)
+
     log_took : (rs : List (List Field)) (os : List Outcome) (t : State) (r : List Field) (m n : Logged S J × Buffered W) →
         Log rs os t [] m → Happens m (Took r) n → Log rs os t [] n
-    log_took rs os t r m n a h =
-        logs_same j.kept j.may_leave contents base s rs os t [] h.0 n.0.gate n.1 h.2.untouched h.2.waits
-        (logs_pass j.kept j.may_leave contents base s rs os t [] [] m.0.gate h.0 m.1 n.1 a h.1)
-
-    log_lost : (rs : List (List Field)) (os : List Outcome) (t : State) (e : RunFault) (m n : Logged S J × Buffered W) →
-        Log rs os t [] m → Happens m (Not_taken e) n → Log rs os t [] n
-    log_lost rs os t e m n a h =
-        logs_same j.kept j.may_leave contents base s rs os t [] h.0 n.0.gate n.1 h.2.untouched h.2.waits
-        (logs_pass j.kept j.may_leave contents base s rs os t [] [] m.0.gate h.0 m.1 n.1 a h.1)
+    log_took rs os t r m n a h = log_untouched rs os t m n h.0 a h.1 h.2.untouched h.2.waits
 
     -- a record whose text is written, or only its first bytes
     log_cut : (rs : List (List Field)) (os : List Outcome) (t u : State) (r : List Field) (o : Outcome)
@@ -233,20 +236,11 @@ module _ {S W J : Type 0} (left : S → List (List Field) → Type 0) (contents 
 
     gives_whole : (end : Status) (h : RanIn Happens stop old a new b end) →
         Gives (Whole a b) all h.x.records h.x.answers h.x.renewals
-    gives_whole ended.Stopped h s t rest os is claims run answers = (
-      claims,
-      λ l.
-          let n = reached [] h.x s t os answers run l in
-          with_rest s t h.x.records rest os [] is
-          (subst (λ (m : Logged S J × Buffered W). Now s h.x.records os t [] m) n.2 n.1),
-    )
     gives_whole end h s t rest os is claims run answers = (
       claims,
       λ l.
-          let n = reached (Ended ∷ []) h.x s t os answers run l in
-          let now = log_passes (contents a.1.device) s h.x.records os t n.0 n.2.0 n.1 n.2.1.0 in
-          with_rest s t h.x.records rest os [] is
-          (subst (λ (m : Logged S J × Buffered W). Now s h.x.records os t [] m) n.2.2 now),
+          let n = reached (last_events end) h.x s t os answers run l in
+          with_rest s t h.x.records rest os [] is (log_end (contents a.1.device) s end h.x.records os t n.0 b n.1 n.2),
     )
 
     some_logs : (s u : State) (rs rest : List (List Field)) (os first late : List Outcome) (unwritten : List ℕ)
@@ -263,92 +257,72 @@ module _ {S W J : Type 0} (left : S → List (List Field) → Type 0) (contents 
               (subst (λ (x : Logged S J × Buffered W). Now s rs first u unwritten x) same l);
         }
 
+    one_event : (e : Event) (x : Exchanged Happens a b (e ∷ [])) (s t : State) (rest : List (List Field)) (os : List Outcome) →
+        map answer_of os ≡ x.answers → all ≡ x.records ++ rest → OutcomesRenewed s x.records os x.renewals t →
+        ((m n : Logged S J × Buffered W) → Now s x.records os t [] m → Happens m e n → Now s x.records os t [] n)
+        → Now s [] [] s [] a → LogsSome j.kept j.may_leave contents (contents a.1.device) s all os b.0.gate b.1
+    one_event e x s t rest os answers is run goes l =
+        let n = reached (e ∷ []) x s t os answers run l in
+        some_logs s t x.records rest os os [] [] n.2.0 is (sym (append-nil os)) n.2.2 (goes n.0 n.2.0 n.1 n.2.1)
+
     -- the outcomes before the last one, and the log before its record was taken
-    record Before (x : List (List Field)) (s t : State) (r : List Field) (w : Answer) (os : List Outcome) (es : List Event) :
-        Type 0 where
-      before : List Outcome
-      last : Outcome
-      splits : os ≡ before ++ last ∷ []
-      size : length before ≡ length x
-      answer : answer_of last ≡ w
+    record Before (x : List (List Field)) (s t : State) (r : List Field) (ws : List Answer) (w : Answer)
+        (os : List Outcome) (es : List Event) : Type 0 where
+      of : LastOf os ws w
+      size : length of.0 ≡ length x
       middle : State
-      one : SoundOutcome middle r last t
+      one : SoundOutcome middle r of.1 t
       reach : Logged S J × Buffered W
-      logs : Now s x before middle [] reach
+      logs : Now s x of.0 middle [] reach
       more : History Happens reach es b
 
     before_last : (es : List Event) (x : Exchanged Happens a b es) (s t : State) (r : List Field) (w : Answer)
         (os : List Outcome) → map answer_of os ≡ x.answers ++ w ∷ []
         → OutcomesRenewed s (x.records ++ r ∷ []) os (x.renewals ++ Unasked ∷ []) t → Now s [] [] s [] a →
-        Before x.records s t r w os es
+        Before x.records s t r x.answers w os es
     before_last es x s t r w os answers run l =
         let o = last_of os x.answers w answers in
         let short : length o.0 ≡ length x.records = sym (length-map o.0 answer_of) ∙ ap length o.3 ∙ x.each in
         let two = renewed_split s t x.records r o.0 o.1 x.renewals short x.each_renewal
         (subst (λ (p : List Outcome). OutcomesRenewed s (x.records ++ r ∷ []) p (x.renewals ++ Unasked ∷ []) t) o.2 run) in
         let n = reached es x s two.0 o.0 o.3 two.1 l in
-        record {
-          before = o.0;
-          last = o.1;
-          splits = o.2;
-          size = short;
-          answer = o.4;
-          middle = two.0;
-          one = two.2;
-          reach = n.0;
-          logs = n.1;
-          more = n.2;
-        }
+        record { of = o; size = short; middle = two.0; one = two.2; reach = n.0; logs = n.1; more = n.2 }
 
     gives_part : (e : RunFault) (h : CutIn Happens stop old a new b e) →
         Gives (Part a b) all (cut_parts h).0 (cut_parts h).1 (cut_parts h).2
     gives_part e (In_taking of x answered) s t rest os is claims run answers = (
       claims,
-      λ l.
-          let n = reached (Not_taken e ∷ []) x s t os answers run l in
-          some_logs s t x.records rest os os [] [] n.2.0 is (sym (append-nil os)) n.2.2
-          (log_lost (contents a.1.device) s x.records os t e n.0 n.2.0 n.1 n.2.1),
+      one_event (Not_taken e) x s t rest os answers is run (λ m n now h.
+          log_untouched (contents a.1.device) s x.records os t m n h.0 now h.1 h.2.untouched h.2.waits),
     )
     gives_part e (runs.Not_sent write x answered) s t rest os is claims run answers = (
       claims,
-      λ l.
-          let n = reached (Not_sent ∷ []) x s t os answers run l in
-          some_logs s t x.records rest os os [] [] n.2.0 is (sym (append-nil os)) n.2.2
-          (log_passes (contents a.1.device) s x.records os t n.0 n.2.0 n.1 n.2.1.1),
+      one_event Not_sent x s t rest os answers is run (λ m n now h. log_passes (contents a.1.device) s x.records os t m n now h.1),
     )
-    gives_part e (Past_the_most many r x most answered) s t rest os is claims run answers = (
-      claims,
-      λ l.
-          let n = reached (Took r ∷ []) x s t os answers run l in
-          some_logs s t x.records rest os os [] [] n.2.0 is (sym (append-nil os)) n.2.2
-          (log_took (contents a.1.device) s x.records os t r n.0 n.2.0 n.1 n.2.1),
-    )
+    gives_part e (Past_the_most many r x most answered) s t rest os is claims run answers =
+        (claims, one_event (Took r) x s t rest os answers is run (log_took (contents a.1.device) s x.records os t r))
     gives_part e (No_text memory r w x answered) s t rest os is claims run answers = (
       claims,
       λ l.
           let n = before_last (Took r ∷ []) x s t r w os answers run l in
-          some_logs s n.middle x.records (r ∷ rest) os n.before (n.last ∷ []) [] n.more.0
-          (is ∙ append_assoc x.records (r ∷ []) rest) n.splits n.more.2
-          (log_took (contents a.1.device) s x.records n.before n.middle r n.reach n.more.0 n.logs n.more.1),
+          some_logs s n.middle x.records (r ∷ rest) os n.of.0 (n.of.1 ∷ []) [] n.more.0
+          (is ∙ append_assoc x.records (r ∷ []) rest) n.of.2 n.more.2
+          (log_took (contents a.1.device) s x.records n.of.0 n.middle r n.reach n.more.0 n.logs n.more.1),
     )
     gives_part e (In_text write r front late accepts some x answered) s t rest os is claims run answers = (
       claims,
       λ l.
           let n = before_last (Took r ∷ Cut front late accepts ∷ []) x s t r (front ++ late, accepts) os answers run l in
           some_logs s t (x.records ++ r ∷ []) rest os os [] late n.more.2.0 is (sym (append-nil os)) n.more.2.2
-          (subst (λ (p : List Outcome). Now s (x.records ++ r ∷ []) p t late n.more.2.0) (sym n.splits)
-          (log_cut (contents a.1.device) s x.records n.before n.middle t r n.last front late accepts n.reach n.more.0 n.more.2.0
-          n.size n.logs n.one n.answer n.more.1 n.more.2.1)),
+          (subst (λ (p : List Outcome). Now s (x.records ++ r ∷ []) p t late n.more.2.0) (sym n.of.2)
+          (log_cut (contents a.1.device) s x.records n.of.0 n.middle t r n.of.1 front late accepts n.reach n.more.0 n.more.2.0
+          n.size n.logs n.one n.of.4 n.more.1 n.more.2.1)),
     )
 
 -- ---- from the start to the end
 
 module _ {J W : Type 0} (kept : J → List ℕ) (may_leave : J → List ℕ → Type 0) (contents : W → Known) (s : State)
     (j : J) (o : Buffered W) (k : Began kept may_leave contents s j o) where
-  first_up : (c : Content) → s.content ≡ c → UpTo s [] [] c []
-  first_up c is =
-      record { first = []; later = []; splits = refl; state = s; run = refl; content = is; unsent = []; texts_are = refl }
-
   pub logs_start : (g : Gate J) → g.journal ≡ j → waiting g.unkept ≡ record { ready = []; batch = [] } →
       Logs kept may_leave contents (contents o.device) s [] [] s [] g o
   logs_start g is none =
@@ -357,26 +331,17 @@ module _ {J W : Type 0} (kept : J → List ℕ) (may_leave : J → List ℕ → 
         sent = [];
         device = Appends-nil (contents o.device);
         bytes = sym (append-nil (pending o) ∙ k.none_pending);
-        survives = λ text m. (
-          s.content,
-          subst (λ (x : List ℕ). Leads x s.content) (sym (k.only text (subst (λ (x : J). may_leave x text) is m))) k.leads,
-          first_up s.content refl,
-        );
+        survives = subst (λ (x : J). Survives s [] [] (may_leave x) []) (sym is)
+            (survives_only kept may_leave contents (contents o.device) s [] [] [] j s.content k.only k.leads up);
         going = λ _.
             subst (λ (x : J × Waiting). Going kept may_leave contents s [] [] s [] x.0 x.1.ready x.1.batch)
             (λ n. (sym is n, sym none n))
-            (record {
-              only = k.only;
-              fronts = λ front f. (
-                s.content,
-                subst (λ (x : List ℕ). Leads x s.content)
-                    (sym (ap (λ (x : List ℕ). kept j ++ x) (no_front [] front refl f) ∙ append-nil (kept j))) k.leads,
-                first_up s.content refl,
-              );
-              all = subst (λ (x : List ℕ). Leads x s.content) (sym (append-nil (kept j))) k.leads;
-              batches = subst (λ (b : Option (List Change)). HoldsBatch s.content b []) (sym k.closed_batch) refl;
-            });
+            (fresh kept may_leave contents (contents o.device) s [] [] s [] j [] [] k.only k.leads refl
+            (subst (λ (b : Option (List Change)). HoldsBatch s.content b []) (sym k.closed_batch) refl) up);
       }
+    where
+      up : UpTo s [] [] s.content []
+      up = up_to_all s s [] [] [] [] refl refl
 
 module _ {S W J : Type 0} (left : S → List (List Field) → Type 0) (contents : W → Known) (j : journal.Ghosts J)
     (a b : Logged S J × Buffered W) (log : J) (i : Gate J) (q : Buffered W) (is : a.0.gate.journal ≡ log)
@@ -420,7 +385,7 @@ module _ {S W J : Type 0} (left : S → List (List Field) → Type 0) (contents 
           l.sent,
           l.device,
           λ text m. let c = l.survives text m in
-              (c.0, c.1, up_later s rs os some.first some.later c.0 l.sent some.splits c.2),
+              (c.0, c.1, up_on s rs rs [] os some.first some.later c.0 l.sent (sym (append-nil rs)) some.splits c.2),
         ),
   )
 
@@ -435,19 +400,16 @@ module _ {S W J : Type 0} (left : S → List (List Field) → Type 0) (contents 
       → IfErr r (CutIn (Happens left contents j) stop old a new b) → (records : Records) → IfSome records (left source)
       → EndedOn (LastsWhole j.kept j.may_leave contents log a.1 i q) (LastsCut j.kept j.may_leave contents log a.1 i q) stop
       old records (written contents a.1) new (written contents q) (once_sent r s)
-      × HadTooMany (once_sent r s) records
   lasting stop old new source r s of all unsent base ran cut records begins =
       let run =
       on_records_as (left_of left contents j) (written_of left contents j) (Happens left contents j) (log_sees left contents j)
       stop old new a b (Whole left contents j a b) (Part left contents j a b)
       (gives_whole left contents j stop old new a b) (gives_part left contents j stop old new a b) records r base
-      (subst (λ (x : S). IfSome records (left x)) (sym of) begins) ran cut in (
-        ended_sent (Whole left contents j a b) (Part left contents j a b)
-            (LastsWhole j.kept j.may_leave contents log a.1 i q) (LastsCut j.kept j.may_leave contents log a.1 i q) stop old
-            (written contents a.1) new (written contents b.1) (written contents q)
-            (passes_keeps b.0.gate i b.1 q sends) records r s (on_sent s all) unsent_lasts part_lasts unsent run.0,
-        many_sent records r s unsent run.1,
-      )
+      (subst (λ (x : S). IfSome records (left x)) (sym of) begins) ran cut in
+      ended_sent (Whole left contents j a b) (Part left contents j a b)
+      (LastsWhole j.kept j.may_leave contents log a.1 i q) (LastsCut j.kept j.may_leave contents log a.1 i q) stop old
+      (written contents a.1) new (written contents b.1) (written contents q) (passes_keeps b.0.gate i b.1 q sends) records r s
+      (on_sent s all) unsent_lasts part_lasts unsent run
     where
       on_sent : {A : Type 0} (s : Result A RunFault) → OnOk s ((ready i ≡ []) × (is_closed i ≡ false)) →
           OnOk s (Then (Whole left contents j a b) (LastsWhole j.kept j.may_leave contents log a.1 i q))

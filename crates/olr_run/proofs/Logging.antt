@@ -1,36 +1,29 @@
 -- The log of a run, record by record.
 use Rattle.olr_run.proofs.Common.{Outcome, Field, read, outcome_text, SoundOutcome, SoundOutcomes, texts}
-use Rattle.olr_run.proofs.Common.{run_longer, run_more, append-nil, append_assoc, map-append, Known}
-use Rattle.std.proofs.Common.{◌≡◌, ◌∙◌, ℕ, Bool, true, false, not, List, [], ◌∷◌, ◌++◌, length, map, Option, Some, None}
-use Rattle.std.proofs.Common.{Ok, Err, Result, inl, inr, refl, sym, ap, subst}
-use Rattle.std.specs.Prelude.{if◌then◌else◌, ◌==◌, nat_le, cond, is_ok, is_some}
-use Rattle.std.specs.List.{concat, AllByRecursion, join_with_byte}
+use Rattle.olr_run.proofs.Common.{run_longer, run_more, append-nil, append_assoc, Known, CommandOutcome}
+use Rattle.std.proofs.Common.{◌≡◌, ◌∙◌, ℕ, Bool, true, false, List, [], ◌∷◌, ◌++◌, length, Option, Some, None}
+use Rattle.std.proofs.Common.{Ok, Err, inl, inr, refl, sym, ap, subst}
+use Rattle.std.specs.Prelude.{if◌then◌else◌, is_ok, is_some}
+use Rattle.std.specs.List.{concat, join_with_byte}
 use Rattle.std.proofs.KnownBytes.{Appends-trans}
 use Rattle.std.proofs.lemmas.List.Concat.{flat_map-append}
-use Rattle.olr_commands.specs.State.{Content, Change, Command, Make, Show, Report, Dump, Explain, Begin, Commit, Abort}
-use Rattle.olr_commands.specs.State.{State, Fault, Map_fault, with_change, after, step, step_in, start_state, full}
-use Rattle.olr_commands.specs.State.{has_path, is_recordable, text_fault, TextFault, unless_fault, No_path}
-use Rattle.olr_commands.specs.State.{Not_a_record, Show_node, Show_line, Show_margin, Depends, Compact, Preview}
-use Rattle.olr_commands.specs.State.{Ambiguous, has_asked}
-use Rattle.olr_commands.specs.Recordable.{has_node_record, has_line_records}
-use Rattle.std.specs.List.{list_all}
-use Rattle.olr_spec.specs.Map.{has_node, has_line as has_line_of}
-use Rattle.olr_spec.specs.Map.{No_node, No_line}
-use Rattle.olr_run.proofs.Common.{CommandOutcome}
+use Rattle.olr_commands.specs.State.{Content, Change, Command, Make, Begin, Commit, Abort}
+use Rattle.olr_commands.specs.State.{State, Fault, after, step_in, start_state, IsContent}
+use Rattle.olr_commands.proofs.StateLemmas.{Ends, ends}
 use Rattle.olr_input.specs.declared.unkept.Effect.{Effect}
 use Rattle.olr_commands.specs.RecordText.{fields_line}
-use Rattle.olr_commands.specs.Dump.{steps}
 use Rattle.olr_commands.specs.Reply.{Reply}
 use Rattle.olr_records.specs.Records.{Read}
-use Rattle.olr_run.specs.Logged.{IsKept, closed, Leads, UpTo, Survives}
+use Rattle.olr_run.specs.Logged.{closed, Leads, LeadsFrom, UpTo, Survives}
 use Rattle.olr_run.specs.Runs.{answer_of}
+use Rattle.olr_run.proofs.Accepting.{leads_join, one_leads}
 use Rattle.olr_run.proofs.Plain.{effect_for, effect_is}
+use Rattle.olr_run.proofs.Restoring.{holding, make_closed, make_held}
 use Rattle.olr_input.specs.Buffers.{pending}
 use Rattle.olr_input.specs.Gates.{is_closed, ready, batch, Untouched, Keeping, None_sent, None_ready, All_kept}
 use Rattle.olr_input.specs.Gates.{Cut_off, Passes, Renewal, Replaced, Left_as_it_was, Renews}
 use Rattle.olr_commands.specs.Dump.{dump_lines}
-use Rattle.olr_commands.specs.State.{IsContent}
-use Rattle.olr_run.proofs.Dumped.{dump_leads, kept_changes}
+use Rattle.olr_run.proofs.Dumped.{dump_leads}
 use Rattle.olr_input.specs.Journals.{IsFront, Only, is_empty}
 use Rattle.olr_input.specs.KeptLines.{Waiting, effect_of, kept_line, has_line, line_if, line_of, settled}
 use Rattle.olr_input.specs.LoggedRuns.{Settles}
@@ -43,16 +36,10 @@ use Rattle.olr_input.specs.declared.journal.Journal as journal
 
 -- ---- what is known of the log of a run at any moment
 
--- the records of the lines open a batch and make its changes
-pub record BatchLines (c : Content) (xs : List Change) (text : List ℕ) : Type 0 where
-  pub records : List (List Field)
-  pub lines : text ≡ concat (map fields_line records)
-  pub decoded : map read records ≡ map (λ x. Ok x) (Begin ∷ map (λ x. Make x) xs)
-  pub leads : steps (closed c) (Begin ∷ map (λ x. Make x) xs) ≡ Ok (record { content = c; batch = Some xs })
-
+-- the lines of an open batch make its changes
 abbrev pub HoldsBatch : Content → Option (List Change) → List ℕ → Type 0
 HoldsBatch c None text = text ≡ []
-HoldsBatch c (Some xs) text = BatchLines c xs text
+HoldsBatch c (Some xs) text = (is_empty text ≡ false) × LeadsFrom (closed c) text (holding c xs)
 
 module _ {J W : Type 0} (kept : J → List ℕ) (may_leave : J → List ℕ → Type 0) (contents : W → Known) where
   -- with its lines that are ready the log leads to the content now, and with any whole front of them to an earlier one
@@ -85,92 +72,6 @@ module _ {J W : Type 0} (kept : J → List ℕ) (may_leave : J → List ℕ → 
     pub unwritten : List ℕ
     pub logs : Logs base s rs first state unwritten g o
 
--- ---- logs
-
-pub steps_join : (s t u : State) (cs ds : List Command) → steps s cs ≡ Ok t → steps t ds ≡ Ok u → steps s (cs ++ ds) ≡ Ok u
-steps_join s t u [] ds h k = subst (λ (x : State). steps x ds ≡ Ok u) (sym (let e : s ≡ t = cc in e)) k
-steps_join s t u (c ∷ cs) ds h k = by_step (step s c) refl (λ v rest. steps_join v t u cs ds rest k)
-  where
-    by_step : (r : Result State Fault) → step s c ≡ r →
-        ((v : State) → steps v cs ≡ Ok t → steps v (cs ++ ds) ≡ Ok u) → steps s (c ∷ cs ++ ds) ≡ Ok u
-    by_step (Ok v) e more = rw e (more v (rw e at h))
-    by_step (Err f) e more = absurd (let never = rw e at h in cc)
-
-pub one_step : (s t : State) (c : Command) → step s c ≡ Ok t → steps s (c ∷ []) ≡ Ok t
-one_step s t c e = rw e refl
-
-lines_join : (rs qs : List (List Field)) →
-    concat (map fields_line (rs ++ qs)) ≡ concat (map fields_line rs) ++ concat (map fields_line qs)
-lines_join [] qs = refl
-lines_join (r ∷ rs) qs =
-    ap (λ (x : List ℕ). fields_line r ++ x) (lines_join rs qs)
-    ∙ sym (append_assoc (fields_line r) (concat (map fields_line rs)) (concat (map fields_line qs)))
-
-one_line : (r : List Field) → concat (map fields_line (r ∷ [])) ≡ fields_line r
-one_line r = append-nil (fields_line r)
-
-pub kept_join : (cs ds : List Command) → AllByRecursion IsKept cs → AllByRecursion IsKept ds → AllByRecursion IsKept (cs ++ ds)
-kept_join [] ds h k = k
-kept_join (c ∷ cs) ds h k = (h.0, kept_join cs ds h.1 k)
-
-pub decoded_join : (rs qs : List (List Field)) (cs ds : List Command) → map read rs ≡ map (λ x. Ok x) cs →
-    map read qs ≡ map (λ x. Ok x) ds → map read (rs ++ qs) ≡ map (λ x. Ok x) (cs ++ ds)
-decoded_join rs qs cs ds h k =
-    map-append read rs qs ∙ (λ i. h i ++ k i) ∙ sym (map-append (λ x. Ok x) cs ds)
-
-leads_more : (text more : List ℕ) (c d : Content) (rs : List (List Field)) (cs : List Command) → Leads text c →
-    more ≡ concat (map fields_line rs) → map read rs ≡ map (λ x. Ok x) cs → AllByRecursion IsKept cs →
-    steps (closed c) cs ≡ Ok (closed d) → Leads (text ++ more) d
-leads_more text more c d rs cs l lines decoded kept leads =
-    record {
-      records = l.records ++ rs;
-      lines = (λ i. l.lines i ++ lines i) ∙ sym (lines_join l.records rs);
-      commands = l.commands ++ cs;
-      decoded = decoded_join l.records rs l.commands cs l.decoded decoded;
-      kept = kept_join l.commands cs l.kept kept;
-      leads = steps_join start_state (closed c) (closed d) l.commands cs l.leads leads;
-    }
-
--- ---- the lines of a batch
-
-some_bytes : (r : List Field) (more : List ℕ) → is_empty (fields_line r ++ more) ≡ false
-some_bytes r more = by_fields (join_with_byte 44 r)
-  where
-    by_fields : (f : List ℕ) → is_empty ((f ++ 10 ∷ []) ++ more) ≡ false
-    by_fields [] = refl
-    by_fields (b ∷ f) = refl
-
-batch_some : (c : Content) (xs : List Change) (text : List ℕ) → BatchLines c xs text → is_empty text ≡ false
-batch_some c xs text b = by_records b.records b.lines b.decoded
-  where
-    by_records : (rs : List (List Field)) → text ≡ concat (map fields_line rs) →
-        map read rs ≡ map (λ x. Ok x) (Begin ∷ map (λ x. Make x) xs) → is_empty text ≡ false
-    by_records [] l d = absurd cc
-    by_records (r ∷ rs) l d = ap is_empty l ∙ some_bytes r (concat (map fields_line rs))
-
-batch_opened : (c : Content) (r : List Field) → read r ≡ Ok Begin → BatchLines c [] (fields_line r)
-batch_opened c r e =
-    record { records = r ∷ []; lines = sym (one_line r); decoded = ap (λ (x : Read Command). x ∷ []) e; leads = refl }
-
-batch_more : (c : Content) (xs : List Change) (x : Change) (text : List ℕ) (r : List Field) → read r ≡ Ok (Make x) →
-    step_in c (Some xs) (Make x) ≡ Ok (record { content = c; batch = Some (xs ++ x ∷ []) }) → BatchLines c xs text →
-    BatchLines c (xs ++ x ∷ []) (text ++ fields_line r)
-batch_more c xs x text r e is b =
-    let commands : (Begin ∷ map (λ y. Make y) xs) ++ Make x ∷ [] ≡ Begin ∷ map (λ y. Make y) (xs ++ x ∷ []) =
-    ap (λ (cs : List Command). Begin ∷ cs) (sym (map-append (λ y. Make y) xs (x ∷ []))) in
-    record {
-      records = b.records ++ r ∷ [];
-      lines = (λ i. b.lines i ++ sym (one_line r) i) ∙ sym (lines_join b.records (r ∷ []));
-      decoded = decoded_join b.records (r ∷ []) (Begin ∷ map (λ y. Make y) xs) (Make x ∷ []) b.decoded
-          (ap (λ (y : Read Command). y ∷ []) e)
-          ∙ ap (map (λ y. Ok y)) commands;
-      leads = subst (λ (cs : List Command). steps (closed c) cs ≡ Ok (record { content = c; batch = Some (xs ++ x ∷ []) }))
-          commands
-          (steps_join (closed c) (record { content = c; batch = Some xs })
-          (record { content = c; batch = Some (xs ++ x ∷ []) }) (Begin ∷ map (λ y. Make y) xs) (Make x ∷ []) b.leads
-          (one_step (record { content = c; batch = Some xs }) (record { content = c; batch = Some (xs ++ x ∷ []) }) (Make x) is));
-    }
-
 -- ---- one command
 
 abbrev Follows : List ℕ → State → Waiting → Type 0
@@ -180,149 +81,49 @@ Follows k t w = Leads (k ++ w.ready) t.content × HoldsBatch t.content t.batch w
 abbrev made : Command → List Field → Waiting → Waiting
 made c r w = settled (effect_for c) (line_if (has_line (effect_for c)) (fields_line r)) w
 
--- a question leaves the state
-same_state : (c : Content) (b : Option (List Change)) (t : State) (test : Bool) (f : Fault) →
-    cond test (Err f) (Ok (record { content = c; batch = b })) ≡ Ok t → record { content = c; batch = b } ≡ t
-same_state c b t true f e = absurd cc
-same_state c b t false f e = cc
+line_some : (x y : List ℕ) → is_empty (x ++ (y ++ 10 ∷ [])) ≡ false
+line_some [] [] = refl
+line_some [] (b ∷ y) = refl
+line_some (b ∷ x) y = refl
 
-same_after : (c : Content) (b : Option (List Change)) (t : State) (test other : Bool) (f g : Fault) →
-    cond test (Err f) (cond other (Err g) (Ok (record { content = c; batch = b }))) ≡ Ok t →
-    record { content = c; batch = b } ≡ t
-same_after c b t true other f g e = absurd cc
-same_after c b t false other f g e = same_state c b t other g e
+module _ (k : List ℕ) (w : Waiting) (r : List Field) where
+  leads_more : (c d : Content) (y : List ℕ) → Leads (k ++ w.ready) c → LeadsFrom (closed c) y (closed d) →
+      Leads (k ++ (w.ready ++ y)) d
+  leads_more c d y l more =
+      subst (λ (x : List ℕ). Leads x d) (append_assoc k w.ready y)
+      (leads_join start_state (closed c) (closed d) (k ++ w.ready) y l more)
 
-follows_same : (k : List ℕ) (w : Waiting) (c : Content) (b : Option (List Change)) (t : State) →
-    record { content = c; batch = b } ≡ t → Follows k (record { content = c; batch = b }) w → Follows k t w
-follows_same k w c b t e h = subst (λ (x : State). Follows k x w) e h
-
-module _ (k lines inner : List ℕ) (c : Content) (r : List Field) where
-  w : Waiting
-  w = record { ready = lines; batch = inner }
-
-  make_now : (x : Change) (t : State) → read r ≡ Ok (Make x) → step_in c None (Make x) ≡ Ok t →
-      Follows k (closed c) (record { ready = lines; batch = inner }) → Follows k t (made (Make x) r (record { ready = lines; batch = inner }))
-  make_now x t e is h = by_change (with_change c x) refl
-    where
-      by_change : (q : Result Content Fault) → with_change c x ≡ q → Follows k t (made (Make x) r (record { ready = lines; batch = inner }))
-      by_change (Err f) same = absurd (let never = rw same at is in cc)
-      by_change (Ok d) same =
-          let here : closed d ≡ t = let ok = rw same at is in cc in
-          let one : steps (closed c) (Make x ∷ []) ≡ Ok (closed d) = one_step (closed c) (closed d) (Make x) (is ∙ ap (λ (y : State). Ok y) (sym here)) in
-          let longer : Leads (k ++ (lines ++ fields_line r)) d =
-          subst (λ (y : List ℕ). Leads y d) (append_assoc k lines (fields_line r))
-          (leads_more (k ++ lines) (fields_line r) c d (r ∷ []) (Make x ∷ []) h.0 (sym (one_line r))
-          (ap (λ (y : Read Command). y ∷ []) e) (tt, tt) one) in
-          subst (λ (y : State). Follows k y (made (Make x) r (record { ready = lines; batch = inner }))) here
-          (rw h.1 (longer, refl))
-
-  make_held : (xs : List Change) (x : Change) (t : State) → read r ≡ Ok (Make x) → step_in c (Some xs) (Make x) ≡ Ok t →
-      Follows k (record { content = c; batch = Some xs }) (record { ready = lines; batch = inner })
-      → Follows k t (made (Make x) r (record { ready = lines; batch = inner }))
-  make_held xs x t e is h = by_room (nat_le full (length xs)) (with_change (after c xs) x) refl refl
-    where
-      by_room : (b : Bool) (q : Result Content Fault) → nat_le full (length xs) ≡ b → with_change (after c xs) x ≡ q →
-          Follows k t (made (Make x) r (record { ready = lines; batch = inner }))
-      by_room true q f same = absurd (let never = rw f at is in cc)
-      by_room false (Err g) f same = absurd (let never = rw (f, same) at is in cc)
-      by_room false (Ok d) f same =
-          let here : record { content = c; batch = Some (xs ++ x ∷ []) } ≡ t = let ok = rw (f, same) at is in cc in
-          let more = batch_more c xs x inner r e (is ∙ ap (λ (y : State). Ok y) (sym here)) h.1 in
-          subst (λ (y : State). Follows k y (made (Make x) r (record { ready = lines; batch = inner }))) here
-          (rw (batch_some c xs inner h.1) (h.0, more))
-
-  begun : (t : State) → read r ≡ Ok Begin → step_in c None Begin ≡ Ok t →
-      Follows k (closed c) (record { ready = lines; batch = inner }) → Follows k t (made Begin r (record { ready = lines; batch = inner }))
-  begun t e is h =
-      let here : record { content = c; batch = Some [] } ≡ t = cc in
-      subst (λ (y : State). Follows k y (made Begin r (record { ready = lines; batch = inner }))) here
-      (h.0, subst (λ (y : List ℕ). BatchLines c [] (y ++ fields_line r)) (sym h.1) (batch_opened c r e))
-
-  committed : (xs : List Change) (n : ℕ) (t : State) → read r ≡ Ok (Commit n) → step_in c (Some xs) (Commit n) ≡ Ok t →
-      Follows k (record { content = c; batch = Some xs }) (record { ready = lines; batch = inner })
-      → Follows k t (made (Commit n) r (record { ready = lines; batch = inner }))
-  committed xs n t e is h = by_count (not (length xs == n)) refl
-    where
-      b : BatchLines c xs inner
-      b = h.1
-
-      by_count : (q : Bool) → not (length xs == n) ≡ q → Follows k t (made (Commit n) r (record { ready = lines; batch = inner }))
-      by_count true f = absurd (let never = rw f at is in cc)
-      by_count false f =
-          let here : closed (after c xs) ≡ t = let ok = rw f at is in cc in
-          let one = one_step (record { content = c; batch = Some xs }) (closed (after c xs)) (Commit n)
-          (is ∙ ap (λ (y : State). Ok y) (sym here)) in
-          let all = steps_join (closed c) (record { content = c; batch = Some xs }) (closed (after c xs))
-          (Begin ∷ map (λ x. Make x) xs) (Commit n ∷ []) b.leads one in
-          let joined : inner ++ fields_line r ≡ concat (map fields_line (b.records ++ r ∷ [])) =
-          (λ i. b.lines i ++ sym (one_line r) i) ∙ sym (lines_join b.records (r ∷ [])) in
-          let longer : Leads (k ++ (lines ++ (inner ++ fields_line r))) (after c xs) =
-          subst (λ (y : List ℕ). Leads y (after c xs)) (append_assoc k lines (inner ++ fields_line r))
-          (leads_more (k ++ lines) (inner ++ fields_line r) c (after c xs) (b.records ++ r ∷ [])
-          ((Begin ∷ map (λ x. Make x) xs) ++ Commit n ∷ []) h.0 joined
-          (decoded_join b.records (r ∷ []) (Begin ∷ map (λ x. Make x) xs) (Commit n ∷ []) b.decoded
-          (ap (λ (y : Read Command). y ∷ []) e))
-          (kept_join (Begin ∷ map (λ x. Make x) xs) (Commit n ∷ []) (tt, kept_changes xs) (tt, tt)) all) in
-          subst (λ (y : State). Follows k y (made (Commit n) r (record { ready = lines; batch = inner }))) here (longer, refl)
-
-  aborted : (xs : List Change) (t : State) → step_in c (Some xs) Abort ≡ Ok t →
-      Follows k (record { content = c; batch = Some xs }) (record { ready = lines; batch = inner })
-      → Follows k t (made Abort r (record { ready = lines; batch = inner }))
-  aborted xs t is h =
-      let here : closed c ≡ t = cc in
-      subst (λ (y : State). Follows k y (made Abort r (record { ready = lines; batch = inner }))) here (h.0, refl)
-
-  explained : (b : Option (List Change)) (f : Option TextFault) (t : State) →
-      unless_fault (record { content = c; batch = b }) f ≡ Ok t → record { content = c; batch = b } ≡ t
-  explained b None t e = cc
-  explained b (Some f) t e = absurd cc
-
-  accepted : (b : Option (List Change)) (x : Command) (t : State) → read r ≡ Ok x → step_in c b x ≡ Ok t →
-      Follows k (record { content = c; batch = b }) (record { ready = lines; batch = inner })
-      → Follows k t (made x r (record { ready = lines; batch = inner }))
-  accepted None (Make x) t e is h = make_now x t e is h
-  accepted (Some xs) (Make x) t e is h = make_held xs x t e is h
-  accepted b (Show n) t e is h =
-      follows_same k (record { ready = lines; batch = inner }) c b t (same_state c b t (not (has_path c n)) No_path is) h
-  accepted None (Show_node v) t e is h =
-      follows_same k (record { ready = lines; batch = inner }) c None t
-      (same_after c None t (not (has_node c.map v)) (not (has_node_record c.map v)) (Map_fault No_node) Not_a_record is) h
-  accepted (Some xs) (Show_node v) t e is h = absurd cc
-  accepted None (Show_line x) t e is h =
-      follows_same k (record { ready = lines; batch = inner }) c None t
-      (same_after c None t (not (has_line_of c.map x)) (not (has_line_records c.map x)) (Map_fault No_line) Not_a_record is) h
-  accepted (Some xs) (Show_line x) t e is h = absurd cc
-  accepted b Show_margin t e is h =
-      follows_same k (record { ready = lines; batch = inner }) c b t (let same : record { content = c; batch = b } ≡ t = cc in same) h
-  accepted None (Depends nodes) t e is h =
-      follows_same k (record { ready = lines; batch = inner }) c None t
-      (same_state c None t (not (list_all (has_node c.map) nodes)) (Map_fault No_node) is) h
-  accepted (Some xs) (Depends nodes) t e is h = absurd cc
-  accepted b Report t e is h =
-      follows_same k (record { ready = lines; batch = inner }) c b t (let same : record { content = c; batch = b } ≡ t = cc in same) h
-  accepted None Dump t e is h =
-      follows_same k (record { ready = lines; batch = inner }) c None t
-      (same_state c None t (not (is_recordable c)) Not_a_record is) h
-  accepted (Some xs) Dump t e is h = absurd cc
-  accepted None Compact t e is h =
-      follows_same k (record { ready = lines; batch = inner }) c None t (let same : closed c ≡ t = cc in same) h
-  accepted (Some xs) Compact t e is h = absurd cc
-  accepted None (Ambiguous name) t e is h =
-      follows_same k (record { ready = lines; batch = inner }) c None t
-      (same_state c None t (not (has_asked c name)) No_path is) h
-  accepted (Some xs) (Ambiguous name) t e is h = absurd cc
-  accepted b (Explain text) t e is h =
-      follows_same k (record { ready = lines; batch = inner }) c b t (explained b (text_fault text) t is) h
-  accepted None Begin t e is h = begun t e is h
-  accepted (Some xs) Begin t e is h = absurd cc
-  accepted None Preview t e is h = absurd cc
-  accepted (Some xs) Preview t e is h =
-      follows_same k (record { ready = lines; batch = inner }) c (Some xs) t
-      (let same : record { content = c; batch = Some xs } ≡ t = cc in same) h
-  accepted None (Commit n) t e is h = absurd cc
-  accepted (Some xs) (Commit n) t e is h = committed xs n t e is h
-  accepted None Abort t e is h = absurd cc
-  accepted (Some xs) Abort t e is h = aborted xs t is h
+  ends_in : (c : Content) (b : Option (List Change)) (x : Command) (t : State) → read r ≡ Ok x → step_in c b x ≡ Ok t →
+      Follows k (record { content = c; batch = b }) w → Ends (λ s. Follows k s (made x r w)) c b x
+  ends_in c None (Make x) t e is h = λ d ok.
+      rw h.1
+      (leads_more c d (fields_line r) h.0 (one_leads (closed c) (closed d) r (Make x) e tt (make_closed c d x ok)), refl)
+  ends_in c (Some xs) (Make x) t e is h = λ d ok room.
+      let more = holding c (xs ++ x ∷ []) in
+      rw h.1.0 (
+        h.0,
+        (
+          line_some w.batch (join_with_byte 44 r),
+          leads_join (closed c) (holding c xs) more w.batch (fields_line r) h.1.1
+              (one_leads (holding c xs) more r (Make x) e tt (make_held c xs d x room ok)),
+        ),
+      )
+  ends_in c None Begin t e is h =
+      rw h.1 (h.0, (line_some [] (join_with_byte 44 r), one_leads (closed c) (holding c []) r Begin e tt refl))
+  ends_in c (Some xs) Begin t e is h = absurd cc
+  ends_in c None (Commit n) t e is h = absurd cc
+  ends_in c (Some xs) (Commit n) t e is h =
+      let made_all = closed (after c xs) in
+      let here : t ≡ made_all = ends (λ s. s ≡ made_all) (holding c xs) t (Commit n) is refl in (
+        leads_more c (after c xs) (w.batch ++ fields_line r) h.0
+            (leads_join (closed c) (holding c xs) made_all w.batch (fields_line r) h.1.1
+            (one_leads (holding c xs) made_all r (Commit n) e tt (is ∙ ap (λ (s : State). Ok s) here))),
+        refl,
+      )
+  ends_in c None Abort t e is h = (h.0, refl)
+  ends_in c (Some xs) Abort t e is h = (h.0, refl)
+  ends_in c None x t e is h = h
+  ends_in c (Some xs) x t e is h = h
 
 -- ---- one outcome
 
@@ -341,7 +142,7 @@ by_reply : (k : List ℕ) (w : Waiting) (t u : State) (r : List Field) (q : Read
     CommandOutcome t q (Ok reply) u → Follows k t w → Follows k u (answered r true w)
 by_reply k w t u r (Ok c) reply e h f =
     subst (λ (v : Waiting). Follows k u v) (sym (made_is r c w e))
-    (accepted k w.ready w.batch t.content r t.batch c u e h.0 f)
+    (ends (λ s. Follows k s (made c r w)) t u c h.0 (ends_in k w r t.content t.batch c u e h.0 f))
 by_reply k w t u r (Err g) reply e h f = absurd (let never = h.0 in cc)
 
 follows_outcome : (k : List ℕ) (w : Waiting) (t u : State) (r : List Field) (o : Outcome) → Follows k t w →
@@ -354,29 +155,16 @@ follows_outcome k w t u r (Err g) f (inr h, sound) = subst (λ (x : State). Foll
 
 -- ---- the outcomes so far
 
-up_more : (s : State) (rs more : List (List Field)) (os late : List Outcome) (c : Content) (sent : List ℕ) →
-    UpTo s rs os c sent → UpTo s (rs ++ more) (os ++ late) c sent
-up_more s rs more os late c sent u =
+-- with more records and outcomes
+pub up_on : (s : State) (qs rs more : List (List Field)) (os first late : List Outcome) (c : Content) (sent : List ℕ) →
+    qs ≡ rs ++ more → os ≡ first ++ late → UpTo s rs first c sent → UpTo s qs os c sent
+up_on s qs rs more os first late c sent all is u =
     record {
       first = u.first;
       later = u.later ++ late;
-      splits = ap (λ (x : List Outcome). x ++ late) u.splits ∙ append_assoc u.first u.later late;
+      splits = is ∙ ap (λ (x : List Outcome). x ++ late) u.splits ∙ append_assoc u.first u.later late;
       state = u.state;
-      run = run_longer SoundOutcome s u.state rs more u.first u.run;
-      content = u.content;
-      unsent = u.unsent;
-      texts_are = u.texts_are;
-    }
-
-pub up_later : (s : State) (rs : List (List Field)) (os first later : List Outcome) (c : Content) (sent : List ℕ) →
-    os ≡ first ++ later → UpTo s rs first c sent → UpTo s rs os c sent
-up_later s rs os first later c sent is u =
-    record {
-      first = u.first;
-      later = u.later ++ later;
-      splits = is ∙ ap (λ (x : List Outcome). x ++ later) u.splits ∙ append_assoc u.first u.later later;
-      state = u.state;
-      run = u.run;
+      run = rw all (run_longer SoundOutcome s u.state rs more u.first u.run);
       content = u.content;
       unsent = u.unsent;
       texts_are = u.texts_are;
@@ -415,7 +203,7 @@ module _ {J W : Type 0} (kept : J → List ℕ) (may_leave : J → List ℕ → 
   Goes rs os t sent j lines inner = Going kept may_leave contents s rs os t sent j lines inner
 
   -- all that was ready is kept
-  fresh : (rs : List (List Field)) (os : List Outcome) (t : State) (sent : List ℕ) (j : J) (lines inner : List ℕ) →
+  pub fresh : (rs : List (List Field)) (os : List Outcome) (t : State) (sent : List ℕ) (j : J) (lines inner : List ℕ) →
       Only (kept j) (may_leave j) → Leads (kept j) t.content → lines ≡ [] → HoldsBatch t.content t.batch inner →
       UpTo s rs os t.content sent → Goes rs os t sent j lines inner
   fresh rs os t sent j lines inner only leads none batches up =
@@ -432,7 +220,7 @@ module _ {J W : Type 0} (kept : J → List ℕ) (may_leave : J → List ℕ → 
         batches = batches;
       }
 
-  survives_only : (rs : List (List Field)) (os : List Outcome) (sent : List ℕ) (j : J) (c : Content) →
+  pub survives_only : (rs : List (List Field)) (os : List Outcome) (sent : List ℕ) (j : J) (c : Content) →
       Only (kept j) (may_leave j) → Leads (kept j) c → UpTo s rs os c sent → Survives s rs os (may_leave j) sent
   survives_only rs os sent j c only leads up = λ text m.
       (c, subst (λ (x : List ℕ). Leads x c) (sym (only text m)) leads, up)
@@ -528,20 +316,6 @@ module _ {J W : Type 0} (kept : J → List ℕ) (may_leave : J → List ℕ → 
       }
 
   -- with more records, of which none was taken
-  up_longer : (rs more : List (List Field)) (os : List Outcome) (c : Content) (sent : List ℕ) → UpTo s rs os c sent →
-      UpTo s (rs ++ more) os c sent
-  up_longer rs more os c sent u =
-      record {
-        first = u.first;
-        later = u.later;
-        splits = u.splits;
-        state = u.state;
-        run = run_longer SoundOutcome s u.state rs more u.first u.run;
-        content = u.content;
-        unsent = u.unsent;
-        texts_are = u.texts_are;
-      }
-
   pub logs_longer : (rs more : List (List Field)) (os : List Outcome) (t : State) (unwritten : List ℕ) (g : Gate J)
       (o : Buffered W) → Log rs os t unwritten g o → Log (rs ++ more) os t unwritten g o
   logs_longer rs more os t unwritten g o a =
@@ -550,15 +324,18 @@ module _ {J W : Type 0} (kept : J → List ℕ) (may_leave : J → List ℕ → 
         sent = a.sent;
         device = a.device;
         bytes = a.bytes;
-        survives = λ text l. let b = a.survives text l in (b.0, b.1, up_longer rs more os b.0 a.sent b.2);
+        survives = λ text l. let b = a.survives text l in (b.0, b.1, longer b.0 b.2);
         going = λ still. let k = a.going still in
             record {
               only = k.only;
-              fronts = λ front f. let b = k.fronts front f in (b.0, b.1, up_longer rs more os b.0 a.sent b.2);
+              fronts = λ front f. let b = k.fronts front f in (b.0, b.1, longer b.0 b.2);
               all = k.all;
               batches = k.batches;
             };
       }
+    where
+      longer : (c : Content) → UpTo s rs os c a.sent → UpTo s (rs ++ more) os c a.sent
+      longer c u = up_on s (rs ++ more) rs more os os [] c a.sent refl (sym (append-nil os)) u
 
   -- ---- one record more
 
@@ -573,6 +350,9 @@ module _ {J W : Type 0} (kept : J → List ℕ) (may_leave : J → List ℕ → 
     texts_now =
         flat_map-append outcome_text os (oc ∷ [])
         ∙ (λ i. (a.bytes ∙ append-nil (a.sent ++ pending o)) i ++ (append-nil (outcome_text oc) ∙ ap (λ (x : Answer). x.0) is) i)
+
+    up_next : (c : Content) → UpTo s rs os c a.sent → UpTo s (rs ++ r ∷ []) (os ++ oc ∷ []) c a.sent
+    up_next c = up_on s (rs ++ r ∷ []) rs (r ∷ []) (os ++ oc ∷ []) os (oc ∷ []) c a.sent refl refl
 
     up_last : UpTo s (rs ++ r ∷ []) (os ++ oc ∷ []) u.content a.sent
     up_last =
@@ -593,11 +373,8 @@ module _ {J W : Type 0} (kept : J → List ℕ) (may_leave : J → List ℕ → 
         record {
           only = subst (λ (x : J). Only (kept x) (may_leave x)) (sym e.untouched.journal) k.only;
           fronts = λ front is_front. elim (e.settled.fronts front is_front) [
-            | inl before ↦ let b = k.fronts front before in (
-              b.0,
-              subst (λ (x : J). Leads (kept x ++ front) b.0) (sym e.untouched.journal) b.1,
-              up_more s rs (r ∷ []) os (oc ∷ []) b.0 a.sent b.2,
-            )
+            | inl before ↦ let b = k.fronts front before in
+                (b.0, subst (λ (x : J). Leads (kept x ++ front) b.0) (sym e.untouched.journal) b.1, up_next b.0 b.2)
             | inr whole ↦ (u.content, subst (λ (x : List ℕ). Leads (kept h.journal ++ x) u.content) (sym whole) now.0, up_last)
           ];
           all = now.0;
@@ -613,7 +390,7 @@ module _ {J W : Type 0} (kept : J → List ℕ) (may_leave : J → List ℕ → 
           bytes = texts_now;
           survives = λ left m.
               let b = a.survives left (subst (λ (x : J). may_leave x left) e.untouched.journal m) in
-              (b.0, b.1, up_more s rs (r ∷ []) os (oc ∷ []) b.0 a.sent b.2);
+              (b.0, b.1, up_next b.0 b.2);
           going = goes_now;
         }
 
@@ -640,7 +417,7 @@ module _ {J W : Type 0} (j : journal.Ghosts J) (contents : W → Known) (base : 
       leads_now : is_closed g ≡ false → Leads records t.content
       leads_now going_on =
           subst (λ (x : List ℕ). Leads x t.content) (sym is)
-          (dump_leads (j.kept g.journal ++ ready g) t.content (a.going going_on).all sound)
+          (let all = (a.going going_on).all in dump_leads all.records t.content all.accepted sound)
 
       up_now : UpTo s rs os t.content a.sent
       up_now = up_to_all s t rs os a.sent (pending o) a.run (a.bytes ∙ append-nil (a.sent ++ pending o))

@@ -1,7 +1,7 @@
 -- What the record of an accepted command does to a log, and its line.
-use Rattle.std.proofs.Common.{◌≡◌, ◌∙◌, ℕ, Bool, true, false, List, [], ◌∷◌, ◌++◌, length, Some, Ok, Err, refl, sym, ap}
+use Rattle.std.proofs.Common.{◌≡◌, ◌∙◌, ℕ, Bool, true, false, List, [], ◌∷◌, ◌++◌, length, Some, Ok, refl, ap, sym}
 use Rattle.std.proofs.Common.{subst, arith}
-use Rattle.std.specs.Prelude.{IfOk, codes}
+use Rattle.std.specs.Prelude.{IfOk, codes, ⊤}
 use Rattle.std.specs.List.{AllByRecursion, join_with_byte}
 use Rattle.std.proofs.lemmas.Bool.{and_parts}
 use Rattle.olr_spec.specs.Map.{Add_node, Move_node, Drop_node, Drop_line, Edit}
@@ -12,6 +12,7 @@ use Rattle.olr_commands.specs.State.{Compact, Preview, Ambiguous, Set_margin, Sh
 use Rattle.olr_records.specs.Records.{Field, Read, ◌⊛◌, number, amount, name, numbers, edit, one, none, node_record}
 use Rattle.olr_records.specs.Records.{max32, forms, read, read_by, few_nodes, depends_record, ambiguous_record}
 use Rattle.olr_records.specs.Records.{line_record, set_line_record, path_fields, margin_record, digits, class}
+use Rattle.olr_records.proofs.ReadLemmas.{given, two, any_passes}
 use Rattle.olr_records.proofs.TestLemmas.{◌also◌}
 use Rattle.olr_records.proofs.PlainLemmas.{Plain, AllPlain, Where, digits_plain, name_plain, node_plain, one_plain}
 use Rattle.olr_records.proofs.PlainLemmas.{line_plain, set_line_plain, path_fields_plain}
@@ -42,11 +43,9 @@ Fits word form = (fs : List Field) → IfOk (form fs) (KeptAs word fs)
 makes : {A : Type 0} (word : Field) (f : A → Change) (r : List Field → Read A) → Plain word →
     ((fs : List Field) → word_effect (word ∷ fs) ≡ effect.Change) → ((fs : List Field) → Where (r fs) (AllPlain fs)) →
     Fits word (λ fs. Ok (λ a. Make (f a)) ⊛ r fs)
-makes {A} word f r w e h fs = by (r fs) (h fs)
-  where
-    by : (x : Read A) → Where x (AllPlain fs) → IfOk (Ok (λ a. Make (f a)) ⊛ x) (KeptAs word fs)
-    by (Ok a) p = record { effect = e fs; plain = λ _. (w, p) }
-    by (Err g) p = tt
+makes word f r w e h fs =
+    given (KeptAs word fs) (λ _. AllPlain fs) (Ok (λ a. Make (f a))) (r fs) (h fs)
+    (λ a p. record { effect = e fs; plain = λ _. (w, p) })
 
 edits : (word : Field) (r : List Field → Read Edit) → Plain word → ((fs : List Field) → word_effect (word ∷ fs) ≡ effect.Change) →
     ((fs : List Field) → Where (r fs) (AllPlain fs)) → Fits word (λ fs. edit (r fs))
@@ -55,11 +54,9 @@ edits word r w e h fs = makes word (λ x. On_map x) r w e h fs
 one_fits : {A : Type 0} (word : Field) (g : A → Command) (r : Field → Read A) → Plain word →
     ((a : A) (f : Field) → word_effect (word ∷ f ∷ []) ≡ effect_for (g a)) → ((f : Field) → Where (r f) (Plain f)) →
     Fits word (λ fs. one g r fs)
-one_fits {A} word g r w e h (f ∷ []) = by (r f) (h f)
-  where
-    by : (x : Read A) → Where x (Plain f) → IfOk (Ok g ⊛ x) (KeptAs word (f ∷ []))
-    by (Ok a) p = record { effect = e a f; plain = λ _. (w, (p, tt)) }
-    by (Err d) p = tt
+one_fits word g r w e h (f ∷ []) =
+    given (KeptAs word (f ∷ [])) (λ _. Plain f) (Ok g) (r f) (h f)
+    (λ a p. record { effect = e a f; plain = λ _. (w, (p, tt)) })
 one_fits word g r w e h fs = tt
 
 none_fits : (word : Field) (c : Command) → Plain word → word_effect (word ∷ []) ≡ effect_for c → Fits word (λ fs. none c fs)
@@ -72,27 +69,20 @@ explains fs = tt
 
 depends_on : Fits (codes "depends") depends_record
 depends_on [] = tt
-depends_on (f ∷ fs) = by (few_nodes (length (f ∷ fs))) (numbers (f ∷ fs))
-  where
-    by : (r : Read ℕ) (p : Read (List ℕ)) → IfOk (Ok (λ n nodes. Depends nodes) ⊛ r ⊛ p) (KeptAs (codes "depends") (f ∷ fs))
-    by (Ok a) (Ok b) = record { effect = refl; plain = λ k. absurd k }
-    by (Ok a) (Err d) = tt
-    by (Err f) (Ok b) = tt
-    by (Err f) (Err d) = tt
+depends_on (f ∷ fs) =
+    two (KeptAs (codes "depends") (f ∷ fs)) (λ _. ⊤) (λ _. ⊤) (Ok (λ n nodes. Depends nodes)) (few_nodes (length (f ∷ fs)))
+    (numbers (f ∷ fs)) (any_passes (few_nodes (length (f ∷ fs)))) (any_passes (numbers (f ∷ fs)))
+    (λ n _ nodes _. record { effect = refl; plain = λ k. absurd k })
 
 ambiguous : Fits (codes "ambiguous") ambiguous_record
 ambiguous [] = record { effect = refl; plain = λ k. absurd k }
 ambiguous (f ∷ fs) = one_fits (codes "ambiguous") (λ n. Ambiguous (Some n)) name refl (λ a f. refl) name_plain (f ∷ fs)
 
 margins : Fits (codes "margin") margin_record
-margins (r ∷ c ∷ []) = by (digits 0 1000 r) (class c) (digits_plain 0 1000 r) (digits_plain 0 7 c)
-  where
-    by : (x y : Read ℕ) → Where x (Plain r) → Where y (Plain c) →
-        IfOk (Ok (λ a b. Make (Set_margin (record { routes = a; classes = b }))) ⊛ x ⊛ y) (KeptAs (codes "margin") (r ∷ c ∷ []))
-    by (Ok a) (Ok b) p q = record { effect = refl; plain = λ _. (refl, (p, (q, tt))) }
-    by (Ok a) (Err d) p q = tt
-    by (Err f) (Ok b) p q = tt
-    by (Err f) (Err d) p q = tt
+margins (r ∷ c ∷ []) =
+    two (KeptAs (codes "margin") (r ∷ c ∷ [])) (λ _. Plain r) (λ _. Plain c)
+    (Ok (λ a b. Make (Set_margin (record { routes = a; classes = b })))) (digits 0 1000 r) (class c) (digits_plain 0 1000 r)
+    (digits_plain 0 7 c) (λ a p b q. record { effect = refl; plain = λ _. (refl, (p, (q, tt))) })
 margins fs = tt
 
 by_fits : (rs : List (Field × (List Field → Read Command))) → AllByRecursion (λ r. Fits r.0 r.1) rs →

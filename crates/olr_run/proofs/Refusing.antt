@@ -1,17 +1,16 @@
 -- A log that is rejected leads to no content.
-use Rattle.olr_run.proofs.Common.{Field, read, records_of}
-use Rattle.std.proofs.Common.{◌≡◌, ◌∙◌, ◌≤◌, ℕ, Bool, true, false, List, [], ◌∷◌, ◌++◌, length, map, Option}
-use Rattle.std.proofs.Common.{Some, None, Ok, Err, Result, refl, sym, ap, subst, arith, eqb-true}
-use Rattle.std.specs.Prelude.{◌==◌, nat_le, IfErr}
-use Rattle.std.specs.List.{AllByRecursion}
+use Rattle.olr_run.proofs.Common.{Field, records_of}
+use Rattle.std.proofs.Common.{◌≡◌, ◌∙◌, ◌≤◌, ℕ, Bool, true, false, List, length, Option}
+use Rattle.std.proofs.Common.{Some, None, Ok, Err, refl, sym, subst, arith, eqb-true}
+use Rattle.std.specs.Prelude.{◌==◌, nat_le}
 use Rattle.std.proofs.lemmas.Bool.Decides.{nat_tests}
-use Rattle.olr_commands.specs.State.{Change, Command, Content, Make, Begin, Commit, Memory, State, Fault, after, full, start_state, step, with_change, with_held}
-use Rattle.olr_commands.specs.Dump.{steps}
+use Rattle.olr_commands.specs.State.{Change, Command, Content, Make, Begin, Commit, Memory, State, Fault, after, full, step, with_change, with_held}
+use Rattle.olr_commands.proofs.StateLemmas.{ends}
 use Rattle.olr_register.specs.BatchChanges.{ByContent, Lacks, MayReport}
 use Rattle.olr_register.specs.Built.{IsChange}
 use Rattle.olr_run.proofs.Restoring.{Loading, holding}
 use Rattle.olr_run.specs.Logged.{IsKept, closed}
-use Rattle.olr_run.specs.Restored.{InPlace, IsContentOf, Loads, NeverChanges, Refuses, RefusesRecord}
+use Rattle.olr_run.specs.Restored.{InPlace, LeadsNowhere, Loads, NeverChanges, Refuses, RefusesRecord}
 use Rattle.olr_commands.specs.declared.command.Command.{Command as Rust}
 use Rattle.olr_commands.specs.declared.command.Command.TheVariants as rust
 use Rattle.olr_run.proofs.Common.{command_of}
@@ -32,18 +31,9 @@ not_made c d x f (Lacks is first) other ok = other is
 -- a change that is accepted is made
 accepted : (c : Content) (b : Option (List Change)) (x : Change) (t : State) →
     step (record { content = c; batch = b }) (Make x) ≡ Ok t → (d : Content) × (with_change (with_held c b) x ≡ Ok d)
-accepted c None x t e = by_change (with_change c x) refl
-  where
-    by_change : (q : Result Content Fault) → with_change c x ≡ q → (d : Content) × (with_change c x ≡ Ok d)
-    by_change (Ok d) f = (d, f)
-    by_change (Err h) f = absurd (let never = rw f at e in cc)
-accepted c (Some xs) x t e = by_room (nat_le full (length xs)) (with_change (after c xs) x) refl refl
-  where
-    by_room : (b : Bool) (q : Result Content Fault) → nat_le full (length xs) ≡ b → with_change (after c xs) x ≡ q
-        → (d : Content) × (with_change (after c xs) x ≡ Ok d)
-    by_room true q f g = absurd (let never = rw f at e in cc)
-    by_room false (Err h) f g = absurd (let never = rw (f, g) at e in cc)
-    by_room false (Ok d) f g = (d, g)
+accepted c None x t e = ends (λ _. (d : Content) × (with_change c x ≡ Ok d)) (closed c) t (Make x) e (λ d ok. (d, ok))
+accepted c (Some xs) x t e =
+    ends (λ _. (d : Content) × (with_change (after c xs) x ≡ Ok d)) (holding c xs) t (Make x) e (λ d ok room. (d, ok))
 
 pub change_never : (l : Loader) (c : Command) → IsChange c → NeverChanges l.building c → Refuses l c
 change_never l c change never s a t ok =
@@ -91,80 +81,22 @@ commit_differs l n inside other s a t ok = by_batches s.content s.batch a.place 
 
 -- ---- the records of a text
 
--- the commands of all records are those of the first ones and others
-split_decoded : (rs qs : List (List Field)) (cs ds : List Command) → map read rs ≡ map (λ x. Ok x) cs →
-    map read (rs ++ qs) ≡ map (λ x. Ok x) ds
-    → (es : List Command) × (ds ≡ cs ++ es) × (map read qs ≡ map (λ x. Ok x) es)
-split_decoded [] qs [] ds d e = (ds, refl, e)
-split_decoded [] qs (c ∷ cs) ds d e = absurd cc
-split_decoded (r ∷ rs) qs [] ds d e = absurd cc
-split_decoded (r ∷ rs) qs (c ∷ cs) [] d e = absurd cc
-split_decoded (r ∷ rs) qs (c ∷ cs) (k ∷ ds) d e =
-    let first : c ≡ k = (let a : read r ≡ Ok c = cc in let b : read r ≡ Ok k = cc in cc) in
-    let more = split_decoded rs qs cs ds (let x : map read rs ≡ map (λ y. Ok y) cs = cc in x)
-    (let x : map read (rs ++ qs) ≡ map (λ y. Ok y) ds = cc in x) in
-    (more.0, (λ i. sym first i ∷ more.1 i), more.2)
-
-kept_later : (cs ds : List Command) → AllByRecursion IsKept (cs ++ ds) → AllByRecursion IsKept ds
-kept_later [] ds h = h
-kept_later (c ∷ cs) ds h = kept_later cs ds h.1
-
-steps_later : (s t u : State) (cs ds : List Command) → steps s cs ≡ Ok t → steps s (cs ++ ds) ≡ Ok u → steps t ds ≡ Ok u
-steps_later s t u [] ds h k = subst (λ (x : State). steps x ds ≡ Ok u) (let e : s ≡ t = cc in e) k
-steps_later s t u (c ∷ cs) ds h k = by_step (step s c) refl (λ v. steps_later v t u cs ds)
-  where
-    by_step : (r : Result State Fault) → step s c ≡ r →
-        ((v : State) → steps v cs ≡ Ok t → steps v (cs ++ ds) ≡ Ok u → steps t ds ≡ Ok u) → steps t ds ≡ Ok u
-    by_step (Ok v) e more = more v (rw e at h) (rw e at k)
-    by_step (Err f) e more = absurd (let never = rw e at h in cc)
-
-first_step : (s u : State) (c : Command) (cs : List Command) → steps s (c ∷ cs) ≡ Ok u → (t : State) × (step s c ≡ Ok t)
-first_step s u c cs h = by_step (step s c) refl
-  where
-    by_step : (r : Result State Fault) → step s c ≡ r → (t : State) × (step s c ≡ Ok t)
-    by_step (Ok t) e = (t, e)
-    by_step (Err f) e = absurd (let never = rw e at h in cc)
-
 -- a record was taken that no state accepts
 pub none_leads : (text : List ℕ) (m n : InMemory) (l : Loader) (fields : List Field) → Loading (records_of text) m l →
-    TakesOne (left_of m) (left_of n) fields → RefusesRecord l fields → (c : Content) → IsContentOf text c → ⊥
+    TakesOne (left_of m) (left_of n) fields → RefusesRecord l fields → LeadsNowhere text
 none_leads text m n l fields a took refuses c leads =
     let next = took a.rest a.are_left in
-    let two = split_decoded a.records (fields ∷ next.0) a.commands leads.commands a.decoded
-    (subst (λ (rs : List (List Field)). map read rs ≡ map (λ x. Ok x) leads.commands)
-    (a.splits ∙ ap (λ (rs : List (List Field)). a.records ++ rs) next.1) leads.decoded) in
-    by_commands two.0 next.0
-    (kept_later a.commands two.0 (subst (AllByRecursion IsKept) two.1 leads.kept))
-    (steps_later start_state a.state (closed c) a.commands two.0 a.leads
-    (subst (λ (cs : List Command). steps start_state cs ≡ Ok (closed c)) two.1 leads.leads)) two.2
-  where
-    by_commands : (ds : List Command) (qs : List (List Field)) → AllByRecursion IsKept ds → steps a.state ds ≡ Ok (closed c) →
-        map read (fields ∷ qs) ≡ map (λ x. Ok x) ds → ⊥
-    by_commands [] qs kept steps d = absurd cc
-    by_commands (d ∷ ds) qs kept steps decoded =
-        let one = first_step a.state (closed c) d ds steps in
-        refuses d (let is : read fields ≡ Ok d = cc in is) kept.0 a.state a.loads one.0 one.1
+    let first = rw next.1 at (a.splits (closed c) leads) in
+    refuses first.0 first.1 first.2 a.state a.loads first.3 first.4
 
 -- all were taken, and a batch is open
 pub open_leads : (text : List ℕ) (m : InMemory) (l : Loader) → Loading (records_of text) m l → HasNone (left_of m) →
-    ((s : State) → Loads l s → (c : Content) → s ≡ closed c → ⊥) → (c : Content) → IsContentOf text c → ⊥
+    ((s : State) → Loads l s → (c : Content) → s ≡ closed c → ⊥) → LeadsNowhere text
 open_leads text m l a none refused c leads =
-    let two = split_decoded a.records a.rest a.commands leads.commands a.decoded
-    (subst (λ (rs : List (List Field)). map read rs ≡ map (λ x. Ok x) leads.commands) a.splits leads.decoded) in
-    let last = steps_later start_state a.state (closed c) a.commands two.0 a.leads
-    (subst (λ (cs : List Command). steps start_state cs ≡ Ok (closed c)) two.1 leads.leads) in
-    refused a.state a.loads c (at_end two.0 last (subst (λ (rs : List (List Field)). map read rs ≡ map (λ x. Ok x) two.0) (none a.rest a.are_left) two.2))
-  where
-    at_end : (ds : List Command) → steps a.state ds ≡ Ok (closed c) → map read [] ≡ map (λ x. Ok x) ds → a.state ≡ closed c
-    at_end [] h d = let e : a.state ≡ closed c = cc in e
-    at_end (d ∷ ds) h e = absurd cc
+    refused a.state a.loads c (rw (none a.rest a.are_left) at (a.splits (closed c) leads))
 
 pub outside_closed : (l : Loader) → l.in_batch ≡ true → (s : State) → Loads l s → (c : Content) → s ≡ closed c → ⊥
 outside_closed l inside s a c is = absurd (let never : true ≡ false = sym inside ∙ subst (λ (u : State). InPlace l u.batch) is a.place in cc)
-
-pub if_err : {A E : Type 0} (r : Result A E) (P Q : E → Type 0) → IfErr r P → ((e : E) → P e → Q e) → IfErr r Q
-if_err (Ok a) P Q h f = tt
-if_err (Err e) P Q h f = f e h
 
 -- a command that is no change, begin or commit isn't kept
 pub other_kind : (c : Rust) → kind.Other ≡ kind_by c → IsKept (command_of c) → ⊥

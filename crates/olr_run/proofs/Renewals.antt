@@ -1,24 +1,10 @@
 -- The records of a register.
 use Rattle.olr_run.proofs.Common.{Registered}
 use Rattle.olr_input.specs.Sessions.{Given}
-use Rattle.std.proofs.Common.{◌≡◌, ◌∙◌, ◌⊎◌, ℕ, List, Option, Some, None, Ok, refl, inl, inr, sym, subst}
-use Rattle.olr_commands.specs.Reply.{Dumped}
-use Rattle.olr_commands.specs.State.{Change, Content, Dump, State, step}
-use Rattle.olr_register.specs.Registered.{Applied}
+use Rattle.std.proofs.Common.{◌≡◌, ◌∙◌, ◌⊎◌, ℕ, List, inl, inr, sym, subst}
 use Rattle.olr_run.specs.LogEnds.{AreRecordsOf}
 use Rattle.olr_run.specs.Logged.{closed}
 use Rattle.olr_run.specs.Runs.{AreRenewal}
-
--- a dump is accepted where no batch is open
-no_batch : (c : Content) (b : Option (List Change)) (t : State) → step (record { content = c; batch = b }) Dump ≡ Ok t → b ≡ None
-no_batch c None t e = refl
-no_batch c (Some xs) t e = absurd cc
-
-pub renewal_of : (r : Registered) (count : ℕ) (text : List ℕ) → Applied r Dump (Ok (Dumped count text)) r →
-    AreRenewal r (Given text)
-renewal_of r count text a t represents =
-    let b = a t represents in
-    (no_batch t.content t.batch b.0 b.2.0, (let same = b.2.1 in cc))
 
 pub records_of_renewal : (r : Registered) (text : List ℕ) → AreRenewal r (Given text) → AreRecordsOf r text
 records_of_renewal r text a c represents = (a (closed c) represents).1

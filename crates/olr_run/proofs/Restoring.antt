@@ -1,30 +1,22 @@
 -- The records of a log, whose changes are made as they come.
-use Rattle.olr_run.proofs.Common.{Represents, append-nil, append_assoc, Registered}
+use Rattle.olr_run.proofs.Common.{Represents, Registered, command_of}
 use Rattle.std.proofs.Common.{◌≡◌, ◌∙◌, ◌+◌, ◌<◌, ℕ, true, false, List, [], ◌∷◌, ◌++◌, length, Option, Some}
-use Rattle.std.proofs.Common.{None, Ok, Err, Result, refl, sym, ap, subst, arith, length-append}
+use Rattle.std.proofs.Common.{None, Ok, refl, sym, ap, subst, arith, length-append, eq-eqb}
 use Rattle.std.specs.Prelude.{◌==◌, nat_le}
-use Rattle.std.proofs.Common.{eq-eqb}
 use Rattle.std.proofs.lemmas.Bool.Decides.{nat_tests}
 use Rattle.olr_commands.specs.State.{Content, Change, Command, Make, Begin, Commit, State, with_change, after}
 use Rattle.olr_commands.specs.State.{step, full, start_state}
-use Rattle.olr_commands.specs.Dump.{steps}
 use Rattle.olr_commands.proofs.StateLemmas.{next_ok, after_push}
-use Rattle.olr_run.specs.Logged.{closed}
+use Rattle.olr_run.specs.Logged.{Accepted, IsKept, closed}
 use Rattle.olr_register.specs.Built.{Changes, IsChange}
-use Rattle.olr_run.specs.Restored.{Loads, Loaded}
-use Rattle.olr_run.specs.Restored.{IsContentOf, LoadsRecord, IsKind, kind_by}
-use Rattle.olr_run.proofs.Common.{command_of}
+use Rattle.olr_run.specs.Restored.{HasContentOf, Loads, Loaded, LoadsRecord, IsKind, kind_by}
+use Rattle.olr_run.proofs.Accepting.{accepted_next}
 use Rattle.olr_commands.specs.declared.command.Command.{Command as Rust}
 use Rattle.olr_commands.specs.declared.command.Command.TheVariants as rust
 use Rattle.olr_run.specs.declared.loader.Kind.{Kind}
-use Rattle.std.specs.Prelude.{OnOk, IfOk}
 use Rattle.olr_run.specs.declared.loader.Loader.{Loader}
-use Rattle.std.proofs.Common.{map}
-use Rattle.std.specs.List.{AllByRecursion}
-use Rattle.olr_records.specs.Records.{Field, Read, read}
-use Rattle.olr_run.specs.Logged.{IsKept}
+use Rattle.olr_records.specs.Records.{Field}
 use Rattle.olr_run.specs.Output.{records_of}
-use Rattle.olr_run.proofs.Logging.{steps_join, one_step, decoded_join, kept_join}
 use Rattle.olr_input.specs.InMemory.{left_of}
 use Rattle.olr_input.specs.Sessions.{HasNone, TakesOne}
 use Rattle.olr_input.specs.declared.in_memory.InMemory.{InMemory}
@@ -35,10 +27,10 @@ holding c xs = record { content = c; batch = Some xs }
 
 -- ---- what an accepted command leads to
 
-make_closed : (c d : Content) (x : Change) → with_change c x ≡ Ok d → step (closed c) (Make x) ≡ Ok (closed d)
+pub make_closed : (c d : Content) (x : Change) → with_change c x ≡ Ok d → step (closed c) (Make x) ≡ Ok (closed d)
 make_closed c d x e = rw e refl
 
-make_held : (c : Content) (ys : List Change) (d : Content) (x : Change) → nat_le full (length ys) ≡ false →
+pub make_held : (c : Content) (ys : List Change) (d : Content) (x : Change) → nat_le full (length ys) ≡ false →
     with_change (after c ys) x ≡ Ok d → step (holding c ys) (Make x) ≡ Ok (holding c (ys ++ x ∷ []))
 make_held c ys d x f e = rw (f, e) refl
 
@@ -108,84 +100,42 @@ loads_finished l new s a outside kept = by_batches s.content s.batch a
 
 -- ---- the records of a text
 
--- of these records, those that were taken so far lead to a state, and the loader to the same
+-- of all records those that are left are accepted after those that were taken, which led the loader to a state
 pub record Loading (all : List (List Field)) (m : InMemory) (l : Loader) : Type 0 where
-  pub records : List (List Field)
   pub rest : List (List Field)
-  pub splits : all ≡ records ++ rest
   pub are_left : left_of m rest
-  pub commands : List Command
-  pub decoded : map read records ≡ map (λ x. Ok x) commands
-  pub kept : AllByRecursion IsKept commands
   pub state : State
-  pub leads : steps start_state commands ≡ Ok state
   pub loads : Loads l state
+  pub joins : (t : State) → Accepted state rest t → Accepted start_state all t
+  pub splits : (t : State) → Accepted start_state all t → Accepted state rest t
 
 pub loading_start : (all : List (List Field)) (m : InMemory) (l : Loader) → left_of m all → Loads l start_state →
     Loading all m l
 loading_start all m l are_left loads =
-    record {
-      records = [];
-      rest = all;
-      splits = refl;
-      are_left = are_left;
-      commands = [];
-      decoded = refl;
-      kept = tt;
-      state = start_state;
-      leads = refl;
-      loads = loads;
-    }
+    record { rest = all; are_left = are_left; state = start_state; loads = loads; joins = λ t a. a; splits = λ t a. a }
 
 pub loading_more : (all : List (List Field)) (m n : InMemory) (l k : Loader) (fields : List Field) → Loading all m l →
     TakesOne (left_of m) (left_of n) fields → LoadsRecord l fields k → Loading all n k
-loading_more all m n l k fields a took record_loads =
-    let c = record_loads.0 in
-    let one = record_loads.3 a.state a.loads in
+loading_more all m n l k fields a took (c, is, kept, loads) =
     let next = took a.rest a.are_left in
+    let one = loads a.state a.loads in
     record {
-      records = a.records ++ fields ∷ [];
       rest = next.0;
-      splits = a.splits ∙ ap (λ (rs : List (List Field)). a.records ++ rs) next.1
-          ∙ sym (append_assoc a.records (fields ∷ []) next.0);
       are_left = next.2;
-      commands = a.commands ++ c ∷ [];
-      decoded = decoded_join a.records (fields ∷ []) a.commands (c ∷ []) a.decoded
-          (ap (λ (r : Read Command). r ∷ []) record_loads.1);
-      kept = kept_join a.commands (c ∷ []) a.kept (record_loads.2, tt);
       state = one.0;
-      leads = steps_join start_state a.state one.0 a.commands (c ∷ []) a.leads (one_step a.state one.0 c one.1);
       loads = one.2;
+      joins = λ t b. a.joins t (rw next.1 (c, is, kept, one.0, one.1, b));
+      splits = λ t b. accepted_next a.state one.0 t fields next.0 c is one.1 (rw next.1 at (a.splits t b));
     }
 
 pub loading_end : (text : List ℕ) (m : InMemory) (l : Loader) (new : Registered) → Loading (records_of text) m l →
     HasNone (left_of m)
-    → ((s : State) → Loads l s → (c : Content) × (s ≡ closed c) × Represents new.kept (closed c))
-    → (c : Content) × IsContentOf text c × Represents new.kept (closed c)
+    → ((s : State) → Loads l s → (c : Content) × (s ≡ closed c) × Represents new.kept (closed c)) → HasContentOf text new
 loading_end text m l new a none finished =
-    let whole : records_of text ≡ a.records =
-    a.splits ∙ ap (λ (rs : List (List Field)). a.records ++ rs) (none a.rest a.are_left) ∙ append-nil a.records in
-    let f = finished a.state a.loads in (
-      f.0,
-      record {
-        commands = a.commands;
-        decoded = ap (map read) whole ∙ a.decoded;
-        kept = a.kept;
-        leads = a.leads ∙ ap (λ (s : State). Ok s) f.1;
-      },
-      f.2,
-    )
-
-pub on_ok : {A E : Type 0} (r : Result A E) (P Q : Type 0) → OnOk r P → (P → Q) → OnOk r Q
-on_ok (Ok a) P Q h f = f h
-on_ok (Err e) P Q h f = tt
+    let f = finished a.state a.loads in (f.0, a.joins (closed f.0) (rw (none a.rest a.are_left) f.1), f.2)
 
 pub kept_loaded : (l n : Loader) (c k : Command) → c ≡ k → IsKept k → Loaded l k n → IsKept c × Loaded l c n
 kept_loaded l n c k e kept h = (subst IsKept (sym e) kept, subst (λ (d : Command). Loaded l d n) (sym e) h)
-
-pub if_ok : {A E : Type 0} (r : Result A E) (P Q : A → Type 0) → IfOk r P → ((a : A) → P a → Q a) → IfOk r Q
-if_ok (Ok a) P Q h f = f a h
-if_ok (Err e) P Q h f = tt
 
 kind_of_command : (c : Rust) → IsKind (command_of c) (kind_by c)
 kind_of_command (rust.Edit e) = (_, refl)

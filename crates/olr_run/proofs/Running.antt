@@ -11,7 +11,7 @@ use Rattle.std.proofs.Common.{arith, ◌≡◌, ◌∙◌, ◌+◌, ℕ, Bool, t
 use Rattle.std.proofs.Common.{Ok, ◌⊎◌, Err, Result, inl, inr, refl, sym, ap, subst, length-append}
 use Rattle.olr_commands.specs.State.{IsContent, State}
 use Rattle.olr_run.specs.Output.{StopsAtFault, any_refused, run_status}
-use Rattle.olr_run.specs.Runs.{In_taking, No_text, OutcomesRenewed, IsRenewal, AreRenewal, Exchanged, answer_of, GoesOn}
+use Rattle.olr_run.specs.Runs.{In_taking, No_text, OutcomesRenewed, IsRenewal, AreRenewal, Exchanged, HadTooMany, answer_of, GoesOn}
 use Rattle.olr_input.specs.Sessions.{Answer, Renewal, Renewed, Unasked}
 use Rattle.olr_input.specs.declared.ends.Status.{Status}
 use Rattle.olr_run.proofs.RunLemmas.{sound_after, claims_of}
@@ -150,9 +150,9 @@ module _ {S : Type 0} (happens : S → Event → S → Type 0) (stop : Bool) (ol
           records = a.records;
           answers = a.answers;
           renewals = a.renewals;
+          history = history_join happens before mid later (exchanges a.records a.answers a.renewals) es a.history h;
           each = a.each;
           each_renewal = a.each_renewal;
-          history = history_join happens before mid later (exchanges a.records a.answers a.renewals) es a.history h;
         }
 
     answers_now : IsContent old.kept.content → AnsweredOn stop (GoesOn stop) old a.records a.answers a.renewals now
@@ -299,8 +299,8 @@ passed_on r e P is h = grind arith
 
 pub cut_by : (Whole Part : State → List (List Field) → List Outcome → State → Type 0) (stop : Bool) (old : Registered)
     (records : Records) (before : Known) (new : Registered) (later : Known) (r : Result Status RunFault) (e : RunFault)
-    → IsErrAnd r (λ x. x ≡ e) → FaultedOn Part stop old records before new later e
+    → IsErrAnd r (λ x. x ≡ e) → FaultedOn Part stop old records before new later e × HadTooMany e records
     → EndedOn Whole Part stop old records before new later r
 cut_by Whole Part stop old records before new later (Ok end) e is h = absurd is
 cut_by Whole Part stop old records before new later (Err f) e is h =
-    subst (λ (x : RunFault). FaultedOn Part stop old records before new later x) (sym is) h
+    subst (λ (x : RunFault). FaultedOn Part stop old records before new later x × HadTooMany x records) (sym is) h

@@ -1,9 +1,9 @@
 -- The end of a run once its answers were sent, or could not be, with what is known of its outcomes from more.
 use Rattle.olr_run.proofs.Common.{Field, Keeps, Known, LeadsOn, Outcome, Records, RanOn, FaultedOn, Registered}
 use Rattle.olr_run.proofs.Common.{EndedOn, IfErr, RunFault, exit_code, status_of}
-use Rattle.olr_run.specs.Runs.{HadTooMany, once_sent}
+use Rattle.olr_run.specs.Runs.{once_sent}
 use Rattle.std.specs.Prelude.{OnOk}
-use Rattle.std.proofs.Common.{◌≡◌, ◌≤◌, ◌∙◌, ℕ, Bool, List, None, Some, Result, Ok, Err, sym, arith}
+use Rattle.std.proofs.Common.{◌≡◌, ◌≤◌, ℕ, Bool, List, None, Some, Result, Ok, Err, arith}
 use Rattle.std.proofs.KnownBytes.{Appends-kept}
 use Rattle.olr_commands.specs.State.{State}
 use Rattle.olr_run.specs.Output.{Faulted, Ran}
@@ -69,18 +69,11 @@ module _ (Whole Part WholeSent PartSent : State → List (List Field) → List O
   ended_sent (Ok end) (Ok done) whole unsent part write run =
       ran_sent Whole WholeSent whole stop old before new mid later kept records end run
   ended_sent (Ok end) (Err e) whole unsent part write run =
-      ran_unsent Whole PartSent unsent stop old before new mid later kept records end e write run
+      (ran_unsent Whole PartSent unsent stop old before new mid later kept records end e write run, λ many. absurd cc)
   ended_sent (Err e) s whole unsent part write run =
-      faulted_sent Part PartSent part stop old before new mid later kept records e run
+      (faulted_sent Part PartSent part stop old before new mid later kept records e run.0, run.1)
 
 module _ {A : Type 0} where
-  pub many_sent : (records : Records) (r : Result Status RunFault) (s : Result A RunFault) → IfErr s (λ e. e ≡ fault.Write) →
-      HadTooMany r records → HadTooMany (once_sent r s) records
-  many_sent records (Ok end) (Ok done) unsent many = tt
-  many_sent records (Ok end) (Err e) unsent many = λ is.
-      absurd (let never : fault.Write ≡ fault.TooMany = sym unsent ∙ is in cc)
-  many_sent records (Err e) s unsent many = many
-
   pub held_sent : (P : Type 0) (r : Result Status RunFault) (s : Result A RunFault) → OnOk s P → OnOk (once_sent r s) P
   held_sent P (Ok end) (Ok done) h = h
   held_sent P (Ok end) (Err e) h = tt

@@ -3,6 +3,7 @@
 --     run_code ended in_batch      the exit status of a run with a log: 6 exactly if it was not cut off and a batch is open
 --     WithoutLog      a run without a log, from the empty register
 --     FromLog, WithLog      a run from a log that was opened; or that could not be opened
+--     NoSources      why what the arguments ask for can't be begun
 --     AskedEnds, Ends      the end by what the arguments ask for, and by the arguments
 use Rattle.std.specs.Prelude.{◌≡◌, ◌⊎◌, ℕ, Bool, true, false, not, ◌&&◌, ◌||◌, List, [], Option, Some, None, Result, Ok, Err}
 use Rattle.std.specs.Prelude.{is_ok, is_some, if◌then◌else◌, IsTrue}
@@ -20,7 +21,7 @@ use Rattle.olr_log.specs.declared.place.OpenError.TheVariants as unopened
 use Rattle.olr_register.specs.Registered.{Registered, nothing_registered}
 use Rattle.olr_run.specs.LogEnds.{Begins, LastsOn, Unbegun}
 use Rattle.olr_run.specs.Output.{Claims}
-use Rattle.olr_run.specs.Runs.{Records, EndedOn, HadTooMany, records_read}
+use Rattle.olr_run.specs.Runs.{Records, EndedOn, records_read}
 use Rattle.olr_input.specs.Buffers.{written}
 use Rattle.olr_input.specs.Gates.{compaction}
 use Rattle.olr_input.specs.Sessions.{Known}
@@ -36,7 +37,6 @@ pub record WithoutLog (stop : Bool) (records : Records) (before later : Known) (
   pub new : Registered
   pub end : Result Status RunFault
   pub ended : EndedOn Claims Claims stop nothing_registered records before new later end
-  pub too_many : HadTooMany end records
   pub status : code ≡ exit_code end
 
 -- ---- with a log
@@ -61,6 +61,13 @@ run_code ended in_batch = if is_ok ended && in_batch then 6 else exit_code ended
 abbrev pub lacks_log : Options → Bool
 lacks_log o = not (is_some o.log) && (o.new || is_some o.compact_at)
 
+-- what is asked for can't be begun
+pub data NoSources (Opened : List ℕ → Option Known → Type 0) (asked : Options) (code : ℕ) : Type 0 where
+  Log_lacking : lacks_log asked ≡ true → code ≡ 2 → NoSources Opened asked code
+  Not_opened : (name : List ℕ) → asked.file ≡ Some name → Opened name None → code ≡ 3 → NoSources Opened asked code
+  No_size : (text : List ℕ) → asked.compact_at ≡ Some text → NoSize text → code ≡ 2 → NoSources Opened asked code
+  No_memory : code ≡ 4 → NoSources Opened asked code
+
 module _ {D F : Type 0} {d : disk.Ghosts D} {f : folder.Ghosts F D} where
   -- the result of opening a log of this name, or of making it
   abbrev pub OpensLog : (List ℕ → Bool → Bool → List ℕ → (List ℕ → Type 0) → Type 0) →
@@ -83,17 +90,15 @@ module _ {D F : Type 0} {d : disk.Ghosts D} {f : folder.Ghosts F D} {W : Type 0}
         (end : Result Status RunFault) →
         EndedOn (LastsOn contents start o last p) (LastsOn contents start o last p) stop old records (written contents o)
         new (written contents p) end
-        → HadTooMany end records → (g : Gate (LogFile D F d f)) → (compaction g).renewed_from ≡ least → LeftAfter g end last
+        → (g : Gate (LogFile D F d f)) → (compaction g).renewed_from ≡ least → LeftAfter g end last
         → code ≡ run_code end (is_some new.kept.batch) → FromLog log last least stop records o p code
 
-  -- the log as it was left
-  pub data WithLog (Opened : Result (LogFile D F d f) OpenError → Type 0) (least : ℕ) (stop : Bool) (records : Records)
-      (o p : Buffered W) (left : Option (LogFile D F d f)) (code : ℕ) : Type 0 where
-    Log_not_opened : (e : OpenError) → Opened (Err e) → p ≡ o → left ≡ None → UnopenedCode e code →
-        WithLog Opened least stop records o p left code
-    Log_opened : (log last : LogFile D F d f) → Opened (Ok log) → left ≡ Some last →
-        FromLog log last least stop records o p code
-        → WithLog Opened least stop records o p left code
+  -- by whether the log was opened; the log as it was left
+  abbrev pub WithLog : Result (LogFile D F d f) OpenError → Option (LogFile D F d f) → ℕ → Bool → Records → Buffered W →
+      Buffered W → ℕ → Type 0
+  WithLog (Err e) left least stop records o p code = (p ≡ o) × (left ≡ None) × UnopenedCode e code
+  WithLog (Ok log) left least stop records o p code =
+      (last : LogFile D F d f) × (left ≡ Some last) × FromLog log last least stop records o p code
 
   -- ---- the program
 
@@ -102,19 +107,14 @@ module _ {D F : Type 0} {d : disk.Ghosts D} {f : folder.Ghosts F D} {W : Type 0}
       (left : Option (LogFile D F d f)) (code : ℕ) where
     -- a log is left only if the file that is asked for was opened, and the size is one
     pub data AskedEnds (asked : Options) : Type 0 where
-      Log_lacking : lacks_log asked ≡ true → p ≡ o → left ≡ None → code ≡ 2 → AskedEnds asked
-      Not_opened : (name : List ℕ) → asked.file ≡ Some name → Opened name None → p ≡ o → left ≡ None → code ≡ 3 →
-          AskedEnds asked
-      No_size : (text : List ℕ) → asked.compact_at ≡ Some text → NoSize text → p ≡ o → left ≡ None → code ≡ 2 →
-          AskedEnds asked
-      No_memory : p ≡ o → left ≡ None → code ≡ 4 → AskedEnds asked
+      Without_sources : NoSources Opened asked code → p ≡ o → left ≡ None → AskedEnds asked
       Without : asked.log ≡ None → (file : Known) → IsFile asked.file Opened file → left ≡ None →
           WithoutLog asked.stop (records_read asked.lines file input) (written contents o) (written contents p) code
           → AskedEnds asked
       With : (name : List ℕ) → asked.log ≡ Some name → (file : Known) → IsFile asked.file Opened file → (least : ℕ) →
-          IsLength asked.compact_at (Some least) →
-          WithLog (OpenedLog name asked.new) least asked.stop (records_read asked.lines file input) o p left code
-          → AskedEnds asked
+          IsLength asked.compact_at (Some least) → (opened : Result (LogFile D F d f) OpenError) →
+          OpenedLog name asked.new opened
+          → WithLog opened left least asked.stop (records_read asked.lines file input) o p code → AskedEnds asked
 
     -- a run is made only if the arguments have no fault
     pub data Ends (arguments : List (List ℕ)) : Type 0 where

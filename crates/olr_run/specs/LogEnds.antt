@@ -20,7 +20,7 @@ use Rattle.olr_register.specs.Registered.{Registered}
 use Rattle.olr_run.specs.Logged.{closed, Leads}
 use Rattle.olr_run.specs.Logs.{Lasts}
 use Rattle.olr_run.specs.Output.{Claims}
-use Rattle.olr_run.specs.Restored.{IsContentOf}
+use Rattle.olr_run.specs.Restored.{HasContentOf, IsContentOf, LeadsNowhere}
 use Rattle.olr_run.specs.declared.starts.StartFault.{StartFault}
 use Rattle.olr_run.specs.declared.starts.StartFault.TheVariants as start
 use Rattle.olr_input.specs.Journals.{Only}
@@ -48,7 +48,7 @@ module _ {D F : Type 0} {d : disk.Ghosts D} {f : folder.Ghosts F D} where
   pub record Begins (log read start : LogFile D F d f) (register : Registered) : Type 0 where
     pub same : kept_of read ≡ kept_of log
     pub less : (t : List ℕ) → left_of read t → left_of log t
-    pub content : is_clean read ≡ true → (c : Content) × IsContentOf (kept_of log) c × Represents register.kept (closed c)
+    pub content : is_clean read ≡ true → HasContentOf (kept_of log) register
     pub leads : is_clean read ≡ true → is_clean start ≡ true → (c : Content) → BeginsWith (is_own_of log) (kept_of log) c →
         Represents register.kept (closed c) × Leads (kept_of start) c
     pub only : Only (kept_of log) (left_of log) → Only (kept_of start) (left_of start)
@@ -62,7 +62,7 @@ module _ {D F : Type 0} {d : disk.Ghosts D} {f : folder.Ghosts F D} where
       (read : LogFile D F d f) × (kept_of read ≡ kept_of log)
       × ((t : List ℕ) → left_of last t → left_of log t ⊎ (t ≡ kept_of log)
       ⊎ (is_clean read ≡ true → (c : Content) × IsContentOf (kept_of log) c × (t ≡ concat (dump_lines c))))
-      × (rejected ≡ true → is_clean read ≡ true → (c : Content) → IsContentOf (kept_of log) c → ⊥)
+      × (rejected ≡ true → is_clean read ≡ true → LeadsNowhere (kept_of log))
 
   -- however the run ended, each text that may be left of the log leads to the content after the first of the outcomes, and of
   -- the texts of later ones nothing was sent

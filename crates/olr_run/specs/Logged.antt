@@ -1,15 +1,14 @@
 -- Runs with a log: what a run that is cut off leaves for the next one.
 --     IsKept c      a command whose record is kept in a log
---     Leads text c      the records of a log are accepted one after another from the start, and lead to this content, with no
---         batch open at the end
+--     Accepted s rs t      such records are accepted one after another
+--     Leads text c      those of a log are, from the start, and lead to this content, with no batch open at the end
 --     UpTo s rs os c sent      the content is the one after the first of these outcomes, and the bytes that were sent are
 --         all of the texts of those, or the first of them
 --     Survives s rs os may_leave sent      so it is for each text that may be left of the log
-use Rattle.std.specs.Prelude.{◌≡◌, ℕ, List, ◌++◌, map, None, Ok, ⊤}
-use Rattle.std.specs.List.{concat, AllByRecursion}
-use Rattle.olr_commands.specs.State.{Content, Command, Make, Begin, Commit, State, start_state}
+use Rattle.std.specs.Prelude.{◌≡◌, ℕ, List, [], ◌∷◌, ◌++◌, map, None, Ok, ⊤}
+use Rattle.std.specs.List.{concat}
+use Rattle.olr_commands.specs.State.{Content, Command, Make, Begin, Commit, State, start_state, step}
 use Rattle.olr_commands.specs.RecordText.{fields_line}
-use Rattle.olr_commands.specs.Dump.{steps}
 use Rattle.olr_commands.specs.Reply.{Outcome}
 use Rattle.olr_records.specs.Records.{Field, read}
 use Rattle.olr_run.specs.Output.{SoundOutcomes, texts}
@@ -25,14 +24,20 @@ IsKept _ = ⊥
 abbrev pub closed : Content → State
 closed c = record { content = c; batch = None }
 
+-- these records are accepted one after another, and lead from one state to another
+abbrev pub Accepted : State → List (List Field) → State → Type 0
+Accepted s [] t = s ≡ t
+Accepted s (r ∷ rs) t =
+    (c : Command) × (read r ≡ Ok c) × IsKept c × (mid : State) × (step s c ≡ Ok mid) × Accepted mid rs t
+
 -- each record is one line
-pub record Leads (text : List ℕ) (c : Content) : Type 0 where
+pub record LeadsFrom (s : State) (text : List ℕ) (t : State) : Type 0 where
   pub records : List (List Field)
   pub lines : text ≡ concat (map fields_line records)
-  pub commands : List Command
-  pub decoded : map read records ≡ map (λ x. Ok x) commands
-  pub kept : AllByRecursion IsKept commands
-  pub leads : steps start_state commands ≡ Ok (closed c)
+  pub accepted : Accepted s records t
+
+abbrev pub Leads : List ℕ → Content → Type 0
+Leads text c = LeadsFrom start_state text (closed c)
 
 pub record UpTo (s : State) (rs : List (List Field)) (os : List Outcome) (c : Content) (sent : List ℕ) : Type 0 where
   pub first : List Outcome

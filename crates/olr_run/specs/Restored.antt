@@ -1,22 +1,23 @@
 -- A start from a log.
 --     IsContentOf text c      the records of the text are accepted one after another from the start, and lead to this
 --         content, with no batch open at the end
+--     HasContentOf text register, LeadsNowhere text      the register has this content, or there is none
 --     NeverChanges old c      the change that command c makes is not accepted
 --     content_now s      the content once the held changes of the log's batch are made
 --     Loads l s      the records so far lead to this state, and the loader has its content now
 --     Loaded old c new      this command of a log is accepted
 --     is_rejection fault      a log is rejected for it, whatever memory there is
 --     Refuses l c, RefusesRecord l fields      this command of a log, or a record, is accepted in no state that the loader stands for
-use Rattle.std.specs.Prelude.{◌≡◌, ℕ, Bool, true, false, List, map, length, Option, Some, None, Ok, ⊤}
-use Rattle.std.specs.List.{AllByRecursion}
+use Rattle.std.specs.Prelude.{◌≡◌, ℕ, Bool, true, false, List, length, Option, Some, None, Ok, ⊤}
 use Rattle.olr_commands.specs.State.{Content, Change, Command, Make, Begin, Commit, State, start_state, step}
 use Rattle.olr_commands.specs.State.{with_change, with_held}
-use Rattle.olr_commands.specs.Dump.{steps}
 use Rattle.olr_records.specs.Records.{Field, read}
 use Rattle.olr_commands.specs.declared.command.Command.{Command as Rust}
 use Rattle.olr_commands.specs.declared.command.Command.TheVariants as rust
 use Rattle.olr_register.specs.Built.{IsChange}
-use Rattle.olr_run.specs.Logged.{IsKept, closed}
+use Rattle.olr_register.specs.RegisterState.{Represents}
+use Rattle.olr_register.specs.Registered.{Registered}
+use Rattle.olr_run.specs.Logged.{Accepted, IsKept, closed}
 use Rattle.olr_run.specs.Output.{records_of}
 use Rattle.olr_run.specs.declared.loader.Kind.{Kind}
 use Rattle.olr_run.specs.declared.loader.Kind.TheVariants as kind
@@ -24,11 +25,14 @@ use Rattle.olr_run.specs.declared.loader.Loader.{Loader}
 use Rattle.olr_run.specs.declared.loader.RestoreFault.{RestoreFault}
 use Rattle.olr_run.specs.declared.loader.RestoreFault.TheVariants as restore
 
-pub record IsContentOf (text : List ℕ) (c : Content) : Type 0 where
-  pub commands : List Command
-  pub decoded : map read (records_of text) ≡ map (λ x. Ok x) commands
-  pub kept : AllByRecursion IsKept commands
-  pub leads : steps start_state commands ≡ Ok (closed c)
+abbrev pub IsContentOf : List ℕ → Content → Type 0
+IsContentOf text c = Accepted start_state (records_of text) (closed c)
+
+abbrev pub HasContentOf : List ℕ → Registered → Type 0
+HasContentOf text r = (c : Content) × IsContentOf text c × Represents r.kept (closed c)
+
+abbrev pub LeadsNowhere : List ℕ → Type 0
+LeadsNowhere text = (c : Content) → IsContentOf text c → ⊥
 
 abbrev pub NeverChanges : Content → Command → Type 0
 NeverChanges old c = (x : Change) → c ≡ Make x → (d : Content) → with_change old x ≡ Ok d → ⊥

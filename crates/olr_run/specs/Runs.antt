@@ -7,7 +7,7 @@
 --     records_read single file input      the records of a file followed by those of the input, one a line or not
 --     LeadsOn, RanOn, FaultedOn, EndedOn      a run over known records
 use Rattle.std.specs.Prelude.{◌≡◌, ◌≢◌, ℕ, ◌<◌, Bool, ◌&&◌, List, [], ◌∷◌, ◌++◌, length, map, Option, Some, None}
-use Rattle.std.specs.Prelude.{Result, Ok, Err, IfErr, IfSome, is_ok, IsFalse, ◌⊎◌, ⊤}
+use Rattle.std.specs.Prelude.{Result, Ok, Err, IfSome, is_ok, IsFalse, ◌⊎◌, ⊤}
 use Rattle.std.specs.Io.KnownBytes.{Appends}
 use Rattle.std.specs.List.{concat}
 use Rattle.std.specs.Option.{option_map_or}
@@ -191,11 +191,16 @@ abbrev pub FaultedOn : (State → List (List Field) → List Outcome → State �
 FaultedOn Each stop old records before new later e =
     LeadsOn (λ s rs t written. Faulted Each stop s rs t written e) old records before new later
 
+-- there were more records than a run takes, if this fault cuts it off
+abbrev pub HadTooMany : RunFault → Records → Type 0
+HadTooMany e records = e ≡ fault.TooMany → IfSome records (λ rs. most_records < length rs)
+
 -- the end of a run: whole, or cut off
 abbrev pub EndedOn : (Whole Part : State → List (List Field) → List Outcome → State → Type 0) → Bool → Registered →
     Records → Known → Registered → Known → Result Status RunFault → Type 0
 EndedOn Whole Part stop old records before new later (Ok end) = RanOn Whole stop old records before new later end
-EndedOn Whole Part stop old records before new later (Err e) = FaultedOn Part stop old records before new later e
+EndedOn Whole Part stop old records before new later (Err e) =
+    FaultedOn Part stop old records before new later e × HadTooMany e records
 
 -- the end of a run once its answers were sent, or could not be
 abbrev pub once_sent : {A : Type 0} → Result Status RunFault → Result A RunFault → Result Status RunFault
@@ -205,7 +210,3 @@ once_sent (Err e) sent = Err e
 
 abbrev pub records_read : Bool → Known → Known → Records
 records_read single file input = joined_records (input_records single file) (input_records single input)
-
--- a run that was cut off by too many records had them
-abbrev pub HadTooMany : Result Status RunFault → Records → Type 0
-HadTooMany r records = IfErr r (λ e. e ≡ fault.TooMany → IfSome records (λ rs. most_records < length rs))

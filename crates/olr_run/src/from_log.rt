@@ -4,7 +4,7 @@ ghost use Rattle.std.specs.Prelude.{◌≡◌, ◌≤◌, ◌⊎◌, ℕ, Bool, 
 ghost use Rattle.olr_log.specs.declared.place.OpenError.{OpenError};
 ghost use Rattle.olr_log.specs.Logs.{kept_of, left_of};
 ghost use Rattle.olr_run.specs.LogEnds.{is_rejected};
-ghost use Rattle.olr_run.specs.Ends.{FromLog, LeftAfter, OpensLog, UnbegunCode, UnopenedCode, WithLog, run_code};
+ghost use Rattle.olr_run.specs.Ends.{LeftAfter, OpensLog, UnbegunCode, UnopenedCode, WithLog, run_code};
 ghost use Rattle.olr_run.specs.Runs.{Records};
 ghost use Rattle.olr_input.specs.Buffers.{pending};
 ghost use Rattle.olr_input.specs.Sessions.{most_pending};
@@ -165,8 +165,6 @@ fn report_begun<E: Write>(
 pub(crate) struct Asked<'a> {
     /// The log.
     pub(crate) name: &'a str,
-    /// Whether to make it.
-    pub(crate) is_new: bool,
     /// Whether to stop at the first rejected record.
     pub(crate) stop: bool,
     /// The least length of the log that is replaced by the records of the register.
@@ -187,27 +185,43 @@ fn close_log<D: Disk + Drop, G: Folder<D>>(
     log
 }
 
+/// A way to open a log.
+pub trait OpenLog<D: Disk, G: Folder<D>> {
+    /// A log of a name, opened or made, may be the program's own or not, keep this text, and leave these texts after a crash.
+    ghost may_be: { Self → List ℕ → Bool → Bool → List ℕ → (List ℕ → Type 0) → Type 0 };
+
+    /// Why a log of a name may not be opened or made.
+    ghost refuses: { Self → List ℕ → Bool → OpenError → Type 0 };
+
+    /// Opens the log of this name, or makes it.
+    fn open(&self, name: &str, is_new: bool) -> Result<LogFile<D, G>, OpenError>
+        ensures { OpensLog (may_be self.now) (refuses self.now) name.now is_new result };
+}
+
 /// Runs the records of a source from a log that was opened, in which each accepted change is kept before its answer is sent.
 /// Returns the exit status, and the log as it was left.
-fn run_from_log<D: Disk + Drop, G: Folder<D>, S: Source + Drop, W: Write + Drop, E: Write>(
+pub(crate) fn with_log<D: Disk + Drop, G: Folder<D>, S: Source + Drop, W: Write + Drop, E: Write>(
     alloc: Global,
-    log: LogFile<D, G>,
     asked: &Asked<'_>,
+    opened: Result<LogFile<D, G>, OpenError>,
     source: S,
     output: &mut Buffered<W>,
     errors: &mut E,
-) -> (u8, LogFile<D, G>)
+) -> (u8, Option<LogFile<D, G>>)
     ensures ends { (records : Records) → IfSome records (S.left source) →
-        FromLog W.contents log result.1 asked.now.from.bytes asked.now.stop records output.old output.new result.0 }
+        WithLog W.contents opened result.1 asked.now.from.bytes asked.now.stop records output.old output.new result.0 }
     ensures bounded { result.0 ≤ 7 }
     ensures sent { (result.0 ≤ 1) ⊎ (result.0 ≡ 6) → pending output.new ≡ [] }
     ensures lacks { length (pending output.new) ≤ most_pending }
 {
-    let mut log = log;
+    let mut log = match opened {
+        Ok(log) => log,
+        Err(error) => return (report_unopened(asked.name, error, errors), None),
+    };
     let was_cut_off = log.is_padded();
     let (mut register, records) = match begin_with(alloc, &mut log, asked.from) {
         Ok(begun) => begun,
-        Err(fault) => return (report_start(asked.name, fault, errors), log),
+        Err(fault) => return (report_start(asked.name, fault, errors), Some(log)),
     };
     report_begun(asked.name, records, register.len(), was_cut_off, errors);
     let (ended, gate) = run_with_log(
@@ -223,50 +237,6 @@ fn run_from_log<D: Disk + Drop, G: Folder<D>, S: Source + Drop, W: Write + Drop,
     let in_batch = register.is_open();
     mem::forget(register);
     let log = close_log(&ended, gate);
-    (log_status(asked.name, ended, fault, in_batch, errors), log)
-}
-
-/// A way to open a log.
-pub trait OpenLog<D: Disk, G: Folder<D>> {
-    /// A log of a name, opened or made, may be the program's own or not, keep this text, and leave these texts after a crash.
-    ghost may_be: { Self → List ℕ → Bool → Bool → List ℕ → (List ℕ → Type 0) → Type 0 };
-
-    /// Why a log of a name may not be opened or made.
-    ghost refuses: { Self → List ℕ → Bool → OpenError → Type 0 };
-
-    /// Opens the log of this name, or makes it.
-    fn open(&self, name: &str, is_new: bool) -> Result<LogFile<D, G>, OpenError>
-        ensures { OpensLog (may_be self.now) (refuses self.now) name.now is_new result };
-}
-
-/// Opens the log, or makes it, and runs the records of a source from it. Returns the exit status, and the log as it was left.
-pub(crate) fn with_log<
-    D: Disk + Drop,
-    G: Folder<D>,
-    L: OpenLog<D, G>,
-    S: Source + Drop,
-    W: Write + Drop,
-    E: Write,
->(
-    alloc: Global,
-    asked: &Asked<'_>,
-    open_log: &L,
-    source: S,
-    output: &mut Buffered<W>,
-    errors: &mut E,
-) -> (u8, Option<LogFile<D, G>>)
-    ensures ends { (records : Records) → IfSome records (S.left source) →
-        WithLog W.contents
-        (OpensLog (L.may_be open_log.now) (L.refuses open_log.now) asked.now.name.now asked.now.is_new)
-        asked.now.from.bytes asked.now.stop records output.old output.new result.1 result.0 }
-    ensures bounded { result.0 ≤ 7 }
-    ensures sent { (result.0 ≤ 1) ⊎ (result.0 ≡ 6) → pending output.new ≡ [] }
-    ensures lacks { length (pending output.new) ≤ most_pending }
-{
-    let log = match open_log.open(asked.name, asked.is_new) {
-        Ok(log) => log,
-        Err(error) => return (report_unopened(asked.name, error, errors), None),
-    };
-    let (status, log) = run_from_log(alloc, log, asked, source, output, errors);
+    let status = log_status(asked.name, ended, fault, in_batch, errors);
     (status, Some(log))
 }

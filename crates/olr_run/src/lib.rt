@@ -21,7 +21,7 @@ pub use command_line::options;
 pub use explaining::{WRONG_ARGUMENTS, explain};
 pub use files::open_file;
 pub use from_log::OpenLog;
-pub use loader::{RestoreFault, restore};
+pub use loader::{Progress, RestoreFault, restore};
 pub use logged::run_with_log;
 pub use olr_input::{
     Buffered, Gate, Journal, LogFault, RunFault, Session, Status, exit_code, report_fault,

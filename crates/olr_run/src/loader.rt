@@ -8,7 +8,7 @@ ghost use Rattle.olr_commands.specs.Words.{command_of, command_fault_of};
 ghost use Rattle.olr_register.specs.Built.{Changes, EncodedOnce, IsChange};
 ghost use Rattle.olr_register.specs.RegisterState.{Represents};
 ghost use Rattle.olr_run.specs.Logged.{closed, IsKept, Leads};
-ghost use Rattle.olr_run.specs.Restored.{IsContentOf, Loaded, Loads, LoadsRecord, NeverChanges, Refuses, RefusesRecord, is_rejection, kind_by};
+ghost use Rattle.olr_run.specs.Restored.{HasContentOf, LeadsNowhere, Loaded, Loads, LoadsRecord, NeverChanges, Refuses, RefusesRecord, is_rejection, kind_by};
 ghost use Rattle.olr_run.specs.declared.loader.RestoreFault.TheVariants as restore;
 
 use csv::ByteRecord;
@@ -226,16 +226,16 @@ impl Loader {
 
 /// How far the records of a log were carried out.
 #[derive(Clone, Copy, Debug)]
-pub(crate) struct Progress {
+pub struct Progress {
     /// The number of records that were taken.
-    pub(crate) taken: u64,
+    pub taken: u64,
     /// How many bytes of the text come after those that were carried out.
-    pub(crate) left: usize,
+    pub left: usize,
 }
 
 impl Progress {
     /// Before the first record.
-    pub(crate) fn none() -> Progress {
+    pub fn none() -> Progress {
         Progress {
             taken: 0,
             left: usize::MAX,
@@ -244,31 +244,18 @@ impl Progress {
 }
 
 /// The register with the content of a log: that to which its records lead from the empty register, each accepted, with no
-/// batch open at the end. Each of its paths is encoded once. `count` has the number of records that were taken: after a fault,
-/// the number of the record that is rejected. A log holds changes, `begin` and `commit`, and no other records. One that leads to a content is rejected only out
-/// of memory, or if it has more than 2^40 records.
-pub fn restore(alloc: Global, text: &[u8], count: &mut u64) -> Result<Register, RestoreFault>
-    ensures content { IfOk result (λ r. (c : Content) × IsContentOf text.now c × Represents r.kept (closed c)) }
-    ensures leads { IfOk result (λ r. (c : Content) → Leads text.now c → Represents r.kept (closed c)) }
-    ensures counted { IfOk result (λ r. EncodedOnce r) }
-    ensures refused { IfErr result (λ e. is_rejection e ≡ true → (c : Content) → IsContentOf text.now c → ⊥) }
-{
-    let mut progress = Progress::none();
-    let restored = restore_noting(alloc, text, &mut progress);
-    *count = progress.taken;
-    restored
-}
-
-/// The same. After a fault, `progress` is at the record that is rejected.
-pub(crate) fn restore_noting(
+/// batch open at the end. Each of its paths is encoded once. A log holds changes, `begin` and `commit`, and no other records.
+/// One that leads to a content is rejected only out of memory, or if it has more than 2^40 records. After a fault, `progress`
+/// is at the record that is rejected.
+pub fn restore(
     alloc: Global,
     text: &[u8],
     progress: &mut Progress,
 ) -> Result<Register, RestoreFault>
-    ensures content { IfOk result (λ r. (c : Content) × IsContentOf text.now c × Represents r.kept (closed c)) }
+    ensures content { IfOk result (HasContentOf text.now) }
     ensures leads { IfOk result (λ r. (c : Content) → Leads text.now c → Represents r.kept (closed c)) }
     ensures counted { IfOk result (λ r. EncodedOnce r) }
-    ensures refused { IfErr result (λ e. is_rejection e ≡ true → (c : Content) → IsContentOf text.now c → ⊥) }
+    ensures refused { IfErr result (λ e. is_rejection e ≡ true → LeadsNowhere text.now) }
 {
     let mut loader = Loader::new(alloc);
     let mut records = InMemory::new(alloc, text);

@@ -2,7 +2,7 @@
 
 ghost use Rattle.std.specs.Prelude.{◌≡◌, [], IfSome, OnOk};
 ghost use Rattle.olr_run.specs.Logs.{LastsWhole, LastsCut};
-ghost use Rattle.olr_run.specs.Runs.{once_sent, EndedOn, HadTooMany, Records};
+ghost use Rattle.olr_run.specs.Runs.{once_sent, EndedOn, Records};
 ghost use Rattle.olr_input.specs.Buffers.{pending, written};
 ghost use Rattle.olr_input.specs.Gates.{compaction};
 
@@ -48,7 +48,6 @@ pub fn run_with_log<S: Source + Drop, W: Write + Drop, J: Journal + Drop>(
         EndedOn (LastsWhole J.kept J.may_leave W.contents journal output.old result.1 output.new)
         (LastsCut J.kept J.may_leave W.contents journal output.old result.1 output.new) stop register.old records
         (written W.contents output.old) register.new (written W.contents output.new) result.0 }
-    ensures too_many { (records : Records) → IfSome records (S.left source) → HadTooMany result.0 records }
     ensures sent { OnOk result.0 (pending output.new ≡ []) }
     ensures length { (compaction result.1).renewed_from ≡ from.bytes }
 {

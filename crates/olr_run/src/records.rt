@@ -3,7 +3,7 @@
 ghost use Rattle.std.specs.Prelude.{Some, false, IfOk, IfErr, IfSome};
 ghost use Rattle.olr_run.specs.Output.{Claims, records_of};
 ghost use Rattle.olr_input.specs.Inputs.{input_records};
-ghost use Rattle.olr_run.specs.Runs.{RanIn, CutIn, EndedOn, HadTooMany, Records};
+ghost use Rattle.olr_run.specs.Runs.{RanIn, CutIn, EndedOn, Records};
 
 use crate::answers::{renew, write_outcome};
 use csv::ByteRecord;
@@ -95,7 +95,6 @@ pub fn run_source<S: Source + Drop, W: Write>(
 ) -> Result<Status, RunFault>
     ensures ended { (records : Records) → IfSome records (S.left source) → EndedOn Claims Claims stop register.old records
         (W.contents output.old) register.new (W.contents output.new) result }
-    ensures too_many { (records : Records) → IfSome records (S.left source) → HadTooMany result records }
 {
     register.is_sound();
     let mut session = Plain::new(source);
@@ -112,7 +111,6 @@ pub fn run<R: Read + Drop, W: Write>(
 ) -> Result<Status, RunFault>
     ensures ended { EndedOn Claims Claims stop register.old (input_records false (R.remaining input))
         (W.contents output.old) register.new (W.contents output.new) result }
-    ensures too_many { HadTooMany result (input_records false (R.remaining input)) }
 {
     register.is_sound();
     let source = Input::new(alloc, input, false)?;
@@ -131,7 +129,6 @@ pub fn run_bytes<W: Write>(
 ) -> Result<Status, RunFault>
     ensures ended { EndedOn Claims Claims stop register.old (Some (records_of bytes.now)) (W.contents output.old)
         register.new (W.contents output.new) result }
-    ensures too_many { HadTooMany result (Some (records_of bytes.now)) }
 {
     run_source(
         alloc,

@@ -1,16 +1,13 @@
 //! A start from a log in a file.
 
 ghost use Rattle.std.specs.Prelude.{◌≡◌, ◌⊎◌, true, false, ℕ, List, IfOk, IfErr, OnOk};
-ghost use Rattle.olr_commands.specs.State.{Content};
 ghost use Rattle.olr_log.specs.Logs.{kept_of, left_of, is_own_of, is_clean};
-ghost use Rattle.olr_register.specs.RegisterState.{Represents};
-ghost use Rattle.olr_run.specs.Logged.{closed, Leads};
 ghost use Rattle.olr_run.specs.LogEnds.{AreRecordsOf, BegunFrom, Unbegun, is_rejected};
-ghost use Rattle.olr_run.specs.Restored.{IsContentOf, is_rejection};
+ghost use Rattle.olr_run.specs.Restored.{HasContentOf, LeadsNowhere, is_rejection};
 ghost use Rattle.olr_input.specs.Journals.{Only};
 
 use crate::answers::records_text;
-use crate::loader::{Progress, RestoreFault, restore_noting};
+use crate::loader::{Progress, RestoreFault, restore};
 use crate::sizes::CompactionLength;
 use olr_input::{Journal, is_whole};
 use olr_log::{Folder, LogFile};
@@ -98,12 +95,8 @@ fn read_log<D: Disk + Drop, G: Folder<D>>(
     alloc: Global,
     log: &mut LogFile<D, G>,
 ) -> Result<(Register, u64), StartFault>
-    ensures content { IfOk result (λ r. is_clean log.new ≡ true
-        → (c : Content) × IsContentOf (kept_of log.old) c × Represents r.0.kept (closed c)) }
-    ensures leads { IfOk result (λ r. is_clean log.new ≡ true
-        → (c : Content) → Leads (kept_of log.old) c → Represents r.0.kept (closed c)) }
-    ensures refused { IfErr result (λ e. is_rejected e ≡ true → is_clean log.new ≡ true
-        → (c : Content) → IsContentOf (kept_of log.old) c → ⊥) }
+    ensures content { IfOk result (λ r. is_clean log.new ≡ true → HasContentOf (kept_of log.old) r.0) }
+    ensures refused { IfErr result (λ e. is_rejected e ≡ true → is_clean log.new ≡ true → LeadsNowhere (kept_of log.old)) }
     ensures kept { kept_of log.new ≡ kept_of log.old }
     ensures own { is_own_of log.new ≡ is_own_of log.old }
     ensures less { (t : List ℕ) → left_of log.new t → left_of log.old t }
@@ -113,7 +106,7 @@ fn read_log<D: Disk + Drop, G: Folder<D>>(
         Err(error) => return Err(log_fault(error)),
     };
     let mut progress = Progress::none();
-    match restore_noting(alloc, text.as_slice(), &mut progress) {
+    match restore(alloc, text.as_slice(), &mut progress) {
         Ok(register) => Ok((register, progress.taken)),
         Err(fault) => {
             let start = text.len().saturating_sub(progress.left);
@@ -148,26 +141,6 @@ fn put_records<D: Disk + Drop, G: Folder<D>>(
     }
 }
 
-/// Puts the records of the register in the place of a log that the program didn't write.
-fn rewrite<D: Disk + Drop, G: Folder<D>>(
-    log: &mut LogFile<D, G>,
-    register: &Register,
-) -> Result<(), StartFault>
-    ensures kept { OnOk result (AreRecordsOf register.now (kept_of log.new)) }
-    ensures durable { Only (kept_of log.old) (left_of log.old) → OnOk result (Only (kept_of log.new) (left_of log.new)) }
-    ensures cut { (t : List ℕ) → left_of log.new t → left_of log.old t ⊎ AreRecordsOf register.now t }
-    ensures fails { IfErr result (λ e. is_rejected e ≡ false) }
-{
-    let is_done = put_records(log, register)?;
-    if is_done {
-        return Ok(());
-    }
-    match log.refusal() {
-        Some(error) => Err(log_fault(error)),
-        None => Err(StartFault::Memory),
-    }
-}
-
 /// Overwrites what stands behind the text of the program's own log.
 fn settle<D: Disk + Drop, G: Folder<D>>(log: &mut LogFile<D, G>) -> Result<(), StartFault>
     ensures kept { OnOk result (is_clean log.new ≡ true → kept_of log.new ≡ kept_of log.old) }
@@ -181,30 +154,9 @@ fn settle<D: Disk + Drop, G: Folder<D>>(log: &mut LogFile<D, G>) -> Result<(), S
     }
 }
 
-/// Puts the records of the register in the place of the program's own log, which is due. If that fails, that is said, and the
-/// log is used as it is.
-fn compact<D: Disk + Drop, G: Folder<D>>(
-    log: &mut LogFile<D, G>,
-    register: &Register,
-) -> Result<(), StartFault>
-    ensures kept { OnOk result (is_clean log.new ≡ true
-        → (kept_of log.new ≡ kept_of log.old) ⊎ AreRecordsOf register.now (kept_of log.new)) }
-    ensures durable { Only (kept_of log.old) (left_of log.old) → OnOk result (Only (kept_of log.new) (left_of log.new)) }
-    ensures cut { (t : List ℕ) → left_of log.new t
-        → left_of log.old t ⊎ (t ≡ kept_of log.old) ⊎ AreRecordsOf register.now t }
-    ensures fails { IfErr result (λ e. is_rejected e ≡ false) }
-{
-    let is_done = put_records(log, register)?;
-    if is_done {
-        return Ok(());
-    }
-    log.report_unreplaced(log.refusal().is_some());
-    settle(log)
-}
-
 /// Brings a log, from which the register was read, into the form in which records can be kept: what stands behind the
 /// program's own text is overwritten; that text is replaced by the records of the register if it has the length from which on
-/// it is compacted, and so is another file.
+/// it is compacted, and so is another file. If an own log that is due can't be replaced, that is said, and it is used as it is.
 fn prepare_log<D: Disk + Drop, G: Folder<D>>(
     log: &mut LogFile<D, G>,
     register: &Register,
@@ -218,13 +170,22 @@ fn prepare_log<D: Disk + Drop, G: Folder<D>>(
         → left_of log.old t ⊎ (t ≡ kept_of log.old) ⊎ AreRecordsOf register.now t }
     ensures fails { IfErr result (λ e. is_rejected e ≡ false) }
 {
-    if !log.is_own() {
-        return rewrite(log, register);
+    let is_own = log.is_own();
+    if is_own && log.len() < from.get() {
+        return settle(log);
     }
-    if log.len() >= from.get() {
-        return compact(log, register);
+    let is_done = put_records(log, register)?;
+    if is_done {
+        return Ok(());
     }
-    settle(log)
+    if is_own {
+        log.report_unreplaced(log.refusal().is_some());
+        return settle(log);
+    }
+    match log.refusal() {
+        Some(error) => Err(log_fault(error)),
+        None => Err(StartFault::Memory),
+    }
 }
 
 /// Begins with a log that was opened. Returns the register with the log's content, and the number of the log's records. From

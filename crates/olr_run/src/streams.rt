@@ -1,12 +1,14 @@
 //! The program, over any streams and any way to open its files.
 
-ghost use Rattle.std.specs.Prelude.{◌≡◌, ◌≤◌, ◌⊎◌, [], length, map, None, IfSome};
-ghost use Rattle.olr_run.specs.Opens.{Opens};
+ghost use Rattle.std.specs.Prelude.{◌≡◌, ◌≤◌, ◌⊎◌, [], length, map, None, Some, IfOk, IfErr, IfSome};
+ghost use Rattle.olr_run.specs.Opens.{IsFile, Opens};
 ghost use Rattle.olr_run.specs.Options.{options, options_of};
-ghost use Rattle.olr_run.specs.Ends.{AskedEnds, Ends, OpensLog, WithoutLog, lacks_log};
-ghost use Rattle.olr_run.specs.Runs.{Records};
+ghost use Rattle.olr_run.specs.Ends.{Ends, NoSources, OpensLog, WithoutLog, lacks_log};
+ghost use Rattle.olr_run.specs.Runs.{Records, records_read};
+ghost use Rattle.olr_run.specs.Sizes.{IsLength};
 ghost use Rattle.olr_input.specs.Buffers.{pending, written};
-ghost use Rattle.olr_input.specs.Sessions.{most_pending};
+ghost use Rattle.olr_input.specs.Inputs.{InputLeft};
+ghost use Rattle.olr_input.specs.Sessions.{JoinedLeft, Known, most_pending};
 
 use crate::arguments::Options;
 use crate::command_line::options;
@@ -16,8 +18,8 @@ use crate::from_log::{Asked, OpenLog, with_log};
 use crate::inputs::both_sources;
 use crate::logged::end_sent;
 use crate::records::{Room, run_source};
-use crate::sizes::compaction_length;
-use olr_input::{Buffered, RunFault, Source, end_status, report_fault};
+use crate::sizes::{CompactionLength, compaction_length};
+use olr_input::{Buffered, Input, Joined, RunFault, Source, end_status, report_fault};
 use olr_log::{Folder, LogFile};
 use olr_register::Register;
 use sqlite_disk::Disk;
@@ -60,60 +62,43 @@ fn without_log<S: Source + Drop, W: Write + Drop, E: Write>(
     end_status(end_sent(ended, sent), errors)
 }
 
-/// Carries out what the arguments ask for.
-fn carry_out<
-    F: Read + Drop,
-    O: FnOnce(&str) -> io::Result<F>,
-    D: Disk + Drop,
-    G: Folder<D>,
-    L: OpenLog<D, G>,
-    R: Read + Drop,
-    W: Write + Drop,
-    E: Write,
->(
+/// Opens the command file, if the arguments name one. Returns its records followed by those of the input, and the least length
+/// of a log that is compacted; or the exit status, if that is reported to be impossible.
+fn sources<F: Read + Drop, O: FnOnce(&str) -> io::Result<F>, R: Read + Drop, E: Write>(
     alloc: Global,
     asked: &Options<'_>,
     open_records: O,
-    open_log: &L,
     input: R,
-    output: &mut Buffered<W>,
     errors: &mut E,
-) -> (u8, Option<LogFile<D, G>>)
+) -> Result<(Joined<Input<F>, Input<R>>, CompactionLength), u8>
     requires { O.IsAlwaysCallable open_records }
-    ensures ends { AskedEnds W.contents (Opens O.FnOnce F.remaining open_records)
-        (OpensLog (L.may_be open_log.now) (L.refuses open_log.now)) (R.remaining input) output.old output.new result.1 result.0 (options_of asked.now) }
-    ensures bounded { result.0 ≤ 7 }
-    ensures sent { (result.0 ≤ 1) ⊎ (result.0 ≡ 6) → pending output.new ≡ [] }
-    ensures lacks { length (pending output.new) ≤ most_pending }
-    ensures quiet { (options_of asked.now).log ≡ None → result.0 ≤ 1 → errors.new ≡ errors.old }
+    ensures left { IfOk result (λ r. (file : Known)
+        × IsFile (options_of asked.now).file (Opens O.FnOnce F.remaining open_records) file
+        × IfSome (records_read asked.now.lines file (R.remaining input))
+        (JoinedLeft (InputLeft F.remaining) (InputLeft R.remaining) r.0.first r.0.second)
+        × IsLength (options_of asked.now).compact_at (Some r.1.bytes)) }
+    ensures refused { IfErr result (NoSources (Opens O.FnOnce F.remaining open_records) (options_of asked.now)) }
+    ensures status { IfErr result (λ code. (2 ≤ code) × (code ≤ 4)) }
+    ensures quiet { IfOk result (λ _. errors.new ≡ errors.old) }
 {
     if lacks_log(asked) {
         let _ = errors.write_all(b"olr-keep: --new and --compact-at need -l LOG\n");
-        return (WRONG_ARGUMENTS, None);
+        return Err(WRONG_ARGUMENTS);
     }
     let Ok(file) = open_file(open_records, asked.file) else {
         let _ = errors.write_all(b"olr-keep: cannot open the command file\n");
-        return (NO_FILE, None);
+        return Err(NO_FILE);
     };
     let Some(from) = compaction_length(asked.compact_at) else {
         let _ = errors.write_all(
             b"olr-keep: --compact-at takes bytes, or a number with K, M or G, as 500M\n",
         );
-        return (WRONG_ARGUMENTS, None);
+        return Err(WRONG_ARGUMENTS);
     };
-    let Ok(source) = both_sources(alloc, file, input, asked.lines) else {
-        return (report_fault(RunFault::Memory, errors), None);
-    };
-    let Some(name) = asked.log else {
-        return (without_log(alloc, source, asked.stop, output, errors), None);
-    };
-    let run = Asked {
-        name,
-        is_new: asked.new,
-        stop: asked.stop,
-        from,
-    };
-    with_log(alloc, &run, open_log, source, output, errors)
+    match both_sources(alloc, file, input, asked.lines) {
+        Ok(source) => Ok((source, from)),
+        Err(_) => Err(report_fault(RunFault::Memory, errors)),
+    }
 }
 
 /// Reads the arguments, opens the command file if they name one, and then the log if they name one, carries out the commands of
@@ -150,8 +135,22 @@ pub fn program<
     ensures lacks { length (pending output.new) ≤ most_pending }
     ensures quiet { (options (map S.text arguments.now)).log ≡ None → result.0 ≤ 1 → errors.new ≡ errors.old }
 {
-    match options(alloc, arguments) {
-        Ok(asked) => carry_out(alloc, &asked, open_records, open_log, input, output, errors),
-        Err(fault) => (explain(alloc, &fault, output, errors), None),
-    }
+    let asked = match options(alloc, arguments) {
+        Ok(asked) => asked,
+        Err(fault) => return (explain(alloc, &fault, output, errors), None),
+    };
+    let (source, from) = match sources(alloc, &asked, open_records, input, errors) {
+        Ok(sources) => sources,
+        Err(status) => return (status, None),
+    };
+    let Some(name) = asked.log else {
+        return (without_log(alloc, source, asked.stop, output, errors), None);
+    };
+    let opened = open_log.open(name, asked.new);
+    let run = Asked {
+        name,
+        stop: asked.stop,
+        from,
+    };
+    with_log(alloc, &run, opened, source, output, errors)
 }

@@ -5,8 +5,8 @@ ghost use Rattle.std.specs.Prelude.{◌≡◌, vec_len, ⊤};
 use olr_input::Records;
 use olr_register::Register;
 use olr_run::{
-    Buffered, Journal, LogFault, RestoreFault, RunFault, Status, compaction_length, restore, run,
-    run_with_log,
+    Buffered, Journal, LogFault, Progress, RestoreFault, RunFault, Status, compaction_length,
+    restore, run, run_with_log,
 };
 use std::alloc::{AllocError, Global};
 use std::io;
@@ -183,8 +183,8 @@ fn log_that_is_moved(rt: HostRuntime) -> Result<(), AllocError> {
 
 /// Starts from a log, and asserts the reply to `dump`.
 fn expect_dump<R: Abort + AllocGlobal>(rt: &R, log: &[u8], dump: &[u8]) {
-    let mut count = 0;
-    match restore(rt.alloc(), log, &mut count) {
+    let mut progress = Progress::none();
+    match restore(rt.alloc(), log, &mut progress) {
         Ok(mut register) => {
             let mut output = Vec::new(rt.alloc());
             let records: &[u8] = b"dump\n";
@@ -198,13 +198,13 @@ fn expect_dump<R: Abort + AllocGlobal>(rt: &R, log: &[u8], dump: &[u8]) {
 
 /// Asserts that a log is rejected, at this record.
 fn expect_rejected<R: Abort + AllocGlobal>(rt: &R, log: &[u8], fault: RestoreFault, at: u64) {
-    let mut count = 0;
-    match restore(rt.alloc(), log, &mut count) {
+    let mut progress = Progress::none();
+    match restore(rt.alloc(), log, &mut progress) {
         Ok(register) => {
             drop(register);
             assert!(rt; false);
         }
-        Err(found) => assert_eq!(rt; (found, count), (fault, at)),
+        Err(found) => assert_eq!(rt; (found, progress.taken), (fault, at)),
     }
 }
 

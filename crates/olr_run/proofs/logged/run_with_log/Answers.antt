@@ -13,7 +13,7 @@ returns-clause-ended g c = λ records begins.
     let s = c.send-sent in
     let of = c.new-session.ensures.gate in
     rw c.end_sent.ensures
-    ((lasting g.S.Source.left g.W.Write.contents g.J.Journal (c.new-session.result, c.args.output.now)
+    (lasting g.S.Source.left g.W.Write.contents g.J.Journal (c.new-session.result, c.args.output.now)
     (r.new.session, r.new.output) c.args.journal s.new.self s.new.output
     (ap (λ (x : Gate g.row.J.Denot). x.journal) of ∙ c.new-gate.ensures.journal)
     (ap (λ (x : Gate g.row.J.Denot). waiting x.unkept) of ∙ c.new-gate.ensures.waiting)
@@ -21,23 +21,7 @@ returns-clause-ended g c = λ records begins.
     Passes g.J.Journal.kept g.J.Journal.may_leave g.W.Write.contents x r.new.output s.new.self s.new.output [])
     c.into_gate-gate.ensures s.ensures.passes) c.args.stop c.args.register.now r.new.register c.args.source r.result s.result
     c.new-session.ensures.source s.ensures.kept s.ensures.fault c.is_sound.ensures r.ensures.ran r.ensures.cut records
-    begins).0)
-
-pub returns-clause-too_many : goal.returns-clause-too_many
-returns-clause-too_many g c = λ records begins.
-    let r = c.run_session-ended in
-    let s = c.send-sent in
-    let of = c.new-session.ensures.gate in
-    rw c.end_sent.ensures
-    ((lasting g.S.Source.left g.W.Write.contents g.J.Journal (c.new-session.result, c.args.output.now)
-    (r.new.session, r.new.output) c.args.journal s.new.self s.new.output
-    (ap (λ (x : Gate g.row.J.Denot). x.journal) of ∙ c.new-gate.ensures.journal)
-    (ap (λ (x : Gate g.row.J.Denot). waiting x.unkept) of ∙ c.new-gate.ensures.waiting)
-    (subst (λ (x : Gate g.row.J.Denot).
-    Passes g.J.Journal.kept g.J.Journal.may_leave g.W.Write.contents x r.new.output s.new.self s.new.output [])
-    c.into_gate-gate.ensures s.ensures.passes) c.args.stop c.args.register.now r.new.register c.args.source r.result s.result
-    c.new-session.ensures.source s.ensures.kept s.ensures.fault c.is_sound.ensures r.ensures.ran r.ensures.cut records
-    begins).1)
+    begins)
 
 pub returns-clause-sent : goal.returns-clause-sent
 returns-clause-sent g c =

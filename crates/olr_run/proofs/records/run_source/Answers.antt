@@ -2,16 +2,11 @@
 use Rattle.olr_run.proofs.InputRuns.{plain_on}
 use Rattle.olr_run.proofs.records.run_source.Goals as goal
 
-pub returns-clause-ended : goal.returns-clause-ended
-returns-clause-ended g c = λ records begins.
-    (plain_on g.S.Source.left g.S.Source.failed g.W.Write.contents c.args.stop c.args.register.now
-    c.run_session.new.register c.args.source (c.new-session.result, c.args.output.now)
-    (c.run_session.new.session, c.run_session.new.output) c.new-session.ensures c.run_session.result c.is_sound.ensures
-    c.run_session.ensures.ran c.run_session.ensures.cut records begins).0
-
-pub returns-clause-too_many : goal.returns-clause-too_many
-returns-clause-too_many g c = λ records begins.
-    (plain_on g.S.Source.left g.S.Source.failed g.W.Write.contents c.args.stop c.args.register.now
-    c.run_session.new.register c.args.source (c.new-session.result, c.args.output.now)
-    (c.run_session.new.session, c.run_session.new.output) c.new-session.ensures c.run_session.result c.is_sound.ensures
-    c.run_session.ensures.ran c.run_session.ensures.cut records begins).1
+pub returns : goal.returns
+returns g c =
+    record {
+      ended = plain_on g.S.Source.left g.S.Source.failed g.W.Write.contents c.args.stop c.args.register.now
+          c.run_session.new.register c.args.source (c.new-session.result, c.args.output.now)
+          (c.run_session.new.session, c.run_session.new.output) c.new-session.ensures c.run_session.result c.is_sound.ensures
+          c.run_session.ensures.ran c.run_session.ensures.cut;
+    }

@@ -1,21 +1,31 @@
 -- How the program ends, by its arguments.
-use Rattle.std.proofs.Common.{subst, refl}
-use Rattle.olr_run.specs.Options.{Options}
-use Rattle.olr_run.specs.Ends.{AskedEnds, Carried_out, Explained, OpensLog}
-use Rattle.olr_run.proofs.Common.{Opens}
+use Rattle.std.proofs.Common.{refl}
+use Rattle.olr_run.specs.Ends.{Carried_out, Explained, Without_sources, Without, With}
+use Rattle.olr_run.proofs.Common.{records_read}
 use Rattle.olr_run.proofs.Ending.{explained}
 use Rattle.olr_run.proofs.streams.program.Goals as goal
-
-pub returns-in-Ok-clause-ends : goal.returns-in-Ok-clause-ends
-returns-in-Ok-clause-ends g c =
-    let r = c.carry_out in
-    Carried_out c.in-Ok.ensures.kinds
-    (subst (λ (o : Options).
-    AskedEnds g.W.Write.contents (Opens g.O.FnOnce g.F.Read.remaining c.args.open_records)
-    (OpensLog (g.L.OpenLog.may_be c.args.open_log.now) (g.L.OpenLog.refuses c.args.open_log.now))
-    (g.R.Read.remaining c.args.input) c.args.output.now r.new.output r.result.1 r.result.0 o) c.in-Ok.ensures.ok
-    r.ensures.ends)
 
 pub returns-in-Err-clause-ends : goal.returns-in-Err-clause-ends
 returns-in-Err-clause-ends g c =
     Explained (explained _ _ _ _ _ c.in-Err.ensures.kinds c.explain.ensures.explains) refl
+
+pub returns-in-Err-sources-clause-ends : goal.returns-in-Err-sources-clause-ends
+returns-in-Err-sources-clause-ends g c =
+    Carried_out c.in-Ok.ensures.kinds (rw (← c.in-Ok.ensures.ok) (Without_sources c.in-Err-sources.ensures.refused refl refl))
+
+pub returns-in_default-clause-ends : goal.returns-in_default-clause-ends
+returns-in_default-clause-ends g c =
+    let s = c.in-Ok-sources.ensures.left in
+    Carried_out c.in-Ok.ensures.kinds
+    (rw (← c.in-Ok.ensures.ok)
+    (Without (rw c.in_default.is refl) s.0 s.1 refl
+    (c.without_log.ensures.ends (records_read c.in-Ok.asked.lines s.0 (g.R.Read.remaining c.args.input)) s.2)))
+
+pub returns-clause-ends : goal.returns-clause-ends
+returns-clause-ends g c =
+    let s = c.in-Ok-sources.ensures.left in
+    Carried_out c.in-Ok.ensures.kinds
+    (rw (← c.in-Ok.ensures.ok)
+    (With c.in-Some.name.now (rw c.in-Some.is refl) s.0 s.1 c.in-Ok-sources.sources.1.bytes s.3 c.open-opened.result
+    c.open-opened.ensures
+    (c.with_log.ensures.ends (records_read c.in-Ok.asked.lines s.0 (g.R.Read.remaining c.args.input)) s.2)))

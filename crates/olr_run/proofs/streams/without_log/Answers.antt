@@ -2,7 +2,7 @@
 use Rattle.std.proofs.Common.{◌∙◌, ◌≤◌, ℕ, ap, subst}
 use Rattle.olr_register.specs.Registered.{nothing_registered}
 use Rattle.olr_run.proofs.Common.{Claims, EndedOn, Registered, exit_code}
-use Rattle.olr_run.proofs.Sending.{ended_sent, held_sent, many_sent, on_low, on_ok}
+use Rattle.olr_run.proofs.Sending.{ended_sent, held_sent, on_low, on_ok}
 use Rattle.olr_run.specs.Runs.{once_sent}
 use Rattle.olr_input.specs.Buffers.{written}
 use Rattle.olr_run.proofs.streams.without_log.Goals as goal
@@ -21,7 +21,6 @@ returns-clause-ends g c = λ records begins.
           (subst (λ (old : Registered).
           EndedOn Claims Claims c.args.stop old records before r.new.register (written g.W.Write.contents r.new.output)
           r.result) c.new-register.ensures (r.ensures.ended records begins));
-      too_many = many_sent records r.result s.result s.ensures.fault (r.ensures.too_many records begins);
       status = c.end_status.ensures.code ∙ ap exit_code c.end_sent.ensures;
     }
 

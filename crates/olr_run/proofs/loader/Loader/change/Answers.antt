@@ -1,16 +1,16 @@
 use Rattle.std.proofs.Common.{◌≡◌, ◌∙◌, true, false, refl, sym}
 use Rattle.olr_run.proofs.Common.{command_of}
-use Rattle.std.proofs.lemmas.Result.{err_from_is_err_and}
-use Rattle.olr_run.proofs.Refusing.{change_full, change_never, if_err}
-use Rattle.olr_run.proofs.Restoring.{loaded_change, on_ok}
+use Rattle.std.proofs.lemmas.Result.{IfOk-weaker, IfErr-weaker, err_from_is_err_and}
+use Rattle.olr_run.proofs.Refusing.{change_full, change_never}
+use Rattle.olr_run.proofs.Restoring.{loaded_change}
 use Rattle.olr_run.proofs.loader.Loader.change.Goals as goal
 
 pub returns-then-not-self-clause-loaded : goal.returns-then-not-self-clause-loaded
 returns-then-not-self-clause-loaded c =
-    on_ok c.change.result _ _ c.change.ensures.made (λ made.
+    IfOk-weaker c.change.result _ _ (λ _ made.
     loaded_change c.args.self.now _ (command_of c.args.command) c.requires made refl
     (λ inside. absurd (let never : true ≡ false = sym inside ∙ c.if-not-self.true in cc))
-    (λ inside. absurd (let never : true ≡ false = sym inside ∙ c.if-not-self.true in cc)))
+    (λ inside. absurd (let never : true ≡ false = sym inside ∙ c.if-not-self.true in cc))) c.change.ensures.made
 
 pub returns-clause-loaded : goal.returns-clause-loaded
 returns-clause-loaded c =
@@ -19,8 +19,8 @@ returns-clause-loaded c =
 
 pub returns-then-not-self-clause-refused : goal.returns-then-not-self-clause-refused
 returns-then-not-self-clause-refused c =
-    if_err c.change.result _ _ c.change.ensures.refused
-    (λ e never is. change_never c.args.self.now (command_of c.args.command) c.requires (never is))
+    IfErr-weaker c.change.result _ _
+    (λ e never is. change_never c.args.self.now (command_of c.args.command) c.requires (never is)) c.change.ensures.refused
 
 pub returns-then-self-ge-FULL-clause-refused : goal.returns-then-self-ge-FULL-clause-refused
 returns-then-self-ge-FULL-clause-refused c = λ is.

@@ -1,7 +1,7 @@
 use Rattle.std.proofs.Common.{◌-◌, ◌≤◌}
 use Rattle.olr_run.specs.Output.{records_of}
 use Rattle.olr_run.proofs.Restoring.{Loading}
-use Rattle.olr_run.proofs.loader.restore_noting.Given as goal
+use Rattle.olr_run.proofs.loader.restore.Given as goal
 
 abbrev pub invariant-records : goal.invariant-records
 invariant-records l = record {

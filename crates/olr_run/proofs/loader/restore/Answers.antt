@@ -1,14 +1,14 @@
-use Rattle.std.proofs.lemmas.Result.{err_from_is_err_and}
-use Rattle.std.proofs.Common.{sym, subst, arith}
+use Rattle.std.proofs.lemmas.Result.{IfOk-weaker, IfErr-weaker, err_from_is_err_and}
+use Rattle.std.proofs.Common.{subst, arith}
 use Rattle.csv.specs.Records.{fields_of}
 use Rattle.olr_commands.specs.State.{Content}
 use Rattle.olr_register.specs.RegisterState.{Represents}
 use Rattle.olr_run.specs.Logged.{closed}
 use Rattle.olr_run.specs.Output.{records_of}
-use Rattle.olr_run.proofs.LogRecords.{one_content}
-use Rattle.olr_run.proofs.Refusing.{if_err, none_leads, open_leads}
-use Rattle.olr_run.proofs.Restoring.{if_ok, loading_start, loading_more, loading_end}
-use Rattle.olr_run.proofs.loader.restore_noting.Goals as goal
+use Rattle.olr_run.proofs.LogRecords.{is_content, same_content}
+use Rattle.olr_run.proofs.Refusing.{none_leads, open_leads}
+use Rattle.olr_run.proofs.Restoring.{loading_start, loading_more, loading_end}
+use Rattle.olr_run.proofs.loader.restore.Goals as goal
 
 pub records-init : goal.records-init
 records-init c = record {
@@ -27,23 +27,24 @@ records-preserved c = record {
 
 pub returns-clause-content : goal.returns-clause-content
 returns-clause-content c =
-    if_ok c.finish.result _ _ c.finish.ensures.finished (λ r finished.
+    IfOk-weaker c.finish.result _ _ (λ r finished.
     loading_end c.args.text.now c.records.records c.records.loader r c.records.invariant.loading
-    (rw c.if-branch.false at c.in_ok-next.ensures.takes) finished)
+    (rw c.if-branch.false at c.in_ok-next.ensures.takes) finished) c.finish.ensures.finished
 
 pub returns-clause-leads : goal.returns-clause-leads
 returns-clause-leads c =
-    if_ok c.finish.result _ _ c.finish.ensures.finished (λ r finished d l.
+    IfOk-weaker c.finish.result _ _ (λ r finished d l.
     let e =
     loading_end c.args.text.now c.records.records c.records.loader r c.records.invariant.loading
     (rw c.if-branch.false at c.in_ok-next.ensures.takes) finished in
-    subst (λ (x : Content). Represents r.kept (closed x)) (sym (one_content c.args.text.now d e.0 l e.1)) e.2)
+    subst (λ (x : Content). Represents r.kept (closed x))
+    (same_content c.args.text.now e.0 d e.1 (is_content c.args.text.now d l)) e.2) c.finish.ensures.finished
 
 pub returns-clause-refused : goal.returns-clause-refused
 returns-clause-refused c =
-    if_err c.finish.result _ _ c.finish.ensures.refused (λ e refused is.
+    IfErr-weaker c.finish.result _ _ (λ e refused is.
     open_leads c.args.text.now c.records.records c.records.loader c.records.invariant.loading
-    (rw c.if-branch.false at c.in_ok-next.ensures.takes) (refused is))
+    (rw c.if-branch.false at c.in_ok-next.ensures.takes) (refused is)) c.finish.ensures.refused
 
 pub returns-in_err-take-clause-refused : goal.returns-in_err-take-clause-refused
 returns-in_err-take-clause-refused c =
