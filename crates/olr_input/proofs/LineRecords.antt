@@ -14,6 +14,8 @@ use Rattle.olr_input.specs.LineRecords.{HasNoEnd, formless, is_rejected, line_re
 use Rattle.olr_input.specs.Lines.{BetweenRecords, is_line_end}
 use Rattle.olr_input.specs.Machine.{is_quoted, state_after}
 use Rattle.olr_input.proofs.CsvBytes.{of_byte}
+use Rattle.std.specs.List.{list_any}
+use Rattle.std.proofs.Math.Seq.{take-length}
 
 -- ---- bytes that don't end a line
 
@@ -30,29 +32,26 @@ no_end_join (b ∷ line) more none h =
     let rest = no_end_join line more parts.1 h in
     rw parts.0 rest
 
+-- no byte of the first ones passes a test, or no byte at all
+pub none_pass : (test : ℕ → Bool) (xs : List ℕ) (k : ℕ) → Nowhere (Passes test xs) 0 k → list_any test (take k xs) ≡ false
+none_pass test xs zero h = refl
+none_pass test [] (suc k) h = refl
+none_pass test (x ∷ xs) (suc k) h =
+    let plain = h 0 (omega arith) (omega arith) in
+    let rest = none_pass test xs k (λ j low high. h (suc j) (omega arith) (omega (arith, high))) in
+    grind (arith, rest, plain)
+
+pub no_pass : (test : ℕ → Bool) (xs : List ℕ) → Nowhere (Passes test xs) 0 (length xs) → list_any test xs ≡ false
+no_pass test xs h = ap (list_any test) (sym (take-length xs)) ∙ none_pass test xs (length xs) h
+
 abbrev Ends : List ℕ → ℕ → Type 0
 Ends xs k = Passes (is_byte2 line_feed carriage_return) xs k
 
 pub end_found : (xs : List ℕ) (k : ℕ) → NoneBefore (Ends xs) 0 (length xs) k → HasNoEnd (take k xs)
-end_found xs zero h = refl
-end_found [] (suc k) h = refl
-end_found (x ∷ xs) (suc k) h =
-    let plain = h.before 0 (omega arith) (omega arith) in
-    let rest = end_found xs k (
-    record {
-      low = omega arith;
-      high = omega (arith, h.high);
-      before = λ j low high. h.before (suc j) (omega arith) (omega arith);
-    }
-    ) in
-    grind (arith, rest, plain)
+end_found xs k h = none_pass is_line_end xs k h.before
 
 pub no_end_found : (xs : List ℕ) → Nowhere (Ends xs) 0 (length xs) → HasNoEnd xs
-no_end_found [] h = refl
-no_end_found (x ∷ xs) h =
-    let plain = h 0 (omega arith) (omega arith) in
-    let rest = no_end_found xs (λ j low high. h (suc j) (omega arith) (omega (arith, high))) in
-    grind (arith, rest, plain)
+no_end_found xs h = no_pass is_line_end xs h
 
 -- ---- without a quote
 
@@ -82,14 +81,8 @@ step_plain st.InComment b p h = grind (arith, cases_Bool)
 step_plain st.AfterCr b p h = grind (arith, cases_Bool, in_field_plain)
 
 pub plain_not_quoted : (s : State) → plain s ≡ true → is_quoted s ≡ false
-plain_not_quoted st.StartRecord p = refl
-plain_not_quoted st.StartField p = refl
-plain_not_quoted st.InField p = refl
-plain_not_quoted st.InQuoted p = absurd (grind arith)
-plain_not_quoted st.InEscape p = refl
-plain_not_quoted st.AfterQuote p = refl
-plain_not_quoted st.InComment p = refl
-plain_not_quoted st.AfterCr p = refl
+plain_not_quoted st.InQuoted p = absurd cc
+plain_not_quoted s p = refl
 
 stays_plain : (xs : List ℕ) (s : State) → plain s ≡ true → Nowhere (Passes (is_byte default_config.quote) xs) 0 (length xs) →
     is_quoted (state_after s xs) ≡ false
@@ -138,14 +131,11 @@ if_stays false r t g h = h
 -- what holds in each state in a record
 by_begun : (P : State → Type 0) → P st.StartField → P st.InField → P st.InQuoted → P st.AfterQuote → (s : State) →
     begun s ≡ true → P s
-by_begun P start in_it in_quotes after_it st.StartRecord at = absurd (grind arith)
 by_begun P start in_it in_quotes after_it st.StartField at = start
 by_begun P start in_it in_quotes after_it st.InField at = in_it
 by_begun P start in_it in_quotes after_it st.InQuoted at = in_quotes
-by_begun P start in_it in_quotes after_it st.InEscape at = absurd (grind arith)
 by_begun P start in_it in_quotes after_it st.AfterQuote at = after_it
-by_begun P start in_it in_quotes after_it st.InComment at = absurd (grind arith)
-by_begun P start in_it in_quotes after_it st.AfterCr at = absurd (grind arith)
+by_begun P start in_it in_quotes after_it s at = absurd cc
 
 step_stays : (s : State) (b : ℕ) → begun s ≡ true → is_line_end b ≡ false → Stays (step default_config s b)
 step_stays s b at h =

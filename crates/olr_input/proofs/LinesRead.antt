@@ -1,5 +1,5 @@
 -- The records of the lines of an input, as they are read.
-use Rattle.std.proofs.Common.{◌≡◌, ◌≢◌, ◌∙◌, ◌+◌, ◌<◌, ◌≤◌, ◌==◌, ℕ, Bool, true, false, List, [], ◌∷◌, ◌++◌}
+use Rattle.std.proofs.Common.{◌≡◌, ◌≢◌, ◌∙◌, ◌+◌, ◌<◌, ◌≤◌, ℕ, Bool, true, false, List, [], ◌∷◌, ◌++◌}
 use Rattle.std.proofs.Common.{length, take, drop, map, Some, None, inl, inr, refl, sym, ap, subst, arith, length-append}
 use Rattle.std.proofs.Common.{get_or}
 use Rattle.std.proofs.lemmas.List.{append-nil, append_assoc, take-append-drop, map-append}
@@ -13,8 +13,8 @@ use Rattle.olr_input.specs.Sessions.{Known}
 use Rattle.olr_input.specs.declared.blocks.Blocks.{Blocks}
 use Rattle.olr_input.specs.declared.line_records.LineRecords.{LineRecords}
 use Rattle.std.specs.Io.KnownBytes.{IsAtEnd, prepend_known}
-use Rattle.olr_input.proofs.CsvBytes.{at}
-use Rattle.olr_input.proofs.LineRecords.{no_end_parts, no_end_join, rejected_record}
+use Rattle.olr_input.proofs.CsvBytes.{at, no_mark}
+use Rattle.olr_input.proofs.LineRecords.{IsEnd, end_of, no_end_parts, no_end_join, rejected_record}
 
 abbrev Records : List (List ℕ) → List (List (List ℕ))
 Records lines = map line_record lines
@@ -46,43 +46,6 @@ lines_last line none = ap lines_of (sym (append-nil line)) ∙ line_goes_on line
 
 -- ---- a byte order mark
 
-no_mark_byte : (e : ℕ) → is_line_end e ≡ true →
-    ((e == 0xEF) ≡ false) × ((e == 0xBB) ≡ false) × ((e == 0xBF) ≡ false)
-no_mark_byte e end = by_feed (e == 10) (e == 13) refl refl
-  where
-    by_feed : (feed return : Bool) → (e == 10) ≡ feed → (e == 13) ≡ return →
-        ((e == 0xEF) ≡ false) × ((e == 0xBB) ≡ false) × ((e == 0xBF) ≡ false)
-    by_feed true return f r = let is : e ≡ 10 = grind arith in rw is (refl, refl, refl)
-    by_feed false true f r = let is : e ≡ 13 = grind arith in rw is (refl, refl, refl)
-    by_feed false false f r = absurd (grind arith)
-
-strip_ended : (line : List ℕ) (e : ℕ) (rest : List ℕ) → is_line_end e ≡ true →
-    strip_bom (line ++ e ∷ rest) ≡ strip_bom line ++ e ∷ rest
-unfolding strip_bom
-strip_ended [] e [] end = refl
-strip_ended [] e (x ∷ []) end = refl
-strip_ended [] e (x ∷ y ∷ rest) end = let no = no_mark_byte e end in rw no.0 refl
-strip_ended (a ∷ []) e [] end = refl
-strip_ended (a ∷ []) e (x ∷ rest) end = let no = no_mark_byte e end in by_first (a == 0xEF) refl no.1
-  where
-    by_first : (f : Bool) → (a == 0xEF) ≡ f → (e == 0xBB) ≡ false → strip_bom (a ∷ e ∷ x ∷ rest) ≡ a ∷ e ∷ x ∷ rest
-    by_first true f n = rw (f, n) refl
-    by_first false f n = rw f refl
-strip_ended (a ∷ b ∷ []) e rest end = let no = no_mark_byte e end in by_first (a == 0xEF) (b == 0xBB) refl refl no.2
-  where
-    by_first : (f g : Bool) → (a == 0xEF) ≡ f → (b == 0xBB) ≡ g → (e == 0xBF) ≡ false →
-        strip_bom (a ∷ b ∷ e ∷ rest) ≡ a ∷ b ∷ e ∷ rest
-    by_first true true f g n = rw (f, g, n) refl
-    by_first true false f g n = rw (f, g) refl
-    by_first false g f h n = rw f refl
-strip_ended (a ∷ b ∷ c ∷ line) e rest end = by_mark (is_bom a b c) refl
-  where
-    by_mark : (m : Bool) → is_bom a b c ≡ m →
-        (if is_bom a b c then line ++ e ∷ rest else a ∷ b ∷ c ∷ (line ++ e ∷ rest))
-        ≡ (if is_bom a b c then line else a ∷ b ∷ c ∷ line) ++ e ∷ rest
-    by_mark true m = rw m refl
-    by_mark false m = rw m refl
-
 -- of bytes that are more than a mark
 pub record Stripped (line : List ℕ) : Type 0 where
   pub more : (rest : List ℕ) → strip_bom (line ++ rest) ≡ strip_bom line ++ rest
@@ -105,6 +68,18 @@ stripped (a ∷ b ∷ c ∷ line) some = record { more = by_more (is_bom a b c) 
         length (a ∷ b ∷ c ∷ line) ≤ length (if is_bom a b c then line else a ∷ b ∷ c ∷ line) + 3
     by_size true m = rw m (omega arith)
     by_size false m = rw m (omega arith)
+
+no_mark_with : (a b e : ℕ) → IsEnd e → (is_bom e a b ≡ false) × (is_bom a e b ≡ false) × (is_bom a b e ≡ false)
+no_mark_with a b e (inl is) = rw is (refl, grind arith, grind arith)
+no_mark_with a b e (inr is) = rw is (refl, grind arith, grind arith)
+
+strip_ended : (line : List ℕ) (e : ℕ) (rest : List ℕ) → is_line_end e ≡ true →
+    strip_bom (line ++ e ∷ rest) ≡ strip_bom line ++ e ∷ rest
+unfolding strip_bom
+strip_ended [] e rest end = sym (no_mark (e ∷ rest) (no_mark_with (get_or rest 0 0) (get_or rest 1 0) e (end_of e end)).0)
+strip_ended (a ∷ []) e rest end = sym (no_mark (a ∷ e ∷ rest) (no_mark_with a (get_or rest 0 0) e (end_of e end)).1)
+strip_ended (a ∷ b ∷ []) e rest end = sym (no_mark (a ∷ b ∷ e ∷ rest) (no_mark_with a b e (end_of e end)).2)
+strip_ended (a ∷ b ∷ c ∷ line) e rest end = (stripped (a ∷ b ∷ c ∷ line) (omega arith)).more (e ∷ rest)
 
 no_end_stripped : (line : List ℕ) → HasNoEnd line → HasNoEnd (strip_bom line)
 unfolding strip_bom
@@ -255,9 +230,8 @@ module _ {R : Type 0} (remaining : R → Known) (old new : LineRecords R) where
     where
       here : (rs : List (List (List ℕ))) → After i rs → left_after new.is_first [] (input_left remaining new.source) rs
       here rs h =
-          subst (λ (f : Bool). left_after f [] (input_left remaining new.source) rs) (sym later)
-          (subst (λ (b : List ℕ). left_after false [] (prepend_known b (remaining new.source.input)) rs) (sym drops)
-          (subst (λ (k : Known). left_after false [] (prepend_known (drop (i + 1) block) k) rs) (sym same) h))
+          subst (λ (x : Bool × List ℕ × Known). left_after x.0 [] (prepend_known x.1 x.2) rs)
+          (λ n. (sym later n, sym drops n, sym same n)) h
 
       goes : (k : Known) (rs : List (List (List ℕ))) → left_after old.is_first old.line.items (prepend_known block k) rs →
           (rest : List (List (List ℕ))) × (rs ≡ Records (if_any (unmarked old.is_first kept)) ++ rest)
@@ -305,8 +279,7 @@ module _ {R : Type 0} (remaining : R → Known) (old new : LineRecords R) where
           let a = all (input_left remaining old.source) rs end h in (
             [],
             a.0 ∙ is,
-            subst (λ (f : Bool). left_after f [] (input_left remaining new.source) []) (sym later)
-                (subst (λ (b : Blocks R). left_after false [] (input_left remaining b) []) (sym same) a.1),
+            subst (λ (x : Bool × Blocks R). left_after x.0 [] (input_left remaining x.1) []) (λ n. (sym later n, sym same n)) a.1,
           )
       by_found false is = λ rs h. (all (input_left remaining old.source) rs end h).0 ∙ is
 
@@ -318,10 +291,8 @@ module _ {R : Type 0} (remaining : R → Known) (old new : LineRecords R) where
   block_steps fields none clean keeps first empty same = (
     kept_clean old.line.items (block_of old.source) new.line.items none clean keeps,
     λ rs h.
-        subst (λ (f : Bool). left_after f new.line.items (input_left remaining new.source) rs) (sym first)
-        (subst (λ (b : List ℕ). left_after old.is_first new.line.items (prepend_known b (remaining new.source.input)) rs) (sym empty)
-        (subst (λ (k : Known). left_after old.is_first new.line.items (prepend_known [] k) rs) (sym same)
-        (goes (remaining old.source.input) rs h))),
+        subst (λ (x : Bool × List ℕ × Known). left_after x.0 new.line.items (prepend_known x.1 x.2) rs)
+        (λ n. (sym first n, sym empty n, sym same n)) (goes (remaining old.source.input) rs h),
   )
     where
       goes : (k : Known) (rs : List (List (List ℕ))) →

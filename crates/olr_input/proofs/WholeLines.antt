@@ -12,7 +12,7 @@ use Rattle.olr_input.specs.LineRecords.{HasNoEnd}
 use Rattle.olr_input.specs.Lines.{HasLinesUpTo, IsWhole, has_line, has_quote, is_line_end}
 use Rattle.olr_input.specs.Machine.{is_quoted, state_after}
 use Rattle.olr_input.proofs.LineRecords.{IsEnd, after, end_of, gives_one, no_end_more, plain, plain_not_quoted}
-use Rattle.olr_input.proofs.LineRecords.{skips, step_plain}
+use Rattle.olr_input.proofs.LineRecords.{skips, step_plain, no_pass, none_pass}
 use Rattle.olr_input.proofs.Writing.{rest_is}
 
 -- a line without quotes, its end, and what follows
@@ -120,20 +120,11 @@ no_line (x ∷ xs) h =
 abbrev Quotes : List ℕ → ℕ → Type 0
 Quotes xs k = Passes (is_byte default_config.quote) xs k
 
-pub no_quote_before : (xs : List ℕ) (k : ℕ) → k ≤ length xs → Nowhere (Quotes xs) 0 k → has_quote (take k xs) ≡ false
-no_quote_before xs zero within none = refl
-no_quote_before [] (suc k) within none = refl
-no_quote_before (x ∷ xs) (suc k) within none =
-    let plain = none 0 (omega arith) (omega arith) in
-    let rest = no_quote_before xs k (omega (arith, within)) (λ j low high. none (suc j) (omega arith) (omega (arith, high))) in
-    grind (arith, rest, plain)
+pub no_quote_before : (xs : List ℕ) (k : ℕ) → Nowhere (Quotes xs) 0 k → has_quote (take k xs) ≡ false
+no_quote_before xs k none = none_pass (is_byte default_config.quote) xs k none
 
 pub no_quote : (xs : List ℕ) → Nowhere (Quotes xs) 0 (length xs) → has_quote xs ≡ false
-no_quote [] none = refl
-no_quote (x ∷ xs) none =
-    let plain = none 0 (omega arith) (omega arith) in
-    let rest = no_quote xs (λ j low high. none (suc j) (omega arith) (omega (arith, high))) in
-    grind (arith, rest, plain)
+no_quote xs none = no_pass (is_byte default_config.quote) xs none
 
 pub none_up_to : (xs : List ℕ) → HasLinesUpTo 0 xs
 none_up_to xs = record { each = λ i low. absurd (omega arith) }

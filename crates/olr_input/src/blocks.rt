@@ -5,8 +5,7 @@ ghost use Rattle.olr_input.specs.Lines.{HasLinesUpTo};
 
 use crate::lines::{begins_with_line, last_plain_end};
 use std::alloc::{AllocError, Global};
-use std::io;
-use std::io::Read;
+use std::io::{self, Read};
 
 /// The most bytes that are read at once, 256 KB.
 const BLOCK: usize = 1 << 18;

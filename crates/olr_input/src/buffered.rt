@@ -6,11 +6,7 @@ ghost use Rattle.olr_input.specs.Sessions.{most_pending};
 
 use crate::ends::RunFault;
 use std::alloc::{AllocError, Global};
-use std::io;
-use std::io::{ErrorKind, Write};
-
-/// The most bytes that are held back, 64 KB.
-const MOST_PENDING: usize = 1 << 16;
+use std::io::{self, ErrorKind, Write};
 
 /// An output that holds back what is written, at most 64 KB of it, until it is flushed. It sends nothing by itself, not
 /// even when it is dropped, and nothing more once its device has failed.
@@ -47,6 +43,9 @@ pub(crate) fn remove_front(bytes: &mut Vec<u8>, count: usize)
     bytes.as_mut_slice().copy_within(count..len, 0);
     bytes.truncate(len - count);
 }
+
+/// The most bytes that are held back, 64 KB.
+const MOST_PENDING: usize = 1 << 16;
 
 impl<W: Write + Drop> Buffered<W> {
     ghost use Rattle.std.specs.Prelude.{◌++◌, OnErr};

@@ -11,27 +11,20 @@ use Rattle.olr_input.proofs.in_memory.InMemorySource.next.Goals as goal
 rest_is : (n : ℕ) (xs : List ℕ) → drop n xs ≡ take (length xs - n) (drop n xs)
 rest_is n xs = sym (ap (λ (k : ℕ). take k (drop n xs)) (sym (length-drop n xs)) ∙ take-length (drop n xs))
 
-pub returns-in-Ok-Some-clause-takes : goal.returns-in-Ok-Some-clause-takes
-returns-in-Ok-Some-clause-takes c =
+pub returns-in-Ok-Some : goal.returns-in-Ok-Some
+returns-in-Ok-Some c =
     let m = c.args.self.now in
     let fields = fields_of c.first_record.new.row in
     let end = c.in-Ok-Some.end in
     let state = csv_state c.in-Ok-Some.state in
     let one : (end ≤ length m.rest.now) × (next_record default_config (csv_state m.state) [] [] m.rest.now ≡ Some (fields, state, drop end m.rest.now)) =
     rw c.in-Ok-Some.field-0-is at c.in-Ok-Some.ensures in
-    rw c.if-self.false
-    (subst (λ (xs : List ℕ). TakesOne (Are (csv_state m.state) m.rest.now) (Are state xs) fields) (rest_is end m.rest.now)
-    (one_taken (csv_state m.state) state m.rest.now (drop end m.rest.now) fields one.1))
-
-pub returns-in-Ok-Some-clause-after : goal.returns-in-Ok-Some-clause-after
-returns-in-Ok-Some-clause-after c = λ _.
-    let m = c.args.self.now in
-    let fields = fields_of c.first_record.new.row in
-    let end = c.in-Ok-Some.end in
-    let state = csv_state c.in-Ok-Some.state in
-    let one : (end ≤ length m.rest.now) × (next_record default_config (csv_state m.state) [] [] m.rest.now ≡ Some (fields, state, drop end m.rest.now)) =
-    rw c.in-Ok-Some.field-0-is at c.in-Ok-Some.ensures in
-    one.1 ∙ ap (λ (xs : List ℕ). Some (fields, state, xs)) (rest_is end m.rest.now)
+    record {
+      takes = rw c.if-self.false
+          (subst (λ (xs : List ℕ). TakesOne (Are (csv_state m.state) m.rest.now) (Are state xs) fields) (rest_is end m.rest.now)
+          (one_taken (csv_state m.state) state m.rest.now (drop end m.rest.now) fields one.1));
+      after = λ _. one.1 ∙ ap (λ (xs : List ℕ). Some (fields, state, xs)) (rest_is end m.rest.now);
+    }
 
 pub returns-in-Ok-None-clause-takes : goal.returns-in-Ok-None-clause-takes
 returns-in-Ok-None-clause-takes c =
