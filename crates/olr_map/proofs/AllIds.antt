@@ -1,47 +1,39 @@
 -- The numbers of all nodes and of all lines, collected slot by slot and node by node, and then sorted.
-use Rattle.olr_map.proofs.Common.{inl, inr, ◌⊎◌, ◌≡◌, ◌==◌, ℕ, ◌+◌, ◌<◌, zero, suc, true, false, List, [], ◌∷◌, ◌++◌}
-use Rattle.olr_map.proofs.Common.{map, length, get_or, take, Option, Some, None, is_some, nat_cmp, unwrap_or, refl, sym}
-use Rattle.olr_map.proofs.Common.{ap, ◌∙◌, subst, arith, option_map, flat_map, AllByRecursion, some_of}
-use Rattle.olr_map.proofs.Common.{FinMap, get, entries, get-entries, eq-eqb, ne_eqb, or_cases, or_left}
-use Rattle.olr_map.proofs.Common.{or_right, IsDistinct-head, IsDistinct-tail}
-use Rattle.olr_map.proofs.Common.{IsStrictlyIncreasing-from_sorted, Map, IsMap, Line, has, has_node, has_line, no_line}
-use Rattle.olr_map.proofs.Common.{lines_out, has_here, ascend_out, at, present, slot_by, rows, slots_of, RoadMap}
-use Rattle.olr_map.proofs.Common.{tables_map, node_slots, all_held, Links, NodeEntry, same_Some, common_steps, Coord}
-use Rattle.std.proofs.Common.{◌≢◌}
-use Rattle.std.specs.List.{IsDistinct}
+use Rattle.olr_map.proofs.Common.{AllByRecursion, common_steps, get-entries, keys_sorted, exactly_out, option_map, ◌==◌}
+use Rattle.olr_map.proofs.Common.{ascend_out, tables_map, node_slots, unwrap_or, lines_out, NodeEntry, same_Some, false}
+use Rattle.olr_map.proofs.Common.{both_ways, take_more, has_there, has_cases, Each-from, flat_map, or_cases, or_right}
+use Rattle.olr_map.proofs.Common.{has_node, has_line, has_here, slots_of, all_held, is_some, nat_cmp, some_of, entries}
+use Rattle.olr_map.proofs.Common.{or_left, no_line, present, slot_by, RoadMap, Each-to, length, get_or, Option, FinMap}
+use Rattle.olr_map.proofs.Common.{eq-eqb, ne_eqb, subst, arith, IsMap, Links, Coord, true, List, ◌++◌, take, Some, None}
+use Rattle.olr_map.proofs.Common.{refl, Line, rows, ◌≡◌, ◌+◌, ◌<◌, ◌∷◌, map, sym, ◌∙◌, get, Map, has, [], ap, at, ℕ}
+use Rattle.std.proofs.Common.{inl, inr, ◌⊎◌, zero, suc, ◌≢◌, ◌↔◌}
+use Rattle.std.proofs.lemmas.Map.Keys.{IsDistinct-head, IsDistinct-tail, IsStrictlyIncreasing-from_sorted}
+use Rattle.std.proofs.lemmas.Map.Keys.{IsDistinct-cons, IsDistinct-IsPermutation, IsStrictlyIncreasing-from_distinct}
+use Rattle.std.specs.List.{IsDistinct, slice_get}
 use Rattle.std.specs.List.Sorted.{IsPermutation, IsSortedByKey}
-use Rattle.std.specs.Cmp.{both_ways}
 use Rattle.std.specs.FinMap.{entries_sorted}
 use Rattle.std.specs.FinMap.Entries.{is_some-find}
-use Rattle.std.proofs.lemmas.List.{take_more}
 use Rattle.std.proofs.lemmas.List.Folds.{list_any-append}
 use Rattle.std.proofs.lemmas.List.Sorted.{IsNonDecreasingBy-from_sort, list_any-IsPermutation}
-use Rattle.std.proofs.lemmas.Map.Keys.{IsDistinct-cons, IsDistinct-IsPermutation, IsStrictlyIncreasing-from_distinct}
-use Rattle.olr_spec.proofs.ListLemmas.{has_there, has_cases}
-use Rattle.olr_spec.proofs.MapLemmas.{keys_sorted}
-use Rattle.olr_spec.proofs.OrderLemmas.{exactly_out}
+use Rattle.std.proofs.lemmas.List.Elements.{filter_map-append}
 use Rattle.std.proofs.lemmas.Cmp.{eq_by_cmp_equiv}
 use Rattle.olr_map.proofs.Lookups.{eqb_flip}
 use Rattle.olr_spec.proofs.SameNumbers.{distinct_from_ascending, same_ascending}
 use Rattle.olr_map.proofs.Reading.{slot_of, id_has, entry_at, node_read}
 use Rattle.olr_map.proofs.ColumnLemmas.{inside, place_at}
-use Rattle.std.specs.List.{slice_get}
-use Rattle.std.proofs.Common.{◌↔◌}
 use Rattle.std.proofs.lemmas.Option.{get_or_from_slice_get, slice_get-get_or}
 
 -- ---- lists of numbers
 
 -- a number that differs from each of a list
 none_equal : (x : ℕ) (ys : List ℕ) → ((y : ℕ) → has ys y ≡ true → x ≢ y) → AllByRecursion (λ (y : ℕ). (x == y) ≡ false) ys
-none_equal x [] h = tt
-none_equal x (y ∷ ys) h = (
-  ne_eqb x y (h y (has_here y ys)),
-  none_equal x ys (λ z i. h z (has_there y ys z i)),
-)
+none_equal x ys h = Each-to (λ (y : ℕ). (x == y) ≡ false) ys (λ y i. ne_eqb x y (h y i))
 
 not_among : (x : ℕ) (ys : List ℕ) → AllByRecursion (λ (y : ℕ). (x == y) ≡ false) ys → has ys x ≡ true → ⊥
-not_among x [] a h = absurd cc
-not_among x (y ∷ ys) a h = let later = not_among x ys a.1 in grind (arith, common_steps, has_cases, eq-eqb, later)
+not_among x ys a h =
+    let no : (x == x) ≡ false = Each-from (λ (y : ℕ). (x == y) ≡ false) ys a x h in
+    let same = eq-eqb x x refl in
+    cc
 
 in_either : (xs ys : List ℕ) (y : ℕ) → has (xs ++ ys) y ≡ true → (has xs y ≡ true) ⊎ (has ys y ≡ true)
 in_either xs ys y h = grind (arith, common_steps, list_any-append, or_cases)
@@ -90,9 +82,7 @@ id_of_row (v ∷ vs) (x ∷ cs) (o ∷ os) (i ∷ is) a b c (suc p) =
     id_of_row vs cs os is (omega arith) (omega arith) (omega arith) p
 
 present_append : (xs ys : List (Option ℕ)) → present (xs ++ ys) ≡ present xs ++ present ys
-present_append [] ys = refl
-present_append (None ∷ xs) ys = present_append xs ys
-present_append (Some x ∷ xs) ys = ap (λ (hs : List ℕ). x ∷ hs) (present_append xs ys)
+present_append xs ys = filter_map-append (λ o. o) xs ys
 
 -- the numbers with that of one slot more
 pub ids_more : (hs : List (Option ℕ)) (k : ℕ) (h : Option ℕ) → k < length hs → h ≡ get_or hs k h

@@ -6,13 +6,8 @@ use Rattle.olr_map.proofs.Common.{Links, ℕ, ◌<◌, ◌≤◌, [], sym, ap, �
 use Rattle.olr_map.proofs.Common.{pairs_of, spare_of, all_held, links_at, lines_on, lines_at, links_in, map_from}
 use Rattle.olr_map.proofs.Common.{length, FinMap, lookup, eq-eqb, slot_by, in_slot, IsListed, room_of, room_at, RoadMap}
 use Rattle.olr_map.proofs.Common.{eqb-true, same_Some, node_room, node_slot, IsIndexed, AreTables, NodeSlots, LineTable}
+use Rattle.olr_map.proofs.Common.{from_entries, empty_map, empty_sound, coord_in, and_from, and_parts, IsRoomier}
 use Rattle.std.specs.Ordering.{nat_cmp}
-use Rattle.std.specs.FinMap.{from_entries}
-use Rattle.olr_spec.specs.Map.{empty_map}
-use Rattle.olr_spec.proofs.UndoLemmas.{empty_sound}
-use Rattle.olr_map.specs.Tables.{coord_in}
-use Rattle.std.proofs.lemmas.Bool.{and_from, and_parts}
-use Rattle.olr_map.specs.Linked.{IsRoomier}
 use Rattle.olr_map.proofs.ColumnLemmas.{few_nodes}
 use Rattle.olr_map.proofs.Lookups.{all_get, same_answers}
 use Rattle.olr_map.proofs.Blocking.{listed_found}

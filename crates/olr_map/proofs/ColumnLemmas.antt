@@ -1,13 +1,10 @@
 -- Nodes in columns: values are added to, removed from and replaced in their slots.
-use Rattle.olr_map.proofs.Common.{◌≡◌, ◌==◌, ℕ, ◌+◌, ◌<◌, ◌≤◌, ◌^◌, zero, suc, true, cond, List, [], ◌∷◌, ◌++◌}
-use Rattle.olr_map.proofs.Common.{Option, Some, None, is_some, length, get_or, set, vec_len, refl, sym, ap, ◌∙◌, subst}
-use Rattle.olr_map.proofs.Common.{arith, cond-true, eq-eqb, length-set, length_push, same_Some, at, IsWritten}
-use Rattle.olr_map.proofs.Common.{IsInserted, IsRemoved, IsReplaced, slots_of, rows, node_slots, links_at, with_links}
-use Rattle.olr_map.proofs.Common.{IsRelinked, sides, Links, NodeEntry, NodeSlots, Side, Out, In, common_steps, Coord}
-use Rattle.std.proofs.Common.{nat_lt}
-use Rattle.std.proofs.lemmas.Bool.{cases_lt, lt-ltb, le-ltb}
-use Rattle.olr_map.specs.Slabs.{Fills}
-use Rattle.olr_map.specs.Columns.{entry_of}
+use Rattle.olr_map.proofs.Common.{common_steps, length_push, length-set, IsInserted, IsReplaced, node_slots, with_links}
+use Rattle.olr_map.proofs.Common.{IsRelinked, cond-true, same_Some, IsWritten, IsRemoved, NodeEntry, NodeSlots, is_some}
+use Rattle.olr_map.proofs.Common.{slots_of, links_at, cases_lt, entry_of, vec_len, Option, length, get_or, eq-eqb, ◌==◌}
+use Rattle.olr_map.proofs.Common.{lt-ltb, le-ltb, subst, arith, sides, Links, Coord, Fills, true, cond, List, ◌++◌, ◌≡◌}
+use Rattle.olr_map.proofs.Common.{Some, None, refl, rows, Side, ◌+◌, ◌<◌, ◌≤◌, ◌∷◌, sym, ◌∙◌, Out, [], ap, at, In, ℕ}
+use Rattle.std.proofs.Common.{◌^◌, zero, suc, set, nat_lt}
 use Rattle.olr_map.specs.declared.slab.Slab.{Slab}
 use Rattle.olr_map.proofs.Lookups.{unchanged_at}
 use Rattle.olr_map.proofs.SlotLemmas.{some_within, few_slots, get_or-written, get_or-pushed}

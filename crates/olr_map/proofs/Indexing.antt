@@ -1,9 +1,9 @@
 -- Numbers and slots that refer to each other, after the entry of one node is added, removed or replaced.
-use Rattle.olr_map.proofs.Common.{◌≡◌, ◌==◌, ◌&&◌, ◌⊎◌, ℕ, Bool, true, false, cond, List, Option, Some, None, refl, sym}
-use Rattle.olr_map.proofs.Common.{ap, ◌∙◌, inl, inr, option_map, eq-eqb, ne_eqb, cond-true, cond-false, same_Some}
-use Rattle.olr_map.proofs.Common.{Coord, slot_by, at, IsWritten, in_slot, links_at, with_links, IsRelinked, node_in}
-use Rattle.olr_map.proofs.Common.{links_in, IsIndexed, SlotIndex, Links, NodeEntry, Side, Out, In, common_steps, arith}
-use Rattle.std.proofs.Common.{eqb-true}
+use Rattle.olr_map.proofs.Common.{◌≡◌, ◌==◌, ◌&&◌, ℕ, Bool, true, false, cond, List, Option, Some, None, refl, sym, ap}
+use Rattle.olr_map.proofs.Common.{◌∙◌, option_map, eq-eqb, ne_eqb, cond-true, cond-false, same_Some, Coord, slot_by, at}
+use Rattle.olr_map.proofs.Common.{IsWritten, in_slot, links_at, with_links, IsRelinked, node_in, links_in, IsIndexed}
+use Rattle.olr_map.proofs.Common.{SlotIndex, Links, NodeEntry, Side, Out, In, common_steps, arith}
+use Rattle.std.proofs.Common.{◌⊎◌, inl, inr, eqb-true}
 use Rattle.olr_map.proofs.Lookups.{over_cond, unchanged_at}
 
 abbrev pub id_of : NodeEntry → ℕ

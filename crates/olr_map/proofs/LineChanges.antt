@@ -1,14 +1,14 @@
 -- A line is added, removed and set.
-use Rattle.olr_map.proofs.Common.{◌≡◌, ◌==◌, ℕ, ◌+◌, ◌<◌, ◌≤◌, true, false, cond, Option, Some, None, refl, sym, ap}
-use Rattle.olr_map.proofs.Common.{◌∙◌, length, subst, arith, option_map, option_map_or, IsStrictlyIncreasing, FinMap}
-use Rattle.olr_map.proofs.Common.{get, cond-true, eqb-true, eq-eqb, same_Some, Map, IsMap, Line, has_line, line_at, has}
-use Rattle.olr_map.proofs.Common.{has-lines_where, some_of, back_of, slot_by, held, is_some, all_held, spare_numbers}
-use Rattle.olr_map.proofs.Common.{in_slot, node_slots, node_room, links_at, IsRelinked, lines_on, links_room, IsPut}
-use Rattle.olr_map.proofs.Common.{sides, near, far, lines_at, node_in, links_in, map_from, node_slot, IsListed}
-use Rattle.olr_map.proofs.Common.{IsIndexed, AreTables, Room, tables_map, room_of, room_at, change_edit, CanMake}
-use Rattle.olr_map.proofs.Common.{HasRoomFor, IsWhole, map_after, room_after, IsRoomWithin, IsChangeMade, line_puts}
-use Rattle.olr_map.proofs.Common.{SlotIndex, Links, LineEnd, NodeSlots, Side, Out, In, LineTable, RoadMap}
-use Rattle.olr_map.proofs.Common.{TableChange, PutLine, SetLine, TakeLine, common_steps}
+use Rattle.olr_map.proofs.Common.{has-lines_where, option_map_or, spare_numbers, IsRoomWithin, common_steps, option_map}
+use Rattle.olr_map.proofs.Common.{TableChange, node_slots, IsRelinked, links_room, tables_map, HasRoomFor, cond-true, ℕ}
+use Rattle.olr_map.proofs.Common.{same_Some, node_room, node_slot, IsIndexed, AreTables, SlotIndex, NodeSlots, eqb-true}
+use Rattle.olr_map.proofs.Common.{LineTable, has_line, all_held, links_at, lines_on, lines_at, links_in, map_from, ◌==◌}
+use Rattle.olr_map.proofs.Common.{IsListed, TakeLine, line_at, some_of, back_of, slot_by, is_some, in_slot, node_in, ap}
+use Rattle.olr_map.proofs.Common.{room_of, room_at, LineEnd, RoadMap, PutLine, SetLine, Option, length, FinMap, eq-eqb}
+use Rattle.olr_map.proofs.Common.{false, subst, arith, IsMap, IsPut, sides, Links, true, cond, Some, None, refl, Line}
+use Rattle.olr_map.proofs.Common.{held, near, Room, Side, ◌≡◌, ◌+◌, ◌<◌, ◌≤◌, sym, ◌∙◌, get, Map, has, far, Out, In}
+use Rattle.std.specs.List.Sorted.{IsStrictlyIncreasing}
+use Rattle.olr_map.specs.Changes.{change_edit, CanMake, IsWhole, map_after, room_after, IsChangeMade, line_puts}
 use Rattle.std.specs.Ordering.{nat_cmp}
 use Rattle.olr_map.specs.NodeLinks.{CanPutEnd}
 use Rattle.olr_map.proofs.ColumnLemmas.{few_nodes}

@@ -1,22 +1,19 @@
 -- The lines of a node with their far ends, after a line is added, removed or set, and after nodes are added or removed.
-use Rattle.olr_map.proofs.Common.{common_steps, false, put_ascends, has-lines_where, ascend_out, links_room, map-append}
-use Rattle.olr_map.proofs.Common.{◌≡◌, ◌||◌, zero, suc, ◌<◌, Bool, true, cond, List, Some, None, refl, Line, near, Side}
-use Rattle.olr_map.proofs.Common.{◌==◌, ◌&&◌, arith, FinMap, eq-eqb, ne_eqb, Coord, IsMap, in_use, end_at, IsPut, Links}
-use Rattle.olr_map.proofs.Common.{ℕ, ◌∷◌, map, set, Ok, Err, sym, ap, ◌∙◌, get, Map, has, far, Out, In}
-use Rattle.olr_map.proofs.Common.{[], unwrap_or, has_node, place_of, place_not, passes_at, lines_at, IsListed, lines_on}
-use Rattle.olr_map.proofs.Common.{Option, is_some, length, get_or, Result, remove, line_at, no_line, ends_on, LineEnd}
-use Rattle.olr_map.proofs.Common.{option_map, IsStrictlyIncreasing, sorted_from_strictly_increasing}
-use Rattle.std.proofs.Common.{not}
-use Rattle.std.specs.List.{insert}
-use Rattle.std.specs.List.Sorted.{IsStrictlySortedBy, IsBinarySearchResult}
+use Rattle.olr_map.proofs.Common.{sorted_from_strictly_increasing, has-lines_where, common_steps, ascend_out, unwrap_or}
+use Rattle.olr_map.proofs.Common.{links_room, option_map, place_not, passes_at, ascend_in, has_node, place_of, lines_at}
+use Rattle.olr_map.proofs.Common.{IsListed, lines_on, map_same, is_some, line_at, no_line, ends_on, LineEnd, FinMap, Ok}
+use Rattle.olr_map.proofs.Common.{eq-eqb, ne_eqb, in_use, end_at, Option, length, get_or, Result, false, arith, Coord}
+use Rattle.olr_map.proofs.Common.{IsMap, IsPut, Links, ◌||◌, Bool, true, cond, List, Some, None, refl, Line, near, Side}
+use Rattle.olr_map.proofs.Common.{◌==◌, ◌&&◌, ◌≡◌, ◌<◌, ◌∷◌, map, Err, sym, ◌∙◌, get, Map, has, far, Out, ap, In, [], ℕ}
+use Rattle.olr_spec.proofs.AscendingLists.{put_ascends, has-insert, has-remove, has_at, ascends-remove}
+use Rattle.std.proofs.lemmas.List.{map-append, take-map, drop-map}
+use Rattle.std.proofs.Common.{zero, suc, set, not}
+use Rattle.std.specs.List.{remove, insert}
+use Rattle.std.specs.List.Sorted.{IsStrictlyIncreasing, IsStrictlySortedBy, IsBinarySearchResult}
 use Rattle.std.specs.Ordering.{nat_cmp}
-use Rattle.olr_spec.proofs.AscendingLists.{has-insert, has-remove, has_at, ascends-remove}
-use Rattle.olr_spec.proofs.ListLemmas.{map_same}
-use Rattle.olr_spec.proofs.OrderLemmas.{ascend_in}
 use Rattle.olr_map.proofs.Lookups.{over_cond, unchanged_at}
 use Rattle.olr_spec.proofs.SameNumbers.{above, same_ascending}
 use Rattle.olr_map.proofs.LineRecords.{none_passes, used_by, other_node, line_starts, line_ends}
-use Rattle.std.proofs.lemmas.List.{take-map, drop-map}
 
 -- ---- lists
 

@@ -1,9 +1,8 @@
 -- Changes that can be made with some capacity can be made with more.
-use Rattle.olr_map.proofs.Common.{IsRoomWithin, common_steps, TableChange, change_edit, CanMakeAll, HasRoomFor, CanMake}
-use Rattle.olr_map.proofs.Common.{changed_at, room_after, map_after, made_all, reverse, edited, arith, subst, IsOk, Map}
-use Rattle.olr_map.proofs.Common.{List, Room, Side, ◌++◌, sym, ◌∙◌, ◌∷◌, ◌≡◌, ◌≤◌, Ok, [], ap, ℕ, RoadMap, tables_map}
-use Rattle.olr_map.proofs.Common.{has_node, node_puts, cases_eq, ◌+◌}
-use Rattle.olr_map.specs.Changes.{AddsNoNode, KeepsSlots, all_node_puts}
+use Rattle.olr_map.proofs.Common.{IsRoomWithin, common_steps, TableChange, CanMakeAll, HasRoomFor, made_all, reverse}
+use Rattle.olr_map.proofs.Common.{edited, arith, subst, IsOk, Map, List, Room, Side, ◌++◌, sym, ◌∙◌, ◌∷◌, ◌≡◌, ◌≤◌, Ok}
+use Rattle.olr_map.proofs.Common.{[], ap, ℕ, RoadMap, tables_map, has_node, cases_eq, ◌+◌, AddsNoNode, all_node_puts}
+use Rattle.olr_map.specs.Changes.{change_edit, CanMake, changed_at, room_after, map_after, node_puts, KeepsSlots}
 use Rattle.olr_spec.proofs.EditLemmas.{got_other, left_other, left_same}
 use Rattle.std.specs.Prelude.{IsTrue}
 use Rattle.std.proofs.lemmas.List.{reverse-append}
@@ -46,9 +45,6 @@ done_by M K N e c same mid accepted is = grind (arith, common_steps, made_ok)
 
 -- ---- one more edit in a log
 
-pub last_first : (xs : List TableChange) (c : TableChange) → reverse (xs ++ c ∷ []) ≡ c ∷ reverse xs
-last_first xs c = reverse-append xs (c ∷ [])
-
 pub one_more : (M N : Map) (R S : Room) (c : TableChange) (cs : List TableChange) → CanMakeAll M R cs → CanMake N S c →
     map_after N c ≡ M → IsRoomWithin R (room_after S c) → CanMakeAll N S (c ∷ cs)
 one_more M N R S c cs all can back within = (can, all_on M (map_after N c) R (room_after S c) cs back within all)
@@ -56,7 +52,7 @@ one_more M N R S c cs all can back within = (can, all_on M (map_after N c) R (ro
 -- ---- the last edit of a log
 
 pub last_of : (xs ys : List TableChange) (c : TableChange) → xs ≡ ys ++ c ∷ [] → reverse xs ≡ c ∷ reverse ys
-last_of xs ys c e = grind (arith, common_steps, last_first)
+last_of xs ys c e = ap (λ (cs : List TableChange). reverse cs) e ∙ reverse-append ys (c ∷ [])
 
 -- once it is undone, the others can be undone
 pub rest_can : (M N : Map) (R S : Room) (c : TableChange) (cs ds : List TableChange) → ds ≡ c ∷ cs → CanMakeAll M R ds →

@@ -1,14 +1,11 @@
 -- An accepted change has a map as its result, and the change that undoes it can be made there.
 use Rattle.olr_map.proofs.Common.{◌≡◌, ℕ, ◌+◌, ◌≤◌, Result, Ok, IsOk, sym, ap, ◌∙◌, subst, arith, eqb-true, Map, IsMap}
-use Rattle.olr_map.proofs.Common.{edited, back_of, spare_of, spare_numbers, change_edit, changed_at, map_after}
-use Rattle.olr_map.proofs.Common.{tables_map, room_of, room_after, CanMake, HasRoomFor, IsWhole, IsRoomWithin}
-use Rattle.olr_map.proofs.Common.{IsChangeMade, node_puts, line_puts, TableChange, RoadMap, common_steps}
+use Rattle.olr_map.proofs.Common.{edited, back_of, spare_of, spare_numbers, tables_map, room_of, HasRoomFor}
+use Rattle.olr_map.proofs.Common.{IsRoomWithin, TableChange, RoadMap, common_steps, HasCoord, takes_back, is_ok_of}
+use Rattle.olr_map.specs.Changes.{change_edit, changed_at, map_after, room_after, CanMake, IsWhole, IsChangeMade}
+use Rattle.olr_map.specs.Changes.{node_puts, line_puts, KeepsSlots}
 use Rattle.std.specs.Result.{result_unwrap_or}
-use Rattle.olr_spec.specs.Map.{HasCoord}
-use Rattle.olr_map.specs.Changes.{KeepsSlots}
 use Rattle.olr_spec.proofs.EditLemmas.{Made, made_by, edits_keep}
-use Rattle.olr_spec.proofs.UndoLemmas.{takes_back}
-use Rattle.olr_spec.proofs.OptionLemmas.{is_ok_of}
 use Rattle.olr_spec.specs.Map as map
 
 -- an accepted edit has a map as its result

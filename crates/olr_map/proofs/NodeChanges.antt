@@ -1,18 +1,16 @@
 -- A node is added, removed and moved.
-use Rattle.olr_map.proofs.Common.{◌≡◌, ◌==◌, ℕ, ◌+◌, ◌<◌, ◌≤◌, true, false, cond, [], map, Option, Some, None}
-use Rattle.olr_map.proofs.Common.{unwrap_or, length, refl, sym, ap, ◌∙◌, subst, arith, option_map, option_map_or}
-use Rattle.olr_map.proofs.Common.{FinMap, get, eqb-true, nil_from_length, same_Some, Coord, Map, IsMap, Line, has_node}
-use Rattle.olr_map.proofs.Common.{no_coord, has-lines_where, passed_line, slot_by, spare_of, IsWritten, IsInserted}
-use Rattle.olr_map.proofs.Common.{IsRemoved, IsReplaced, all_held, node_slots, node_room, links_at, lines_on, ends_on}
-use Rattle.olr_map.proofs.Common.{links_room, room_kept, sides, near, far, node_in, links_in, map_from, node_slot}
-use Rattle.olr_map.proofs.Common.{lines_at, end_at, IsListed, IsIndexed, AreTables, tables_map, room_of, room_at}
-use Rattle.olr_map.proofs.Common.{changed_at, CanMake, IsRoomWithin, map_after, IsChangeMade, SlotIndex, Links}
-use Rattle.olr_map.proofs.Common.{NodeEntry, NodeSlots, Side, Out, In, RoadMap, PutNode, MoveNode, TakeNode}
-use Rattle.olr_map.proofs.Common.{common_steps}
-use Rattle.std.proofs.Common.{length-take-le}
+use Rattle.olr_map.proofs.Common.{nil_from_length, has-lines_where, length-take-le, option_map_or, IsRoomWithin, Option}
+use Rattle.olr_map.proofs.Common.{common_steps, passed_line, option_map, IsInserted, IsReplaced, node_slots, links_room}
+use Rattle.olr_map.proofs.Common.{tables_map, unwrap_or, same_Some, IsWritten, IsRemoved, node_room, node_slot, slot_by}
+use Rattle.olr_map.proofs.Common.{IsIndexed, AreTables, SlotIndex, NodeEntry, NodeSlots, eqb-true, has_node, no_coord}
+use Rattle.olr_map.proofs.Common.{spare_of, all_held, links_at, lines_on, links_in, map_from, lines_at, IsListed, false}
+use Rattle.olr_map.proofs.Common.{coord_at, ends_on, node_in, room_of, room_at, RoadMap, length, FinMap, end_at, subst}
+use Rattle.olr_map.proofs.Common.{arith, Coord, IsMap, sides, Links, ◌==◌, true, cond, Some, None, refl, Line, near, []}
+use Rattle.olr_map.proofs.Common.{Side, ◌≡◌, ◌+◌, ◌<◌, ◌≤◌, map, sym, ◌∙◌, get, Map, far, Out, ap, In, ℕ}
+use Rattle.olr_map.specs.Linked.{room_kept, IsBare, EmptyLinks, lines_kept}
+use Rattle.olr_map.specs.Changes.{changed_at, CanMake, map_after, IsChangeMade}
+use Rattle.olr_map.specs.declared.change.TableChange.TheVariants.{PutNode, MoveNode, TakeNode}
 use Rattle.std.specs.Ordering.{nat_cmp}
-use Rattle.olr_spec.specs.Map.{coord_at}
-use Rattle.olr_map.specs.Linked.{IsBare, EmptyLinks, lines_kept}
 use Rattle.olr_map.specs.declared.links.Links.TheVariants.{Inline, Spilled}
 use Rattle.olr_map.proofs.ColumnLemmas.{few_nodes}
 use Rattle.olr_map.proofs.Lookups.{eqb_flip, over_cond, unchanged_at, got_insert, got_remove, same_answers}

@@ -1,14 +1,13 @@
 -- The map that the tables represent.
-use Rattle.olr_map.proofs.Common.{◌≡◌, ◌==◌, ℕ, ◌<◌, ◌≤◌, ◌^◌, true, false, List, [], map, Option, Some, None, is_some}
-use Rattle.olr_map.proofs.Common.{length, refl, sym, ap, subst, ◌∙◌, arith, option_map}
-use Rattle.olr_map.proofs.Common.{false_from_ne_true, FinMap, get, Map, Line, IsMap, has_node, has_line}
-use Rattle.olr_map.proofs.Common.{none_of, some_of, pairs_of, slot_by, at, node_slots, links_at, node_in, links_in}
-use Rattle.olr_map.proofs.Common.{lines_at, map_from, node_slot, IsListed, IsIndexed, AreTables, tables_map}
-use Rattle.olr_map.proofs.Common.{SlotIndex, Links, NodeEntry, Side, RoadMap, held, all_held, in_slot, common_steps}
-use Rattle.std.proofs.Common.{IsTrue, SomeIff}
+use Rattle.olr_map.proofs.Common.{◌≡◌, ◌==◌, ℕ, ◌<◌, ◌≤◌, true, false, List, [], map, Option, Some, None, is_some}
+use Rattle.olr_map.proofs.Common.{length, refl, sym, ap, subst, ◌∙◌, arith, option_map, false_from_ne_true, FinMap, get}
+use Rattle.olr_map.proofs.Common.{Map, Line, IsMap, has_node, has_line, none_of, some_of, pairs_of, slot_by, at}
+use Rattle.olr_map.proofs.Common.{node_slots, links_at, node_in, links_in, lines_at, map_from, node_slot, IsListed}
+use Rattle.olr_map.proofs.Common.{IsIndexed, AreTables, tables_map, SlotIndex, Links, NodeEntry, Side, RoadMap, held}
+use Rattle.olr_map.proofs.Common.{all_held, in_slot, common_steps, coord_in}
+use Rattle.std.proofs.Common.{◌^◌, IsTrue, SomeIff}
 use Rattle.std.proofs.lemmas.Map.Made.{lookup-map_values}
 use Rattle.std.specs.Ordering.{nat_cmp}
-use Rattle.olr_map.specs.Tables.{coord_in}
 use Rattle.olr_model.specs.Ends.{HaveSlotsApart}
 use Rattle.olr_map.proofs.Lookups.{all_get}
 use Rattle.olr_map.proofs.Blocking.{listed_found}

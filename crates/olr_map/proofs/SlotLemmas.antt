@@ -1,10 +1,10 @@
 -- Slots, after a value is added, removed or replaced.
-use Rattle.olr_map.proofs.Common.{◌≡◌, ◌==◌, ℕ, ◌+◌, ◌<◌, ◌≤◌, ◌^◌, zero, suc, true, cond, List, [], ◌∷◌, ◌++◌, Option}
-use Rattle.olr_map.proofs.Common.{Some, None, is_some, length, get_or, set, slice_index, refl, sym, ap, ◌∙◌, subst}
-use Rattle.olr_map.proofs.Common.{arith, cases_eq, cases_order, eq-eqb, ne_eqb, get_or_past, length-set}
-use Rattle.olr_map.proofs.Common.{length_push, none_of, some_of, at, IsSlotted, IsWritten, common_steps}
-use Rattle.olr_map.proofs.Common.{IsDistinct-from_apart, Contains-from_any, eqb-true}
-use Rattle.std.proofs.Common.{IsNone}
+use Rattle.olr_map.proofs.Common.{◌≡◌, ◌==◌, ℕ, ◌+◌, ◌<◌, ◌≤◌, true, cond, List, [], ◌∷◌, ◌++◌, Option, Some, None}
+use Rattle.olr_map.proofs.Common.{is_some, length, get_or, refl, sym, ap, ◌∙◌, subst, arith, cases_eq, cases_order}
+use Rattle.olr_map.proofs.Common.{eq-eqb, ne_eqb, get_or_past, length-set, length_push, none_of, some_of, at, IsSlotted}
+use Rattle.olr_map.proofs.Common.{IsWritten, common_steps, IsDistinct-from_apart, eqb-true}
+use Rattle.std.proofs.Common.{◌^◌, zero, suc, set, slice_index, IsNone}
+use Rattle.std.proofs.lemmas.Map.Views.{Contains-from_any}
 use Rattle.std.proofs.lemmas.List.{get_or-set_same, get_or-set_other, get_or_default, get_or_push, get_or_append_left}
 use Rattle.std.proofs.lemmas.Map.Steps.{length-le_from_distinct_below}
 

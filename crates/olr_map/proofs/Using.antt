@@ -1,12 +1,9 @@
 -- When a node is in use, by its two lists.
-use Rattle.olr_map.proofs.Common.{common_steps, ◌==◌, nil_from_length, Node_in_use, has-lines_where}
-use Rattle.olr_map.proofs.Common.{◌≡◌, ◌<◌, ◌∷◌, Ok, Err, sym, ap, ◌∙◌, get, Map, has, near, Side, Out, In}
-use Rattle.olr_map.proofs.Common.{◌||◌, true, false, List, [], Some, length, arith, Line, in_use, edited}
-use Rattle.olr_map.proofs.Common.{ℕ, or_left, or_right, lines_out, has_node, has_here, passed_line, lines_at}
+use Rattle.olr_map.proofs.Common.{nil_from_length, has-lines_where, not_from_true, common_steps, unless_false, or_right}
+use Rattle.olr_map.proofs.Common.{Node_in_use, passed_line, lines_out, Drop_node, has_node, has_here, lines_at, or_left}
+use Rattle.olr_map.proofs.Common.{lines_in, or_from, length, in_use, edited, false, arith, ◌==◌, near, Side, ◌||◌, true}
+use Rattle.olr_map.proofs.Common.{List, Some, Line, ◌≡◌, ◌<◌, ◌∷◌, Err, sym, ◌∙◌, get, Map, has, Out, Ok, ap, In, [], ℕ}
 use Rattle.std.specs.FinMap.{remove}
-use Rattle.std.proofs.lemmas.Bool.{or_from, not_from_true}
-use Rattle.olr_spec.specs.Map.{lines_in, Drop_node}
-use Rattle.olr_spec.proofs.UndoLemmas.{unless_false}
 use Rattle.olr_map.proofs.LineRecords.{used_by, unused_by}
 
 -- a line with an end at the node uses it

@@ -1,13 +1,11 @@
 -- The slots of an edit's nodes: of an accepted edit, and where no node's slot changes. The faults of a map as returned.
-use Rattle.olr_map.proofs.Common.{common_steps, TableChange, change_edit, IsReserved, tables_map, AreSlots, node_slot}
-use Rattle.olr_map.proofs.Common.{eqb-true, has_node, RoadMap, slot_by, SlotIndex, Result, eq-eqb, IsOk, arith}
-use Rattle.olr_map.proofs.Common.{start, subst, Some, refl, true, ◌==◌, ◌||◌, Err, Map, end, has, map, sym, ◌∙◌}
-use Rattle.olr_map.proofs.Common.{◌∷◌, ◌≡◌, Ok, [], ap, ℕ}
-use Rattle.std.proofs.Common.{MatchResult}
-use Rattle.olr_spec.specs.Map.{MapFault}
+use Rattle.olr_map.proofs.Common.{edit_fault_of, common_steps, TableChange, MatchResult, IsReserved, tables_map, Result}
+use Rattle.olr_map.proofs.Common.{node_slot, SlotIndex, eqb-true, has_node, RoadMap, slot_by, eq-eqb, arith, subst, Err}
+use Rattle.olr_map.proofs.Common.{IsOk, Some, refl, true, ◌==◌, ◌||◌, Map, has, map, sym, ◌∙◌, ◌∷◌, ◌≡◌, Ok, [], ap, ℕ}
+use Rattle.olr_map.specs.Changes.{change_edit}
+use Rattle.olr_map.specs.EditPlans.{AreSlots, IsEditPlan, planned_changes}
+use Rattle.olr_spec.specs.Map.{start, end, MapFault}
 use Rattle.olr_spec.specs.Detours.{ChangedLine, changes_of}
-use Rattle.olr_model.specs.Edits.{edit_fault_of}
-use Rattle.olr_map.specs.EditPlans.{IsEditPlan, planned_changes}
 use Rattle.olr_model.specs.declared.edit.EditFault.{EditFault}
 use Rattle.olr_map.specs.declared.judging.EditPlan.{EditPlan}
 use Rattle.olr_map.proofs.Making.{made_from}

@@ -2,16 +2,15 @@
 --     present es      the values, in the order of the slots
 --     at es p, in_slot es o      the content of slot p;  of the slot, if there is one
 --     IsSlotted es free room      the free slots are listed, each once, and there is capacity to list all slots
-use Rattle.std.specs.Prelude.{◌≡◌, ◌≢◌, ℕ, ◌<◌, ◌≤◌, ◌^◌, List, [], ◌∷◌, Option, Some, None, length, slice_index}
+use Rattle.std.specs.Prelude.{◌≡◌, ◌≢◌, ℕ, ◌<◌, ◌≤◌, ◌^◌, List, Option, Some, None, length, slice_index}
 use Rattle.std.specs.Prelude.{slice_index_or, cond, ◌==◌, IsNone}
+use Rattle.std.specs.List.{filter_map}
 use Rattle.std.specs.Coded.{Coded-set, coded_ℕ, le_prop}
 use Rattle.std.proofs.Props.{props}
 
 module _ {X : Type 0} where
   abbrev pub present : List (Option X) → List X
-  present [] = []
-  present (None ∷ es) = present es
-  present (Some e ∷ es) = e ∷ present es
+  present es = filter_map (λ o. o) es
 
   abbrev pub at : List (Option X) → ℕ → Option X
   at es p = slice_index_or es p None

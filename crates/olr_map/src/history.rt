@@ -101,6 +101,7 @@ impl RoadMap {
 
     /// Reserves capacity for what an edit adds at these slots and for its undo, in addition to the numbers of nodes and
     /// of lines that other undo records may put back.
+    #[tactic(auto, using(crate::proofs::Capacity::reserved_trans))]
     fn make_room(
         &mut self,
         edit: &Edit,
@@ -282,6 +283,7 @@ impl RoadMap {
 
     /// Undoes all edits of a log, the last one first: the map is as it was before the first. If no edit of the log dropped
     /// a node, each node has the slot that it had before the call. Does not allocate.
+    #[tactic(auto, using(crate::proofs::Log::last_of, std::proofs::lemmas::Grind::common_steps))]
     pub fn undo_all(&mut self, log: UndoLog)
         requires { CanUndoAll self.old log }
         ensures map { map_of self.new ≡ map_before self.old log }

@@ -98,6 +98,7 @@ impl Links {
 
     /// Sets the far end of a line, which is inserted if it is not in the list, or removes the line. Capacity for a new
     /// line is reserved, and remains after a removal.
+    #[tactic(auto, using(crate::proofs::Listing::reset, crate::proofs::Listing::removed))]
     pub fn put(&mut self, id: LineId, end: Option<LineEnd>)
         requires ascending { IsStrictlyIncreasing (lines_on self.old) }
         requires room { IsFalse (has (lines_on self.old) id) → length (lines_on self.old) < links_room self.old }

@@ -52,6 +52,7 @@ impl<V: Drop> Slab<V> {
     }
 
     /// Stores a value in a free slot, and returns the slot.
+    #[tactic(auto, using(crate::proofs::SlotLemmas::push_none))]
     pub fn put(&mut self, entry: V) -> u32
         requires { 0 < room_in self.old }
         ensures inserts { IsInserted (slots_of self.old) (slots_of self.new) result entry }

@@ -22,6 +22,7 @@ pub struct NodeEntry {
 }
 
 /// The numbers of the nodes in these slots, in the order of the slots.
+#[tactic(auto, using(crate::proofs::AllIds::ids_more))]
 fn ids_of(alloc: Global, slots: &[Option<NodeId>]) -> Result<Vec<NodeId>, AllocError>
     ensures { IfOk result (λ ids. ids.items ≡ present slots.now) }
 {
@@ -144,6 +145,7 @@ impl NodeSlots {
     }
 
     /// Stores a node in a free slot, and returns the slot.
+    #[tactic(auto, using(crate::proofs::ColumnLemmas::stays_beside))]
     pub fn put(&mut self, entry: NodeEntry) -> u32
         requires { 0 < node_room self.old }
         ensures inserts { IsInserted (node_slots self.old) (node_slots self.new) result entry }
@@ -163,7 +165,7 @@ impl NodeSlots {
     }
 
     /// Removes the node in a slot, with its lines. The slot is then free.
-    #[tactic(auto, using(crate::proofs::ColumnLemmas::id_there, crate::proofs::ColumnLemmas::inside_places))]
+    #[tactic(auto, using(crate::proofs::ColumnLemmas::id_there, crate::proofs::ColumnLemmas::inside_places, crate::proofs::ColumnLemmas::inside_outs, crate::proofs::ColumnLemmas::inside_ins))]
     pub fn take(&mut self, slot: u32) -> NodeEntry
         requires { IsSome (at (node_slots self.old) slot) }
         ensures removes { IsRemoved (node_slots self.old) (node_slots self.new) slot result }
@@ -209,6 +211,7 @@ impl NodeSlots {
     }
 
     /// Sets the far end of a line on one side of the node in a slot, or removes the line, see `Links::put`.
+    #[tactic(auto, using(crate::proofs::ColumnLemmas::outs_at, crate::proofs::ColumnLemmas::ins_at))]
     pub fn put_end(&mut self, side: Side, slot: u32, id: LineId, end: Option<LineEnd>)
         requires { CanPutEnd (node_slots self.old) side slot id }
         ensures turns { IsRelinked (node_slots self.old) (node_slots self.new) side slot (λ o n. IsPut o n id end) }

@@ -1,5 +1,5 @@
-use Rattle.olr_map.proofs.Common.{arith, Err, lines_on, place_of, place_not}
-use Rattle.olr_map.proofs.Listing.{inserted, removed, reset, absent_put}
+use Rattle.olr_map.proofs.Common.{Err, lines_on, place_of, place_not}
+use Rattle.olr_map.proofs.Listing.{inserted, absent_put}
 use Rattle.olr_map.proofs.links.Links.put.Goals as goal
 
 pub insert-requires-clause-room : goal.insert-requires-clause-room
@@ -19,9 +19,3 @@ pub returns-in-Err-None : goal.returns-in-Err-None
 returns-in-Err-None c =
     rw c.in-Err-None.is-1 (absent_put c.args.self.now c.args.id _ c.requires.ascending
     (rw c.as_slices.ensures.lines at c.in-Err-None.ensures.position))
-
-pub returns-in-Ok-Some : goal.returns-in-Ok-Some
-returns-in-Ok-Some c = grind (arith, reset)
-
-pub returns-in-Ok-None : goal.returns-in-Ok-None
-returns-in-Ok-None c = grind (arith, removed)

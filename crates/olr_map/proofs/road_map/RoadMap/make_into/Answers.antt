@@ -1,10 +1,7 @@
-use Rattle.olr_map.proofs.Common.{common_steps, ◌∷◌, List, ◌∙◌, ap, sym, subst, arith, edit_of, tables_map}
-use Rattle.olr_map.proofs.Common.{room_of, CanMakeAll, TableChange}
-use Rattle.olr_map.specs.Changes.{node_numbers, line_numbers}
-use Rattle.olr_map.specs.Undos.{log_changes}
+use Rattle.olr_map.proofs.Common.{◌∷◌, List, ◌∙◌, ap, sym, subst, arith, tables_map, room_of, CanMakeAll, TableChange}
+use Rattle.olr_map.proofs.Common.{edit_of, node_numbers, line_numbers, log_changes}
 use Rattle.olr_map.proofs.Capacity.{within_trans}
 use Rattle.olr_map.proofs.Log.{done_by, one_more, all_on}
-use Rattle.olr_map.proofs.Verdicts.{plan_slots, slots_reserved}
 use Rattle.olr_map.proofs.road_map.RoadMap.make_into.Goals as goal
 
 pub returns-clause-done : goal.returns-clause-done
@@ -44,9 +41,3 @@ returns-in_err-make_room-clause-can_undo c =
           c.make_room.ensures.same.map c.make_room.ensures.same.more c.requires.log.0),
       record { nodes = omega arith; lines = omega arith },
     )
-
-pub make_change-back-requires : goal.make_change-back-requires
-make_change-back-requires c = grind (arith, plan_slots, slots_reserved)
-
-pub returns-clause-before : goal.returns-clause-before
-returns-clause-before c = grind (arith, common_steps)

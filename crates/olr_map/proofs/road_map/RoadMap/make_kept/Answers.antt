@@ -1,6 +1,5 @@
-use Rattle.olr_map.proofs.Common.{arith, edit_of, tables_map}
+use Rattle.olr_map.proofs.Common.{tables_map, edit_of}
 use Rattle.olr_map.proofs.Log.{done_by}
-use Rattle.olr_map.proofs.Verdicts.{plan_slots, slots_reserved}
 use Rattle.olr_map.proofs.road_map.RoadMap.make_kept.Goals as goal
 
 pub returns-clause-done : goal.returns-clause-done
@@ -8,6 +7,3 @@ returns-clause-done c =
     done_by (tables_map c.args.self.now) (tables_map c.make_room.new.self) _ (edit_of c.args.edit)
     c.change_for-change.result c.change_for-change.ensures.same c.make_room.ensures.same.map c.requires.accepted
     c.make_for_good.ensures.map
-
-pub make_for_good-requires : goal.make_for_good-requires
-make_for_good-requires c = grind (arith, plan_slots, slots_reserved)

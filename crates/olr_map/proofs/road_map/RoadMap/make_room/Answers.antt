@@ -1,6 +1,7 @@
 -- Where several calls reserve capacity: what each leaves, in turn.
-use Rattle.olr_map.proofs.Common.{arith, ◌∙◌, on_ok_weaker}
-use Rattle.olr_map.proofs.Capacity.{both_fit, reserved_trans}
+use Rattle.olr_map.proofs.Common.{◌∙◌}
+use Rattle.std.proofs.lemmas.Result.{on_ok_weaker}
+use Rattle.olr_map.proofs.Capacity.{both_fit}
 use Rattle.olr_map.proofs.road_map.RoadMap.make_room.Goals as goal
 
 pub returns-in_ok-reserve_link-in-AddLine-clause-room : goal.returns-in_ok-reserve_link-in-AddLine-clause-room
@@ -12,12 +13,3 @@ returns-in_ok-reserve_link-in-AddLine-clause-room c =
     c.in-AddLine.field-1 c.args.slots.0 c.args.slots.1 (stay _ ∙ slots.0, stay _ ∙ slots.1) c.reserve_link.ensures.same
     c.reserve_link-in-AddLine.ensures.same c.in_ok-reserve_link-in-AddLine.ensures.room)
     c.reserve_link-in-AddLine.ensures.room)
-
-pub returns-in_ok-reserve_link-in-AddLine-clause-same : goal.returns-in_ok-reserve_link-in-AddLine-clause-same
-returns-in_ok-reserve_link-in-AddLine-clause-same c = grind (arith, reserved_trans)
-
-pub returns-in_err-reserve_link-in-AddLine-clause-same : goal.returns-in_err-reserve_link-in-AddLine-clause-same
-returns-in_err-reserve_link-in-AddLine-clause-same c = grind (arith, reserved_trans)
-
-pub returns-in_ok-reserve_nodes-in-AddNode-clause-same : goal.returns-in_ok-reserve_nodes-in-AddNode-clause-same
-returns-in_ok-reserve_nodes-in-AddNode-clause-same c = grind (arith, reserved_trans)

@@ -1,4 +1,4 @@
-use Rattle.olr_map.proofs.Common.{on_ok_weaker}
+use Rattle.std.proofs.lemmas.Result.{on_ok_weaker}
 use Rattle.olr_map.proofs.Capacity.{roomier_kept, roomier_reserved, roomier_here}
 use Rattle.olr_map.proofs.road_map.RoadMap.reserve_link.Goals as goal
 

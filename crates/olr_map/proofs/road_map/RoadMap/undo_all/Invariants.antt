@@ -1,6 +1,5 @@
 use Rattle.olr_map.proofs.Common.{◌≡◌, ◌≤◌, reverse, vec_len, spare_of, tables_map, room_of, CanMakeAll, made_all}
-use Rattle.olr_map.proofs.Common.{spare_numbers}
-use Rattle.olr_map.specs.Changes.{all_node_puts, all_line_puts, AddsNoNode}
+use Rattle.olr_map.proofs.Common.{spare_numbers, all_node_puts, all_line_puts, AddsNoNode}
 use Rattle.olr_map.proofs.road_map.RoadMap.undo_all.Given as goal
 
 -- the rest of the log can be undone, and leads to the same map; if no node is put back, those of the map were there

@@ -1,5 +1,5 @@
-use Rattle.olr_map.proofs.Common.{arith, common_steps}
-use Rattle.olr_map.proofs.SlotLemmas.{put_slotted, push_none}
+use Rattle.olr_map.proofs.Common.{arith}
+use Rattle.olr_map.proofs.SlotLemmas.{put_slotted}
 use Rattle.olr_map.proofs.slab.Slab.put.Goals as goal
 
 pub invariant_of-self : goal.invariant_of-self
@@ -7,9 +7,3 @@ invariant_of-self g c =
     let s = c.args.self.now in
     let filled = put_slotted s.entries.items s.free.items _ s.slotted c.pop.new.self.items c.in-Some.slot c.args.entry in
     grind (arith, filled)
-
-pub invariant_of-self-in-None : goal.invariant_of-self-in-None
-invariant_of-self-in-None g c = grind (arith, push_none)
-
-pub returns-in-None : goal.returns-in-None
-returns-in-None g c = grind (arith, common_steps)

@@ -1,4 +1,4 @@
-use Rattle.olr_map.proofs.Common.{common_steps, arith}
+use Rattle.olr_map.proofs.Common.{arith}
 use Rattle.olr_map.proofs.SlotLemmas.{take_slotted, free_room}
 use Rattle.olr_map.proofs.slab.Slab.take.Goals as goal
 
@@ -19,6 +19,3 @@ push_reserved-requires g c =
     let room = free_room s.entries.items s.free.items _ s.slotted c.args.slot c.requires in
     let len = s.free.ok.0 in
     omega arith
-
-pub returns : goal.returns
-returns g c = grind (arith, common_steps)

@@ -1,5 +1,5 @@
-use Rattle.olr_map.proofs.Common.{arith, is_some_of, Out, In}
-use Rattle.olr_map.proofs.ColumnLemmas.{inside_outs, inside_ins, outs_at, ins_at, relinked}
+use Rattle.olr_map.proofs.Common.{is_some_of, Out, In}
+use Rattle.olr_map.proofs.ColumnLemmas.{inside_outs, inside_ins, relinked}
 use Rattle.olr_map.proofs.slots.NodeSlots.put_end.Goals as goal
 
 pub index_mut-requires : goal.index_mut-requires
@@ -17,9 +17,3 @@ pub returns-in-In-clause-turns : goal.returns-in-In-clause-turns
 returns-in-In-clause-turns c =
     rw c.in-In.is (relinked c.args.self.now c.args.slot c.requires.0 c.requires.1 In _ _ c.index_mut-in-In.ensures.value
     c.put-in-In.ensures)
-
-pub put-requires : goal.put-requires
-put-requires c = grind (arith, outs_at)
-
-pub put-requires-in-In : goal.put-requires-in-In
-put-requires-in-In c = grind (arith, ins_at)

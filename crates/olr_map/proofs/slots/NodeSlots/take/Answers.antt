@@ -1,5 +1,5 @@
-use Rattle.olr_map.proofs.Common.{arith, ◌≡◌, get_or, sym, subst, some_of, slots_of, Links}
-use Rattle.olr_map.proofs.ColumnLemmas.{entry_is, row_removed, inside_outs, inside_ins}
+use Rattle.olr_map.proofs.Common.{◌≡◌, get_or, sym, subst, some_of, slots_of, Links}
+use Rattle.olr_map.proofs.ColumnLemmas.{entry_is, row_removed}
 use Rattle.olr_map.proofs.slots.NodeSlots.take.Goals as goal
 
 pub returns-clause-removes : goal.returns-clause-removes
@@ -17,9 +17,3 @@ returns-clause-removes c =
     taken.removes.was c.index-place.ensures o i in
     rw (← is) (row_removed s p e.0 e.1 (slots_of c.take-id.new.self) c.take-id.result c.replace-outs.new.dest
     c.replace-ins.new.dest taken.removes taken.count)
-
-pub index_mut-requires : goal.index_mut-requires
-index_mut-requires c = grind (arith, inside_outs)
-
-pub index_mut-requires-2 : goal.index_mut-requires-2
-index_mut-requires-2 c = grind (arith, inside_ins)

@@ -1,5 +1,0 @@
-use Rattle.olr_map.proofs.Common.{arith, common_steps}
-use Rattle.olr_map.proofs.links.copied.Goals as goal
-
-pub returns : goal.returns
-returns g c = grind (arith, common_steps)

@@ -1,9 +1,0 @@
-use Rattle.olr_map.proofs.Common.{arith, common_steps}
-use Rattle.olr_map.proofs.AllIds.{ids_more}
-use Rattle.olr_map.proofs.slots.ids_of.Goals as goal
-
-pub loop-slot-preserved : goal.loop-slot-preserved
-loop-slot-preserved c = grind (arith, ids_more)
-
-pub returns : goal.returns
-returns c = grind (arith, common_steps)
