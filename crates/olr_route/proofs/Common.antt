@@ -2,10 +2,9 @@
 pub use Rattle.olr_model.specs.declared.read.LineEnd.{LineEnd}
 pub use Rattle.olr_route.specs.Distances.{IsDistance, Leads, Way, ends_at, far_end, lines_at, near_end}
 pub use Rattle.olr_route.specs.Frontiers.{IsAlike, IsCounted, IsEmpty, IsQueued, IsRelaxed, Moves, NotedOnce}
-pub use Rattle.olr_route.specs.Frontiers.{frontier_len}
-pub use Rattle.olr_route.specs.Frontiers.{label_of, queued_len, to_do}
+pub use Rattle.olr_route.specs.Frontiers.{frontier_len, label_of, to_do}
 pub use Rattle.olr_route.specs.Notes.{AreAllReached, AreApart, AreFilled, AreNodesIn, NotesOnce, label_in}
-pub use Rattle.olr_route.specs.Queues.{queue_key}
+pub use Rattle.olr_route.specs.Queues.{queue_key, queue_len}
 pub use Rattle.olr_route.specs.Searches.{Counts, CoversSlots, CutAt, IsCut, IsLabelled}
 pub use Rattle.olr_route.specs.Searches.{FromWithin, IsOnlyPredecessor, IsReached, IsSearch, IsUnderWay, LiesWithin}
 pub use Rattle.olr_route.specs.Lengths.{AreFit, IsOver, IsSearchedAs, IsSeenAs, MayCount}

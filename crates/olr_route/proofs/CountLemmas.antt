@@ -1,40 +1,21 @@
 -- The nodes that a search has settled, and their number.
-use Rattle.olr_route.proofs.Common.{◌≡◌, ◌==◌, ℕ, true, List, [], ◌∷◌, Contains, sym, ap, ◌∙◌, subst, inl, inr, arith}
-use Rattle.olr_route.proofs.Common.{◌≢◌, ◌≤◌, nat_le, filter, IsDistinct, Map, AreFilled, AreNodesIn}
-use Rattle.olr_route.proofs.Common.{Contains-later, Contains-here, label_of, IsSearch, LiesWithin, Direction, Dijkstra}
-use Rattle.olr_route.proofs.Common.{Bool, false, ◌↔◌, cond, All-filter, AreApart}
-use Rattle.olr_route.proofs.Common.{All-contains_itself, filter_passes, Contains-cases, Counts}
-use Rattle.std.proofs.lemmas.Bool.Decides.{nat_tests}
+use Rattle.olr_route.proofs.Common.{◌==◌, ℕ, List, Contains, sym, ap, ◌∙◌, inl, inr, arith, ◌≢◌, ◌≤◌, nat_le, filter}
+use Rattle.olr_route.proofs.Common.{Map, AreFilled, AreNodesIn, label_of, IsSearch, LiesWithin, Direction, Dijkstra}
+use Rattle.olr_route.proofs.Common.{Bool, ◌↔◌, AreApart, Counts}
+use Rattle.std.proofs.lemmas.Bool.{and_from, and_parts, eqb-true, le-leb, leb-true}
+use Rattle.std.proofs.lemmas.Bool.Decides.{Decides-eqb}
+use Rattle.std.proofs.lemmas.Map.Made.{is_member-Decides, is_member-filter}
+use Rattle.std.specs.Cmp.{nat_eq_equiv}
+use Rattle.std.specs.Set.{is_member}
 use Rattle.std.proofs.lemmas.List.Kept.{AllPairs-filter}
 use Rattle.olr_route.proofs.DistinctLemmas.{nodes_of, slot_in, node_in, nodes_distinct, as_many_nodes}
 use Rattle.olr_route.proofs.SearchLemmas.{labelled_listed, label_is, is_distance, distance_node}
 
--- a slot is among those that pass a test if it is in the list and passes
-slots_in : (test : ℕ → Bool) (xs : List ℕ) (p : ℕ) → Contains xs p → test p ≡ true → Contains (filter test xs) p
-slots_in test [] p c e = absurd (omega (arith, c.1))
-slots_in test (x ∷ xs) p c e = elim (Contains-cases x p xs c) [
-  | inl is ↦ rw (ap test is ∙ e) (subst (Contains (x ∷ filter test xs)) is (Contains-here x (filter test xs)))
-  | inr h ↦ elim (test x) as (λ b. Contains (cond b (x ∷ filter test xs) (filter test xs)) p) [
-    | true ↦ Contains-later x p (filter test xs) (slots_in test xs p h e)
-    | false ↦ slots_in test xs p h e
-  ]
-]
-
--- and only then
-slots_out : (test : ℕ → Bool) (xs : List ℕ) (p : ℕ) → Contains (filter test xs) p → Contains xs p × (test p ≡ true)
-slots_out test xs p c = (
-  subst (Contains xs) c.2 (All-filter test (Contains xs) xs (All-contains_itself xs) c.0 p c.1),
-  ap test (sym c.2) ∙ filter_passes test xs c.0 p c.1,
-)
-
 module _ (M : Map) (slot : ℕ → ℕ) (direction : Direction) (from : List (ℕ × ℕ)) (s : Dijkstra)
     (h : IsSearch M slot direction from s) where
   -- the nodes in the slots whose labels are within the limit
-  module _ (ps : List ℕ) (apart : AreApart ps)
-      (near : (p : ℕ) → Contains ps p ↔ (label_of s.frontier p ≤ s.limit)) (vs : List ℕ) (a : AreNodesIn M slot ps vs) where
-    pub apart_in : IsDistinct ◌==◌ vs
-    apart_in = nodes_distinct M slot ps vs a apart
-
+  module _ (ps : List ℕ) (near : (p : ℕ) → Contains ps p ↔ (label_of s.frontier p ≤ s.limit)) (vs : List ℕ)
+      (a : AreNodesIn M slot ps vs) where
     pub exactly_in : (v : ℕ) → Contains vs v ↔ LiesWithin M direction from s.limit v
     exactly_in v = (
       λ c.
@@ -56,15 +37,17 @@ module _ (M : Map) (slot : ℕ → ℕ) (direction : Direction) (from : List (�
       h.under_way.labelled.apart
 
   pub near_slots_exactly : (p : ℕ) → Contains near_slots p ↔ (label_of s.frontier p ≤ s.limit)
-  near_slots_exactly p = (
-    λ c.
-        let k = slots_out (λ p. nat_le (label_of s.frontier p) s.limit) s.frontier.reached.items p c in
-        grind (arith, nat_tests, k.1),
-    λ le.
-        let small = h.small in
-        slots_in (λ p. nat_le (label_of s.frontier p) s.limit) s.frontier.reached.items p
-        (labelled_listed s.frontier p (omega arith)) (grind (arith, nat_tests)),
-  )
+  near_slots_exactly p =
+      let reached = s.frontier.reached.items in
+      let test : ℕ → Bool = λ q. nat_le (label_of s.frontier q) s.limit in
+      let listed = is_member-Decides Decides-eqb reached p in
+      let within = is_member-Decides Decides-eqb near_slots p in
+      let same = is_member-filter nat_eq_equiv test p (λ x is. ap test (eqb-true p x is)) reached in
+      let small = h.small in (
+        λ c. leb-true (label_of s.frontier p) s.limit (and_parts (is_member ◌==◌ reached p) (test p) (sym same ∙ within.1 c)).1,
+        λ le. within.0
+            (same ∙ and_from (is_member ◌==◌ reached p) (test p) (listed.1 (labelled_listed s.frontier p (omega arith))) (le-leb (label_of s.frontier p) s.limit le)),
+      )
 
   -- each slot with a label has a node
   pub filled : AreFilled M slot s.frontier.reached.items
@@ -89,7 +72,7 @@ module _ (M : Map) (slot : ℕ → ℕ) (direction : Direction) (from : List (�
       (λ p c. let small = h.small in let le = h.counted.low p c in h.under_way.labelled.nodes p (omega arith)) in
       record {
         nodes = vs.0;
-        apart = apart_in h.counted.slots h.counted.apart settled_exactly vs.0 vs.1;
-        exactly = exactly_in h.counted.slots h.counted.apart settled_exactly vs.0 vs.1;
+        apart = nodes_distinct M slot h.counted.slots vs.0 vs.1 h.counted.apart;
+        exactly = exactly_in h.counted.slots settled_exactly vs.0 vs.1;
         many = as_many_nodes M slot h.counted.slots vs.0 vs.1 ∙ h.counted.many;
       }

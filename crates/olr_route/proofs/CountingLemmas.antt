@@ -1,22 +1,16 @@
 -- The map as it counts for one line more, as a search sees it.
 use Rattle.olr_route.proofs.Common.{◌≡◌, ◌≢◌, ℕ, ◌+◌, ◌<◌, ◌≤◌, List, [], ◌∷◌, ◌++◌, IsTrue, true, false, ap, sym}
-use Rattle.olr_route.proofs.Common.{subst}
-use Rattle.std.specs.Prelude.{◌*◌}
-use Rattle.olr_route.proofs.Common.{inl, inr, arith, ◌∙◌, refl, cases_eq, Map, IsMap, has_node, has_line, has, start}
-use Rattle.olr_route.proofs.Common.{end, dm}
-use Rattle.olr_route.proofs.Common.{label_of, IsSearch, Along, Dijkstra, IsOver, IsSearchedAs, MayCount, AreFit, ◌==◌}
-use Rattle.olr_route.proofs.Common.{cond}
-use Rattle.olr_route.proofs.Common.{ne_eqb, positive, line_short, suc, zero}
-use Rattle.std.proofs.lemmas.Bool.{cases_Bool, eq-eqb}
+use Rattle.olr_route.proofs.Common.{subst, inl, inr, arith, ◌∙◌, refl, cases_eq, Map, IsMap, has_node, has_line, has}
+use Rattle.olr_route.proofs.Common.{start, end, dm, label_of, IsSearch, Along, Dijkstra, IsOver, IsSearchedAs, MayCount}
+use Rattle.olr_route.proofs.Common.{AreFit, ◌==◌, cond, ne_eqb, positive, line_short, UniqueShortest, IsOnlyPredecessor}
+use Rattle.olr_route.proofs.Common.{Frontier, IsRoute, IsRoute-split, dm_of, dm_of-append, length, length-append}
+use Rattle.std.proofs.Math.Nat.{mul-le-mul_left}
+use Rattle.std.proofs.lemmas.Bool.{cases_Bool, eq-eqb, false≢true}
 use Rattle.std.proofs.lemmas.List.{append_assoc}
 use Rattle.std.proofs.lemmas.List.Folds.{list_any-append}
 use Rattle.olr_spec.specs.Margins.{Margin, counted, counted_dm, is_margin}
 use Rattle.olr_spec.proofs.CountedLemmas.{counted_known, counted_start, counted_end, counted_other, counted_own}
 use Rattle.olr_spec.proofs.CountedLemmas.{counted_least, get_counted}
-use Rattle.std.proofs.lemmas.Bool.{false≢true}
-use Rattle.olr_route.proofs.Common.{UniqueShortest, IsOnlyPredecessor, Frontier, IsRoute, IsRoute-split, dm_of}
-use Rattle.olr_route.proofs.Common.{dm_of-append}
-use Rattle.olr_route.proofs.Common.{length, length-append}
 use Rattle.olr_route.proofs.RouteEnds.{last_step}
 use Rattle.olr_route.specs.ResolvedLines.{ResolvedLine}
 use Rattle.olr_route.proofs.MarkLemmas.{marked}
@@ -30,20 +24,11 @@ counted_node : (g : Margin) (M : Map) (xs : List ℕ) (v : ℕ) → has_node (co
 counted_node g M xs v = grind (arith, cases_Bool (g.routes == 0))
 
 pub counted_is_over : (g : Margin) (M : Map) (xs : List ℕ) → IsOver M (counted g M xs)
-counted_is_over g M xs = record {
-  nodes = counted_node g M xs;
-  lines = counted_known g M xs;
-  starts = counted_start g M xs;
-  ends = counted_end g M xs;
-}
+counted_is_over g M xs =
+    grind (arith, counted_node g M xs, counted_known g M xs, counted_start g M xs, counted_end g M xs)
 
 counted_over : (g : Margin) (M : Map) (xs ys : List ℕ) → IsOver (counted g M xs) (counted g M ys)
-counted_over g M xs ys = record {
-  nodes = λ v. counted_node g M ys v ∙ sym (counted_node g M xs v);
-  lines = λ x. counted_known g M ys x ∙ sym (counted_known g M xs x);
-  starts = λ x. counted_start g M ys x ∙ sym (counted_start g M xs x);
-  ends = λ x. counted_end g M ys x ∙ sym (counted_end g M xs x);
-}
+counted_over g M xs ys = grind (arith, counted_node, counted_known, counted_start, counted_end)
 
 one_more : (xs : List ℕ) (x own : ℕ) → x ≢ own → has (xs ++ own ∷ []) x ≡ has xs x
 one_more xs x own other = grind (arith, list_any-append, ne_eqb, cases_Bool (has xs x))
@@ -89,17 +74,13 @@ module _ (M : Map) (slot : ℕ → ℕ) (g : Margin) (xs : List ℕ) (own : Reso
         (subst (λ w. s.limit < label_of s.frontier (slot w)) (sym (counted_start g M xs own.id))
         (subst (λ p. s.limit < label_of s.frontier p) may.at may.ahead))
 
--- at most twice the length
-twice : (len routes : ℕ) → routes ≤ 1000 → len * routes ≤ len * 1000
-twice zero routes le = omega arith
-twice (suc len) routes le = omega (arith, twice len routes le)
-
 pub with_own_fits : (M : Map) → IsMap M → (g : Margin) → IsTrue (is_margin g) → (own : ResolvedLine) → IsTrue (has_line M own.id) →
     own.len ≡ counted_dm g (dm M own.id) → AreFit (with_own own)
 with_own_fits M m g ok own known is x d some short =
     let low = positive M m own.id known in
     let high = line_short M m own.id known in
-    let most = twice (dm M own.id) g.routes (grind (arith, is_margin)) in
+    let few : g.routes ≤ 1000 = grind (arith, is_margin) in
+    let most = mul-le-mul_left (dm M own.id) few in
     elim (cases_eq x own.id) [
       | inl same ↦ grind (arith, eq-eqb)
       | inr other ↦ grind (arith, ne_eqb)

@@ -1,19 +1,14 @@
 -- How a search goes on where it may label only some nodes, and what it says in the end.
-use Rattle.olr_route.proofs.Common.{◌≡◌, ℕ, ◌+◌, ◌≤◌, ◌<◌, ◌⊎◌, List, Contains, IsTrue, length, ap, subst, inl, inr}
-use Rattle.olr_route.proofs.Common.{arith, ◌∙◌, refl, sym, ⊤, cases_lt, Map, has_node, has_line, dm, dm_of, Way, Leads}
-use Rattle.olr_route.proofs.Common.{near_end, far_end, label_of, IsQueued, Moves, IsLabelled, IsUnderWay, IsSearch}
-use Rattle.olr_route.proofs.Common.{IsCut, GREATEST_LIMIT, Frontier, Direction, Dijkstra, zero, suc, max, CutAt}
-use Rattle.olr_route.proofs.Common.{IsAlike, StaysWithin, IsCounted, LabelsNear}
+use Rattle.olr_route.proofs.Common.{◌≡◌, ℕ, ◌+◌, ◌≤◌, ◌<◌, ◌⊎◌, List, IsTrue, ap, subst, inl, inr, arith, ◌∙◌, refl}
+use Rattle.olr_route.proofs.Common.{sym, ⊤, cases_lt, Map, has_node, has_line, dm, Leads, near_end, far_end, label_of}
+use Rattle.olr_route.proofs.Common.{IsQueued, Moves, IsLabelled, IsUnderWay, IsSearch, IsCut, GREATEST_LIMIT, Frontier}
+use Rattle.olr_route.proofs.Common.{Direction, Dijkstra, max, CutAt, IsAlike, StaysWithin, IsCounted, LabelsNear}
 use Rattle.olr_route.proofs.SearchLemmas.{alike_labels, labelled_same}
 use Rattle.olr_route.proofs.SettledLemmas.{counted_up}
-use Rattle.olr_route.proofs.WayLemmas.{way_ends, near_there}
-use Rattle.olr_route.proofs.WayLemmas.WayEnds.{stays, continues}
+use Rattle.olr_route.proofs.Common.{FromWithin, IsBegunAt}
+use Rattle.olr_route.proofs.WayLemmas.{by_ways, near_there}
 
 module _ (M : Map) (slot : ℕ → ℕ) (direction : Direction) (from : List (ℕ × ℕ)) (P : ℕ → ℕ → Type 0) where
-  cut_better : (f g : Frontier) (v d : ℕ) → ((p : ℕ) → label_of g p ≤ label_of f p) → CutAt M slot direction P f v d →
-      CutAt M slot direction P g v d
-  cut_better f g v d better cut x known near lets = grind (arith, far_end)
-
   pub cut_begun : (f : Frontier) → IsUnderWay M slot direction from f → IsCut M slot direction from P f
   cut_begun f u = record {
     labelled = u.labelled;
@@ -38,7 +33,10 @@ module _ (M : Map) (slot : ℕ → ℕ) (direction : Direction) (from : List (�
       | inr q ↦ inr q
       | inl is ↦ subst (λ (e : ℕ). CutAt M slot direction P g v e ⊎ IsQueued g e (slot v)) (sym is)
           (elim (u.front v known (omega arith)) [
-            | inl cut ↦ inl (cut_better f g v (label_of f (slot v)) better cut)
+            | inl cut ↦ inl (λ x line near lets.
+                let le = cut x line near lets in
+                let less = better (slot (far_end M direction x)) in
+                omega arith)
             | inr q ↦ kept v known q
           ])
     ];
@@ -78,48 +76,21 @@ module _ (M : Map) (slot : ℕ → ℕ) (direction : Direction) (from : List (�
       (before : (x d : ℕ) → IsTrue (has_line M x) → Q (far_end M direction x) (d + dm M x) → Q (near_end M direction x) d)
     where
       -- by one more line
-      cut_on : (v e x : ℕ) → IsTrue (has_line M x) → far_end M direction x ≡ v → Q v (e + dm M x)
-          → label_of f (slot (near_end M direction x)) ≤ e → label_of f (slot v) ≤ e + dm M x
-      cut_on v e x known to short low =
+      cut_on : (x e : ℕ) → IsTrue (has_line M x) → Q (far_end M direction x) (e + dm M x)
+          → label_of f (slot (near_end M direction x)) ≤ e → label_of f (slot (far_end M direction x)) ≤ e + dm M x
+      cut_on x e known short low =
           let w = near_end M direction x in
-          let there : Q (far_end M direction x) (label_of f (slot w) + dm M x) =
-          subst (λ (n : ℕ). Q n (label_of f (slot w) + dm M x)) (sym to) (less v _ _ short (omega arith)) in
+          let there : Q (far_end M direction x) (label_of f (slot w) + dm M x) = less _ _ _ short (omega arith) in
           let here = lets w (label_of f (slot w)) (before x (label_of f (slot w)) known there) in
-          let near = here.1 in
-          elim (u.front w (near_there M u.labelled.sound direction x known) near) [
-            | inl cut ↦
-                let le = cut x known refl (lets (far_end M direction x) _ there).0 in
-                subst (λ (n : ℕ). label_of f (slot n) ≤ e + dm M x) to (omega arith)
+          elim (u.front w (near_there M u.labelled.sound direction x known) here.1) [
+            | inl cut ↦ let le = cut x known refl (lets (far_end M direction x) _ there).0 in omega arith
             | inr q ↦ absurd (here.2 (slot w) q)
           ]
 
-      cut_by : (n s b v : ℕ) (lines : List ℕ) → length lines ≤ n → Contains from (s, b) → IsTrue (has_node M s) →
-          Way M direction s v lines → Q v (b + dm_of M lines) → label_of f (slot v) ≤ b + dm_of M lines
-      cut_by zero s b v lines size listed there way short = elim (way_ends M direction s v lines way) [
-        | stays e none ↦ let le =
-            u.begun s b listed there in subst (λ (w : ℕ). label_of f (slot w) ≤ b + dm_of M lines) e (omega arith)
-        | continues k ↦ absurd (omega arith)
-      ]
-      cut_by (suc n) s b v lines size listed there way short = elim (way_ends M direction s v lines way) [
-        | stays e none ↦ let le =
-            u.begun s b listed there in subst (λ (w : ℕ). label_of f (slot w) ≤ b + dm_of M lines) e (omega arith)
-        | continues k ↦
-            let parts : b + dm_of M lines ≡ b + dm_of M k.front + dm M k.line = omega arith in
-            let last : Q v (b + dm_of M k.front + dm M k.line) = subst (Q v) parts short in
-            let low =
-            cut_by n s b (near_end M direction k.line) k.front (omega arith) listed there k.way
-            (before k.line (b + dm_of M k.front) k.known
-            (subst (λ (w : ℕ). Q w (b + dm_of M k.front + dm M k.line)) (sym k.to) last)) in
-            subst (λ (e : ℕ). label_of f (slot v) ≤ e) (sym parts)
-            (cut_on v (b + dm_of M k.front) k.line k.known k.to last low)
-      ]
-
       pub cut_settled : (v d : ℕ) → Q v d → Leads M direction from v d → label_of f (slot v) ≤ d
       cut_settled v d short l =
-          let low =
-          cut_by (length l.lines) l.source l.begun v l.lines (omega arith) l.listed l.there l.way
-          (subst (Q v) (sym l.long) short) in
-          omega arith
+          by_ways M from (λ w e. Q w e → label_of f (slot w) ≤ e) direction (λ s b listed there _. u.begun s b listed there)
+          (λ x e known _ low far. cut_on x e known far (low (before x e known far))) v d l short
 
 -- where every node may be labelled, and nothing is left in the queue up to a limit
 pub settled_up_to : (M : Map) (slot : ℕ → ℕ) (direction : Direction) (from : List (ℕ × ℕ)) (f : Frontier) (limit : ℕ) →
@@ -132,6 +103,21 @@ settled_up_to M slot direction from f limit u small far v d near l =
 
 -- ---- no farther than a limit
 
+-- a label with which the search begins, or that of a line from a node within a limit, as the others decrease
+pub begun_still : {M : Map} {slot : ℕ → ℕ} {from : List (ℕ × ℕ)} {old new : ℕ → ℕ} {p : ℕ} → new p ≡ old p →
+    IsBegunAt M slot from old p → IsBegunAt M slot from new p
+begun_still same b =
+    let least = b.least in
+    record { source = b.source; begun = b.begun; listed = b.listed; there = b.there; at = b.at; least = omega arith }
+
+from_still : {M : Map} {slot : ℕ → ℕ} {direction : Direction} {was is : ℕ} {old new : ℕ → ℕ} {p : ℕ} → was ≤ is →
+    ((q : ℕ) → new q ≤ old q) → new p ≡ old p → FromWithin M slot direction was old p → FromWithin M slot direction is new p
+from_still {M} {slot} {direction} more better same k =
+    let less = better (slot (near_end M direction k.line)) in
+    let near = k.near in
+    let sum = k.sum in
+    record { line = k.line; known = k.known; to = k.to; near = omega arith; sum = omega arith }
+
 module _ (M : Map) (slot : ℕ → ℕ) (direction : Direction) (limit : ℕ) where
   pub stays_then : (f g h : Frontier) → ((p : ℕ) → label_of h p ≤ label_of g p) →
       StaysWithin M slot direction limit (label_of f) (label_of g) →
@@ -141,9 +127,7 @@ module _ (M : Map) (slot : ℕ → ℕ) (direction : Direction) (limit : ℕ) wh
     | inr new ↦ inr new
     | inl same ↦ elim (first p) [
       | inl was ↦ inl (same ∙ was)
-      | inr k ↦
-          let le = better (slot (near_end M direction k.line)) in
-          inr (record { line = k.line; known = k.known; to = k.to; near = omega (arith, k.near); sum = omega (arith, k.sum) })
+      | inr k ↦ inr (from_still (omega arith) better same k)
     ]
   ]
 
@@ -151,41 +135,23 @@ module _ (M : Map) (slot : ℕ → ℕ) (direction : Direction) (limit : ℕ) wh
   pub stays_more : (f g h : Frontier) (d : ℕ) → IsAlike f g → d ≤ limit →
       StaysWithin M slot direction d (label_of g) (label_of h) →
       StaysWithin M slot direction limit (label_of f) (label_of h)
-  stays_more f g h d alike le then p = elim (then p) [
-    | inl same ↦ inl (same ∙ alike_labels f g alike p)
-    | inr k ↦ inr (record { line = k.line; known = k.known; to = k.to; near = omega (arith, k.near); sum = k.sum })
-  ]
+  stays_more f g h d alike le then p = grind (arith, then p, alike_labels f g alike)
 
 -- labels that come from nodes within a limit do so within a greater one, as the search goes on
-near_on : (M : Map) (slot : ℕ → ℕ) (direction : Direction) (from : List (ℕ × ℕ)) (was limit is : ℕ) (old new : ℕ → ℕ) →
+pub near_on : (M : Map) (slot : ℕ → ℕ) (direction : Direction) (from : List (ℕ × ℕ)) (was limit is : ℕ) (old new : ℕ → ℕ) →
     was ≤ is → limit ≤ is → ((p : ℕ) → new p ≤ old p) → StaysWithin M slot direction limit old new →
     LabelsNear M slot direction from was old → LabelsNear M slot direction from is new
 near_on M slot direction from was limit is old new le more better within near p low = elim (within p) [
-  | inr k ↦ inr (record { line = k.line; known = k.known; to = k.to; near = omega (arith, k.near); sum = k.sum })
+  | inr k ↦ inr (from_still more (λ q. omega arith) refl k)
   | inl same ↦ elim (near p (omega arith)) [
-    | inl b ↦ inl (record {
-      source = b.source;
-      begun = b.begun;
-      listed = b.listed;
-      there = b.there;
-      at = b.at;
-      least = omega (arith, b.least);
-    })
-    | inr k ↦
-        let less = better (slot (near_end M direction k.line)) in
-        inr (record {
-          line = k.line;
-          known = k.known;
-          to = k.to;
-          near = omega (arith, k.near);
-          sum = omega (arith, k.sum);
-        })
+    | inl b ↦ inl (begun_still same b)
+    | inr k ↦ inr (from_still le better same k)
   ]
 ]
 
 -- the search s, in which every node may be labelled, is continued to a limit, up to the search t
 pub settled_on_to : (M : Map) (slot : ℕ → ℕ) (direction : Direction) (from : List (ℕ × ℕ)) (s t : Dijkstra) (limit : ℕ) →
-    IsSearch M slot direction from s → t.direction ≡ s.direction → IsCut M slot direction from (λ _ _. ⊤) t.frontier →
+    IsSearch M slot direction from s → t.direction ≡ direction → IsCut M slot direction from (λ _ _. ⊤) t.frontier →
     limit ≤ GREATEST_LIMIT → ((d p : ℕ) → IsQueued t.frontier d p → limit < d)
     → ((p : ℕ) → label_of t.frontier p ≤ label_of s.frontier p) → t.limit ≡ max s.limit limit →
     StaysWithin M slot direction limit (label_of s.frontier) (label_of t.frontier) →
@@ -193,15 +159,15 @@ pub settled_on_to : (M : Map) (slot : ℕ → ℕ) (direction : Direction) (from
     IsSearch M slot direction from t
 settled_on_to M slot direction from s t limit h way u small far better is within counted =
     record {
-      way = way ∙ h.way;
+      way = way;
       under_way = u;
       small = omega arith;
       settled = λ v d known le l. elim (cases_lt limit d) [
         | inl lt ↦ let low = h.settled v d known (omega arith) l in let less = better (slot v) in omega arith
         | inr near ↦ settled_up_to M slot direction from t.frontier limit u small far v d near l
       ];
-      near = λ p low. near_on M slot direction from s.limit limit t.limit (label_of s.frontier) (label_of t.frontier)
-          (omega arith) (omega arith) better within h.near p low;
+      near = near_on M slot direction from s.limit limit t.limit (label_of s.frontier) (label_of t.frontier)
+          (omega arith) (omega arith) better within h.near;
       counted =
           counted_up t.frontier t.settled (max s.limit limit) (max (s.limit + 1) (limit + 1)) t.limit (t.limit + 1)
           (omega arith) (omega arith) (λ e p w. let le = counted.ahead e p w in omega arith) counted;

@@ -1,29 +1,23 @@
 -- Lists of slots without duplicates, the nodes in them, and what is found in them.
-use Rattle.olr_route.proofs.Common.{◌≡◌, ◌≢◌, ◌==◌, ℕ, ◌<◌, ◌⊎◌, List, [], ◌∷◌, ◌++◌, Contains, IsTrue, get_or, length}
-use Rattle.olr_route.proofs.Common.{refl, sym, ap, ◌∙◌, subst, inl, inr, arith, IsDistinct, get_or-map, length-map}
-use Rattle.olr_route.proofs.Common.{cases_eq, Contains-append_cases, Contains-one, Contains-later, Contains-here}
-use Rattle.olr_route.proofs.Common.{AreApart}
+use Rattle.olr_route.proofs.Common.{◌≡◌, ◌==◌, ℕ, ◌<◌, List, [], ◌∷◌, ◌++◌, Contains, IsTrue, get_or, length, ◌≤◌, refl}
+use Rattle.olr_route.proofs.Common.{sym, ap, ◌∙◌, subst, inl, inr, arith, IsDistinct, get_or-map, length-map}
+use Rattle.olr_route.proofs.Common.{Contains-append_cases, Contains-one, Contains-later, Contains-here, AreApart}
 use Rattle.olr_route.proofs.Common.{AreFilled, AreNodesIn, IsDistinct-from_apart, ne_eqb, Contains-get_or}
-use Rattle.olr_route.proofs.Common.{Contains-cases}
-use Rattle.olr_route.proofs.Common.{Map, has_node, Bool, true, false, cond}
+use Rattle.olr_route.proofs.Common.{Contains-cases, Map, has_node, Bool, true, false, cond}
+use Rattle.std.proofs.lemmas.Bool.{eqb-true}
+use Rattle.std.proofs.lemmas.Map.Made.{length-le_from_is_member}
+use Rattle.std.proofs.lemmas.Map.Views.{Contains-from_any, list_any-from_Contains}
+use Rattle.std.specs.Cmp.{nat_eq_equiv}
 use Rattle.std.proofs.lemmas.List.{map-append, append-nil}
 
 pub slots_distinct : (ps : List ℕ) → AreApart ps → IsDistinct ◌==◌ ps
 slots_distinct ps apart = IsDistinct-from_apart ◌==◌ ps (λ i j d lt past. ne_eqb _ _ (apart i j d lt past))
 
--- a slot of the list, or none
-pub found_slot : (ps : List ℕ) (p : ℕ) → Contains ps p ⊎ ((q : ℕ) → Contains ps q → q ≢ p)
-found_slot [] p = inr (λ q c. absurd (omega arith))
-found_slot (x ∷ ps) p = elim (cases_eq x p) [
-  | inl is ↦ inl (subst (Contains (x ∷ ps)) is (Contains-here x ps))
-  | inr ne ↦ elim (found_slot ps p) [
-    | inl c ↦ inl (Contains-later x p ps c)
-    | inr none ↦ inr (λ q c. elim (Contains-append_cases (x ∷ []) ps q c) [
-      | inl h ↦ λ e. ne (sym (Contains-one x q h) ∙ e)
-      | inr h ↦ none q h
-    ])
-  ]
-]
+-- as many at most as a list that has them all
+pub no_more : (xs ys : List ℕ) → IsDistinct ◌==◌ xs → ((p : ℕ) → Contains xs p → Contains ys p) → length xs ≤ length ys
+no_more xs ys once all =
+    length-le_from_is_member nat_eq_equiv xs ys once (λ q is. list_any-from_Contains nat_eq_equiv q ys
+    (all q (Contains-from_any (λ x y e. eqb-true x y e) q xs is)))
 
 -- ---- the nodes in slots
 
@@ -31,9 +25,9 @@ module _ (M : Map) (slot : ℕ → ℕ) where
   pub no_nodes : AreNodesIn M slot [] []
   no_nodes = record { slots = refl; there = λ v c. absurd (omega (arith, c.1)) }
 
-  nodes_push : (ps vs : List ℕ) (p v : ℕ) → IsTrue (has_node M v) → slot v ≡ p → AreNodesIn M slot ps vs →
-      AreNodesIn M slot (ps ++ p ∷ []) (vs ++ v ∷ [])
-  nodes_push ps vs p v known at a =
+  pub nodes_more : (ps vs : List ℕ) (p v : ℕ) (b : Bool) → IsTrue (has_node M v) → slot v ≡ p → AreNodesIn M slot ps vs →
+      AreNodesIn M slot (ps ++ cond b (p ∷ []) []) (vs ++ cond b (v ∷ []) [])
+  nodes_more ps vs p v true known at a =
       record {
         slots = map-append slot vs (v ∷ []) ∙ (λ i. a.slots i ++ at i ∷ []);
         there = λ w c. elim (Contains-append_cases vs (v ∷ []) w c) [
@@ -41,10 +35,6 @@ module _ (M : Map) (slot : ℕ → ℕ) where
           | inr h ↦ subst (λ (n : ℕ). IsTrue (has_node M n)) (sym (Contains-one v w h)) known
         ];
       }
-
-  pub nodes_more : (ps vs : List ℕ) (p v : ℕ) (b : Bool) → IsTrue (has_node M v) → slot v ≡ p → AreNodesIn M slot ps vs →
-      AreNodesIn M slot (ps ++ cond b (p ∷ []) []) (vs ++ cond b (v ∷ []) [])
-  nodes_more ps vs p v true known at a = nodes_push ps vs p v known at a
   nodes_more ps vs p v false known at a = rw (append-nil ps, append-nil vs) a
 
   pub nodes_of : (ps : List ℕ) → AreFilled M slot ps → (vs : List ℕ) × AreNodesIn M slot ps vs

@@ -1,13 +1,13 @@
 -- Distances from one node, and the lines that end the shortest routes.
 use Rattle.olr_route.proofs.LabelNames.{◌≡◌, ◌↔◌, ℕ, ◌+◌, ◌<◌, ◌≤◌, List, [], ◌∷◌, ◌++◌, Option, Some, None, IsTrue}
-use Rattle.olr_route.proofs.LabelNames.{arith, sym}
-use Rattle.olr_route.proofs.LabelNames.{refl, ap, subst, cases_lt, length, get_or, none-some, Map, has_node}
+use Rattle.olr_route.proofs.LabelNames.{arith, sym, refl, ap, subst, cases_lt, length, get_or, none-some, Map, has_node}
 use Rattle.olr_route.proofs.LabelNames.{start, dm, lines_in, IsRoute, dm_of, Least, Leads, IsDistance, Along, EndsRoute}
-use Rattle.olr_route.proofs.LabelNames.{IsLast, first_one, last_step, dm_of-line, entering, IsStrictlyIncreasing}
+use Rattle.olr_route.proofs.LabelNames.{IsLast, first_one, last_step, dm_of-line, IsStrictlyIncreasing}
 use Rattle.std.proofs.Common.{eqb}
 use Rattle.std.specs.Option.{option_eq}
 use Rattle.std.proofs.lemmas.Bool.{eqb-true, eq-eqb}
-use Rattle.olr_route.proofs.Common.{Contains-one}
+use Rattle.olr_route.proofs.Common.{Against, Contains-one}
+use Rattle.olr_route.proofs.ReadLemmas.{found_at}
 use Rattle.olr_route.proofs.WayLemmas.{leads_on}
 use Rattle.olr_spec.proofs.AscendingLists.{ascends}
 use Rattle.olr_spec.proofs.OrderLemmas.{ascend_in}
@@ -61,12 +61,12 @@ module _ (M : Map) (s : ℕ) where
       ends = λ x e. let same : get_or lines i 0 ≡ x = cc in subst (EndsRoute M s v d) same here;
       least = λ x e.
           let up = subst (λ (zs : List ℕ). IsStrictlyIncreasing zs) (sym is) (ascend_in M v) in
-          let j = entering M v x lines is e.known e.to in
+          let j = found_at M Against v lines x is e.known e.to in
           (get_or lines i 0, refl, grind (arith, none j.0, ascends lines up i j.0));
     }
 
     pub none_is_last : ((j : ℕ) → j < length lines → ¬ EndsRoute M s v d (get_or lines j 0)) → IsLast M s v d None
     none_is_last none = record {
       ends = λ x e. absurd (none-some x e);
-      least = λ x e. let never : ⊥ = grind (arith, none, entering M v x lines is) in absurd never;
+      least = λ x e. let never : ⊥ = grind (arith, none, found_at M Against v lines x is) in absurd never;
     }

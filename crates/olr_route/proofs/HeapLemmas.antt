@@ -2,27 +2,20 @@
 use Rattle.olr_route.proofs.Common.{◌≡◌, ℕ, ◌<◌, ◌≤◌, ◌⊎◌, List, [], ◌∷◌, Contains, sym, ap, ◌∙◌, subst, inl, inr}
 use Rattle.olr_route.proofs.Common.{arith, refl, IsPermutation, Contains-permutation, Contains-append_cases}
 use Rattle.olr_route.proofs.Common.{Contains-append_right, Contains-one, queue_key, ◌/◌, ◌%◌, ◌^◌, IsUpperBound}
-use Rattle.olr_route.proofs.Common.{ge_from_not_lt, Some}
+use Rattle.olr_route.proofs.Common.{ge_from_not_lt, Some, Contains-here, IsPermutation-sym, IsDistinct-IsPermutation}
+use Rattle.olr_route.proofs.Common.{false}
 use Rattle.std.specs.Prelude.{None, Ok, Err, Option, Result, IfSome, IfNone, OnOk, OnErr}
 use Rattle.std.specs.declared.cmp.Reverse.{Reverse}
 use Rattle.std.proofs.lemmas.Nat.{div-mul-add, mod-mul-add}
 use Rattle.olr_route.specs.Entries.{entry_cmp, entry_eq}
-use Rattle.olr_route.proofs.Common.{Contains-here, Contains-later, Contains-cases, IsPermutation-sym, Bool, true}
-use Rattle.olr_route.proofs.Common.{IsDistinct-IsPermutation, false}
 use Rattle.std.specs.Cmp.{nat_eq_equiv}
+use Rattle.std.proofs.lemmas.List.Elements.{All-contains, All-contains_itself, All-from_recursion, All-weaker, recursion_from_All}
 use Rattle.std.specs.List.{AllByRecursion, IsDistinct}
 use Rattle.std.proofs.lemmas.Bool.{ne_eqb}
 use Rattle.std.proofs.lemmas.Map.Keys.{IsDistinct-cons, IsDistinct-head, IsDistinct-tail}
 
 abbrev pub Entry : Type 0
 Entry = Reverse ℕ
-
--- the length and the slot of an entry
-pub entry_dist : (d p : ℕ) → p < 2 ^ 32 → queue_key d p / 2 ^ 32 ≡ d
-entry_dist d p small = div-mul-add d (2 ^ 32) p small
-
-pub entry_slot : (d p : ℕ) → p < 2 ^ 32 → queue_key d p % 2 ^ 32 ≡ p
-entry_slot d p small = mod-mul-add d (2 ^ 32) p small
 
 -- an entry is still there after a pop, or is the removed one
 pub popped_or : {X : Type 0} → (xs ys : List X) (x y : X) → IsPermutation xs (x ∷ ys) → Contains xs y → Contains ys y
@@ -38,8 +31,8 @@ pub popped_others : (xs ys : List Entry) (x : Entry) (d p : ℕ) → p < 2 ^ 32 
 popped_others xs ys x d p small perm w = elim (popped_or xs ys x (record { 0 = queue_key d p }) perm w) [
   | inl h ↦ inl h
   | inr e ↦ inr (
-    sym (entry_dist d p small) ∙ ap (λ (y : Entry). y.0 / 2 ^ 32) e,
-    sym (entry_slot d p small) ∙ ap (λ (y : Entry). y.0 % 2 ^ 32) e,
+    sym (div-mul-add d (2 ^ 32) p small) ∙ ap (λ (y : Entry). y.0 / 2 ^ 32) e,
+    sym (mod-mul-add d (2 ^ 32) p small) ∙ ap (λ (y : Entry). y.0 % 2 ^ 32) e,
   )
 ]
 
@@ -72,20 +65,10 @@ entry_flips x y = nat_eq_equiv.symm x.0 y.0
 
 -- the entries that differ from one are those that it is not
 others_differ : (x : Entry) (xs : List Entry) → ¬ Contains xs x → AllByRecursion (λ y. entry_eq x y ≡ false) xs
-others_differ x [] none = tt
-others_differ x (y ∷ xs) none = (
-  ne_eqb x.0 y.0 (λ same. none (subst (Contains (y ∷ xs)) (λ i. record { 0 = sym same i }) (Contains-here y xs))),
-  others_differ x xs (λ c. none (Contains-later y x xs c)),
-)
-
--- an element that all elements differ from is not among them
-pub not_among : {K : Type 0} (e : K → K → Bool) (x : K) → e x x ≡ true → (xs : List K) →
-    AllByRecursion (λ y. e x y ≡ false) xs → ¬ Contains xs x
-not_among e x same [] differ c = absurd (omega (arith, c.1))
-not_among e x same (y ∷ xs) differ c = elim (Contains-cases y x xs c) [
-  | inl is ↦ let never : ⊥ = cc (differ.0, ap (λ z. e x z) is) in absurd never
-  | inr h ↦ not_among e x same xs differ.1 h
-]
+others_differ x xs none =
+    recursion_from_All (λ y. entry_eq x y ≡ false) xs (All-weaker (Contains xs) (λ y. entry_eq x y ≡ false)
+    (λ y there. ne_eqb x.0 y.0 (λ same. none (subst (Contains xs) (λ i. record { 0 = sym same i }) there))) xs
+    (All-contains_itself xs))
 
 pub none_once : (xs : List Entry) → xs ≡ [] → IsDistinct entry_eq xs
 unfolding IsDistinct
@@ -108,8 +91,8 @@ pushed_added xs ys x e s d p is narrow small perm w =
     elim (popped_others ys xs x d p small (IsPermutation-sym (x ∷ xs) ys perm) w) [
       | inl h ↦ inl h
       | inr k ↦ inr (
-        k.0 ∙ ap (λ (n : ℕ). n / 2 ^ 32) is ∙ entry_dist e s narrow,
-        k.1 ∙ ap (λ (n : ℕ). n % 2 ^ 32) is ∙ entry_slot e s narrow,
+        k.0 ∙ ap (λ (n : ℕ). n / 2 ^ 32) is ∙ div-mul-add e (2 ^ 32) s narrow,
+        k.1 ∙ ap (λ (n : ℕ). n % 2 ^ 32) is ∙ mod-mul-add e (2 ^ 32) s narrow,
       )
     ]
 
@@ -126,8 +109,12 @@ popped_once Q None xs ys perm same once = subst (IsDistinct entry_eq) (sym same.
 pub popped_gone : (xs ys : List Entry) (x : Entry) (d p : ℕ) → x.0 ≡ queue_key d p → IsPermutation xs (x ∷ ys) →
     IsDistinct entry_eq xs → ¬ Contains ys (record { 0 = queue_key d p })
 popped_gone xs ys x d p is perm once c =
-    not_among entry_eq x (nat_eq_equiv.refl x.0) ys (IsDistinct-head entry_eq x ys (popped_all xs ys x perm once))
-    (subst (Contains ys) (λ i. record { 0 = sym is i }) c)
+    let differ = IsDistinct-head entry_eq x ys (popped_all xs ys x perm once) in
+    let differs : entry_eq x x ≡ false =
+    All-contains (λ y. entry_eq x y ≡ false) ys x (All-from_recursion (λ y. entry_eq x y ≡ false) ys differ)
+    (subst (Contains ys) (λ i. record { 0 = sym is i }) c) in
+    let same = nat_eq_equiv.refl x.0 in
+    cc
 
 pub popped_there : (xs ys : List Entry) (x : Entry) (d p : ℕ) → x.0 ≡ queue_key d p → IsPermutation xs (x ∷ ys) →
     Contains xs (record { 0 = queue_key d p })

@@ -1,11 +1,9 @@
 -- Distances with their last lines are the labels of the shortest paths.
-use Rattle.olr_route.proofs.LabelNames.{◌≡◌, ℕ, zero, suc, ◌<◌, ◌≤◌, ◌↔◌, List, [], ◌∷◌, ◌++◌, Option, Some, None}
-use Rattle.olr_route.proofs.LabelNames.{refl, ap, ◌∙◌, subst, inl, inr, arith, none-some, Map, IsMap, start, IsRoute}
-use Rattle.olr_route.proofs.LabelNames.{dm_of, Least, LeastWithin, empty_least, one_least, positive, LiesWithin, Along}
-use Rattle.olr_route.proofs.LabelNames.{IsLabel}
-use Rattle.olr_route.proofs.LabelNames.{ends_of, empty, ended, dm_of-line, route_on, last_step, same_last, MatchOption}
-use Rattle.olr_route.proofs.LabelNames.{get_or, get_or_default}
-use Rattle.olr_route.proofs.LabelNames.{AreLabels, limit_of}
+use Rattle.olr_route.proofs.LabelNames.{◌≡◌, ℕ, zero, suc, ◌<◌, ◌≤◌, ◌↔◌, List, [], ◌∷◌, ◌++◌, Option, Some, None, refl}
+use Rattle.olr_route.proofs.LabelNames.{ap, ◌∙◌, subst, inl, inr, arith, none-some, Map, IsMap, start, IsRoute, dm_of}
+use Rattle.olr_route.proofs.LabelNames.{Least, LeastWithin, empty_least, one_least, positive, LiesWithin, Along}
+use Rattle.olr_route.proofs.LabelNames.{IsLabel, ends_of, empty, ended, dm_of-line, route_on, last_step, same_last}
+use Rattle.olr_route.proofs.LabelNames.{MatchOption, get_or, get_or_default, AreLabels, limit_of}
 use Rattle.std.proofs.Common.{reverse}
 use Rattle.olr_spec.specs.Routes.{FirstSmaller}
 use Rattle.olr_spec.proofs.RouteLemmas.{last_first, route_start}

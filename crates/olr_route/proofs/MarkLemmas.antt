@@ -1,16 +1,11 @@
 -- A search goes on where a line counts longer whose start isn't settled yet.
-use Rattle.olr_route.proofs.Common.{◌≡◌, ◌≢◌, ℕ, ◌+◌, ◌<◌, ◌≤◌, List, Contains, IsTrue, length, ap}
-use Rattle.olr_route.proofs.Common.{sym}
-use Rattle.olr_route.proofs.Common.{subst, inl, inr, arith, ◌∙◌, refl, cases_eq, zero, suc, Map, has_node}
-use Rattle.olr_route.proofs.Common.{has_line}
-use Rattle.olr_route.proofs.Common.{start, end, dm, dm_of, Way, Leads, near_end, far_end, label_of}
-use Rattle.olr_route.proofs.Common.{IsLabelled}
-use Rattle.olr_route.proofs.Common.{IsUnderWay, IsSearch, GREATEST_LIMIT, Direction, Along, Against, Dijkstra}
-use Rattle.olr_route.proofs.Common.{HasEnds}
-use Rattle.olr_route.proofs.Common.{IsOver, IsSearchedAs, Frontier}
+use Rattle.olr_route.proofs.Common.{◌≡◌, ◌≢◌, ℕ, ◌+◌, ◌<◌, ◌≤◌, List, IsTrue, ap, sym, subst, inl, inr, arith, ◌∙◌}
+use Rattle.olr_route.proofs.Common.{refl, cases_eq, Map, has_node, has_line, start, end, dm, Leads, near_end, far_end}
+use Rattle.olr_route.proofs.Common.{label_of, IsLabelled, IsUnderWay, IsSearch, GREATEST_LIMIT, Direction, Along}
+use Rattle.olr_route.proofs.Common.{Against, Dijkstra, IsOver, IsSearchedAs, Frontier}
 use Rattle.olr_route.proofs.CutLemmas.{settled_up_to}
-use Rattle.olr_route.proofs.WayLemmas.{way_ends, leads_first, leads_on, near_there, far_there}
-use Rattle.olr_route.proofs.WayLemmas.WayEnds.{stays, continues}
+use Rattle.olr_route.proofs.SearchLemmas.{followed}
+use Rattle.olr_route.proofs.WayLemmas.{by_ways, leads_first, leads_on, near_there, far_there}
 
 pub near_over : (M N : Map) → IsOver M N → (direction : Direction) (x : ℕ) → near_end N direction x ≡ near_end M direction x
 near_over M N o Along x = o.starts x
@@ -20,13 +15,10 @@ pub far_over : (M N : Map) → IsOver M N → (direction : Direction) (x : ℕ) 
 far_over M N o Along x = o.ends x
 far_over M N o Against x = o.starts x
 
-pub over_same : (M : Map) → IsOver M M
-over_same M = record { nodes = λ v. refl; lines = λ x. refl; starts = λ x. refl; ends = λ x. refl }
-
 -- where each line counts as long as it is
 pub plain : (M : Map) (slot : ℕ → ℕ) (direction : Direction) (f : Frontier) (next : ℕ) →
     IsSearchedAs M M slot direction (λ _ d. d) f next
-plain M slot direction f next = record { over = over_same M; long = λ x known far. refl }
+plain M slot direction f next = record { over = grind arith; long = λ x known far. refl }
 
 -- K is as N, but for the line own, which is longer, and whose start is not settled
 module _ (N K : Map) (slot : ℕ → ℕ) (direction : Direction) (from : List (ℕ × ℕ)) (s : Dijkstra)
@@ -51,9 +43,6 @@ module _ (N K : Map) (slot : ℕ → ℕ) (direction : Direction) (from : List (
   settled_line : (x : ℕ) → label_of s.frontier (slot (near_end N direction x)) ≤ s.limit → dm K x ≡ dm N x
   settled_line x near = others x (λ same. let e = ap (λ y. label_of s.frontier (slot (near_end N direction y))) same in absurd (omega arith))
 
-  far_node_of : (x : ℕ) → IsTrue (has_line N x) → IsTrue (has_node N (far_end N direction x))
-  far_node_of x line = far_there N h.under_way.labelled.sound direction x line
-
   -- one more line from a settled node
   line_on : (x v e d : ℕ) → IsTrue (has_line N x) → far_end N direction x ≡ v →
       label_of s.frontier (slot (near_end N direction x)) ≤ s.limit → e + dm N x ≡ d →
@@ -68,37 +57,14 @@ module _ (N K : Map) (slot : ℕ → ℕ) (direction : Direction) (from : List (
       coe 0 1 (i. Leads K direction from (end i) (long i)) on
 
   -- no route within the limit has the line
-  leads_same : (n b v d u : ℕ) (lines : List ℕ) → Contains from (u, b) → IsTrue (has_node N u) → Way N direction u v lines →
-      length lines ≤ n → b + dm_of N lines ≡ d → d ≤ s.limit → Leads K direction from v d
-  leads_same zero b v d u lines listed node way size long near = elim (way_ends N direction u v lines way) [
-    | stays e none ↦
-        let at : b ≡ d = omega arith in
-        coe 0 1 (i. Leads K direction from (e i) (at i)) (leads_first K direction from u b listed (there u node))
-    | continues k ↦ absurd (omega arith)
-  ]
-  leads_same (suc n) b v d u lines listed node way size long near = elim (way_ends N direction u v lines way) [
-    | stays e none ↦
-        let at : b ≡ d = omega arith in
-        coe 0 1 (i. Leads K direction from (e i) (at i)) (leads_first K direction from u b listed (there u node))
-    | continues k ↦
-        let e = b + dm_of N k.front in
-        let low =
-        h.settled (near_end N direction k.line) e (near_there N h.under_way.labelled.sound direction k.line k.known) (omega arith)
-        (record { source = u; begun = b; lines = k.front; listed = listed; there = node; way = k.way; long = refl }) in
-        line_on k.line v e d k.known k.to (omega arith) (omega arith)
-        (leads_same n b (near_end N direction k.line) e u k.front listed node k.way (omega arith) refl (omega arith))
-  ]
-
-  -- the lines from a settled node have been followed
-  followed : (x : ℕ) → IsTrue (has_line N x) → label_of s.frontier (slot (near_end N direction x)) ≤ s.limit →
-      label_of s.frontier (slot (far_end N direction x)) ≤ label_of s.frontier (slot (near_end N direction x)) + dm N x
-  followed x line near =
-      elim (h.under_way.front (near_end N direction x) (near_there N h.under_way.labelled.sound direction x line)
-      (omega (arith, h.small))) [
-        | inl cut ↦ cut x line refl tt
-        | inr w ↦ let far = h.counted.ahead (label_of s.frontier (slot (near_end N direction x))) (slot (near_end N direction x)) w in
-            absurd (omega arith)
-      ]
+  leads_same : (v d : ℕ) → d ≤ s.limit → Leads N direction from v d → Leads K direction from v d
+  leads_same v d near l =
+      by_ways N from (λ w e. e ≤ s.limit → Leads K direction from w e) direction
+      (λ u b listed node _. leads_first K direction from u b listed (there u node))
+      (λ x e line first more le.
+      let low =
+      h.settled (near_end N direction x) e (near_there N h.under_way.labelled.sound direction x line) (omega arith) first in
+      line_on x (far_end N direction x) e (e + dm N x) line refl (omega arith) refl (more (omega arith))) v d l near
 
   leads_still : (v : ℕ) → IsTrue (has_node N v) → label_of s.frontier (slot v) ≤ GREATEST_LIMIT →
       Leads K direction from v (label_of s.frontier (slot v))
@@ -114,29 +80,23 @@ module _ (N K : Map) (slot : ℕ → ℕ) (direction : Direction) (from : List (
         | inr k ↦
             let w = near_end N direction k.line in
             let way = l.leads w (near_there N l.sound direction k.line k.known) (omega (arith, h.small, k.near)) in
-            let low = followed k.line k.known k.near in
+            let low = followed N slot direction from s h k.line k.known k.near in
             line_on k.line v (label_of s.frontier (slot w)) (label_of s.frontier (slot v)) k.known
-            (l.own (far_end N direction k.line) v (far_node_of k.line k.known) node k.to) k.near
+            (l.own (far_end N direction k.line) v (far_there N l.sound direction k.line k.known) node k.to) k.near
             (omega (arith, k.sum, ap (label_of s.frontier) k.to))
-            (leads_same (length way.lines) way.begun w (label_of s.frontier (slot w)) way.source way.lines way.listed way.there
-            way.way (omega arith) way.long k.near)
+            (leads_same w (label_of s.frontier (slot w)) k.near way)
       ]
-
-  has_ends_still : HasEnds K
-  has_ends_still =
-      let m = h.under_way.labelled.sound in
-      record {
-        starts = λ x line. there (start K x) (subst (λ v. IsTrue (has_node N v)) (sym (over.starts x)) (m.starts x (back x line)));
-        ends = λ x line. there (end K x) (subst (λ v. IsTrue (has_node N v)) (sym (over.ends x)) (m.ends x (back x line)));
-        long = λ x line. let some = m.long x (back x line) in omega (arith, at_least x);
-      }
 
   labelled_still : IsLabelled K slot direction from s.frontier
   labelled_still =
       let l = h.under_way.labelled in
       let here : (v : ℕ) → IsTrue (has_node K v) → IsTrue (has_node N v) = λ v. subst IsTrue (over.nodes v) in
       record {
-        sound = has_ends_still;
+        sound = record {
+          starts = λ x line. there (start K x) (subst (λ v. IsTrue (has_node N v)) (sym (over.starts x)) (l.sound.starts x (back x line)));
+          ends = λ x line. there (end K x) (subst (λ v. IsTrue (has_node N v)) (sym (over.ends x)) (l.sound.ends x (back x line)));
+          long = λ x line. let some = l.sound.long x (back x line) in omega (arith, at_least x);
+        };
         own = λ v w a b. l.own v w (here v a) (here w b);
         room = λ v a. l.room v (here v a);
         low = l.low;

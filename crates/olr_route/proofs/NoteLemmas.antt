@@ -72,16 +72,5 @@ none_queued q none d p w = omega (arith, w.there.1, q.heap.data.ok.0)
 pub low_put : (table : List ℕ) (old new : Queue) (r d : ℕ) → r < length table → d < label_in table r →
     ((e p : ℕ) → Queued new e p → Queued old e p ⊎ ((e ≡ d) × (p ≡ r))) → LowLabels table old →
     LowLabels (set table r d) new
-low_put table old new r d lt less added low e p w = elim (cases_eq p r) [
-  | inl is ↦
-      let here : label_in (set table r d) p ≡ d =
-      ap (label_in (set table r d)) is ∙ get_or-set_same table r d UNREACHED lt in
-      elim (added e p w) [
-        | inl was ↦ let le = low e p was in let same = ap (label_in table) is in omega arith
-        | inr at ↦ omega (arith, at.0)
-      ]
-  | inr ne ↦ elim (added e p w) [
-    | inl was ↦ let le = low e p was in omega (arith, get_or-set_other table r p d UNREACHED ne)
-    | inr at ↦ absurd (ne at.1)
-  ]
-]
+low_put table old new r d lt less added low e p w =
+    grind (arith, cases_eq p r, added e p w, low e p, get_or-set_same, get_or-set_other)

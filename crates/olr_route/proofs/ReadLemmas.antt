@@ -1,9 +1,8 @@
 -- The lists of the lines that are entered at a node.
 use Rattle.olr_route.proofs.Common.{arith, ◌≡◌, ℕ, ◌<◌, List, true, IsTrue, length, get_or, sym, ap, ◌∙◌, subst, Map}
-use Rattle.olr_route.proofs.Common.{has_line}
-use Rattle.olr_route.specs.ResolvedLines.{ResolvedLine, IsResolved, record_of}
-use Rattle.olr_route.proofs.Common.{end, lines_in, near_end, lines_at, Direction, Along, Against, is_some, unwrap_or}
+use Rattle.olr_route.proofs.Common.{has_line, near_end, lines_at, Direction, Along, Against, is_some, unwrap_or}
 use Rattle.olr_route.proofs.Common.{no_line, has, at_index, has_read}
+use Rattle.olr_route.specs.ResolvedLines.{ResolvedLine, IsResolved, record_of}
 use Rattle.std.specs.FinMap.{get}
 use Rattle.olr_spec.proofs.OrderLemmas.{exactly_in, exactly_out}
 use Rattle.olr_spec.proofs.OptionLemmas.{some_of}
@@ -25,14 +24,6 @@ read_at M d v xs i x e lt is = listed M d v x (subst (λ (zs : List ℕ). has zs
 pub found_at : (M : Map) (d : Direction) (v : ℕ) (xs : List ℕ) (x : ℕ) → xs ≡ lines_at M d v → IsTrue (has_line M x) →
     near_end M d x ≡ v → (i : ℕ) × (i < length xs) × (get_or xs i 0 ≡ x)
 found_at M d v xs x e h near = at_index xs x (subst (λ (zs : List ℕ). has zs x ≡ true) (sym e) (lists M d v x h near))
-
-pub enters : (M : Map) (v i x : ℕ) (xs : List ℕ) → xs ≡ lines_in M v → i < length xs → x ≡ get_or xs i x →
-    IsTrue (has_line M x) × (end M x ≡ v)
-enters M v i x xs e lt is = read_at M Against v xs i x e lt is
-
-pub entering : (M : Map) (v x : ℕ) (xs : List ℕ) → xs ≡ lines_in M v → IsTrue (has_line M x) → end M x ≡ v → (i : ℕ)
-    × (i < length xs) × (get_or xs i 0 ≡ x)
-entering M v x xs e h to = found_at M Against v xs x e h to
 
 -- a line that is read as the map has it
 pub resolved_as : (M : Map) (slot : ℕ → ℕ) (x : ℕ) (r : ResolvedLine) → IsTrue (has_line M x) → r ≡ record_of M slot x →

@@ -1,15 +1,17 @@
 -- The invariants of a search that can be continued.
-use Rattle.olr_route.proofs.Common.{◌≡◌, ◌≢◌, ℕ, ◌+◌, ◌<◌, ◌≤◌, ◌⊎◌, List, [], ◌∷◌, Contains, IsTrue, length, get_or}
+use Rattle.olr_route.proofs.Common.{refl, ◌==◌, has_line, near_end, far_end, dm, ◌≡◌, ◌≢◌, ℕ, ◌+◌, ◌<◌, ◌≤◌, ◌⊎◌, List, [], ◌∷◌, Contains, IsTrue, length, get_or}
 use Rattle.olr_route.proofs.Common.{sym, ap, ◌∙◌, subst, inl, inr, arith, set, cases_eq, cases_lt, get_or-set_same}
-use Rattle.olr_route.proofs.Common.{get_or-set_other, Contains-append_cases, Map, HasEnds, has_node}
-use Rattle.olr_route.proofs.Common.{Contains-one, Leads, IsDistance, label_in, NotesOnce, AreApart, label_of}
-use Rattle.olr_route.proofs.Common.{frontier_len, IsQueued, IsRelaxed, Moves, IsLabelled, IsSearch}
-use Rattle.olr_route.proofs.Common.{LiesWithin, GREATEST_LIMIT, Frontier, Direction, Dijkstra}
-use Rattle.olr_route.proofs.Common.{Contains-get_or, sum_by-set, queued_len, IsEmpty, IsAlike, NotedOnce, CoversSlots}
-use Rattle.olr_route.proofs.Common.{IsReached}
+use Rattle.olr_route.proofs.Common.{get_or-set_other, Contains-append_cases, Map, HasEnds, has_node, Contains-one}
+use Rattle.olr_route.proofs.Common.{Leads, IsDistance, label_in, NotesOnce, AreApart, label_of, frontier_len, IsQueued}
+use Rattle.olr_route.proofs.Common.{IsRelaxed, Moves, IsLabelled, IsSearch, LiesWithin, GREATEST_LIMIT, Frontier}
+use Rattle.olr_route.proofs.Common.{Direction, Dijkstra, Contains-get_or, sum_by-set, queue_len, IsEmpty, IsAlike}
+use Rattle.olr_route.proofs.Common.{NotedOnce, CoversSlots, IsReached}
 use Rattle.std.proofs.lemmas.List.Quantifiers.{all_pairs_push}
-use Rattle.olr_route.proofs.DistinctLemmas.{found_slot}
-use Rattle.olr_route.proofs.WayLemmas.{leads_node}
+use Rattle.std.proofs.lemmas.Bool.{cases_Bool}
+use Rattle.std.proofs.lemmas.Bool.Decides.{Decides-eqb, not_from_Decides}
+use Rattle.std.proofs.lemmas.Map.Made.{is_member-Decides}
+use Rattle.std.specs.Set.{is_member}
+use Rattle.olr_route.proofs.WayLemmas.{leads_node, near_there}
 
 -- ---- one label is lowered
 
@@ -18,7 +20,7 @@ pub put_by : (f g : Frontier) (p d label : ℕ) → g.table.items ≡ set f.tabl
     label ≡ label_of f p → d < label → NotesOnce f.reached.items g.reached.items label p → IsQueued g d p →
     ((e q : ℕ) → IsQueued f e q → IsQueued g e q) →
     ((e q : ℕ) → IsQueued g e q → IsQueued f e q ⊎ ((e ≡ d) × (q ≡ p))) → frontier_len g ≡ frontier_len f →
-    queued_len g ≡ queued_len f + 1 → IsRelaxed f g p d
+    queue_len g.queue ≡ queue_len f.queue + 1 → IsRelaxed f g p d
 put_by f g p d label table within was lt once there kept added len more =
     grind (arith, label_of, label_in, get_or-set_same, get_or-set_other, sum_by-set)
 
@@ -56,10 +58,15 @@ moves_then f g h m n = record {
 
 -- each slot with a label is in the list
 pub labelled_listed : (f : Frontier) (p : ℕ) → label_of f p ≤ GREATEST_LIMIT → Contains f.reached.items p
-labelled_listed f p small = elim (found_slot f.reached.items p) [
-  | inr none ↦ let no_label = f.noted p none in absurd (omega arith)
-  | inl c ↦ c
-]
+labelled_listed f p small =
+    let listed = is_member-Decides Decides-eqb f.reached.items p in
+    elim (cases_Bool (is_member ◌==◌ f.reached.items p)) [
+      | inl on ↦ listed.0 on
+      | inr off ↦
+          let no_label =
+          f.noted p (λ q c same. not_from_Decides (is_member ◌==◌ f.reached.items p) listed off (subst (Contains f.reached.items) same c)) in
+          absurd (omega arith)
+    ]
 
 pub alike_labels : (f g : Frontier) → IsAlike f g → (p : ℕ) → label_of g p ≡ label_of f p
 alike_labels f g k p = ap (λ (t : List ℕ). label_in t p) k.table
@@ -68,21 +75,6 @@ module _ (M : Map) (slot : ℕ → ℕ) (direction : Direction) (from : List (�
   -- the length of a route is written as a label at its node
   module _ (f g : Frontier) (v p d : ℕ) (k : IsRelaxed f g p d) (there : IsTrue (has_node M v)) (at : slot v ≡ p)
       (way : Leads M direction from v d) (l : IsLabelled M slot direction from f) where
-    put_leads : (w : ℕ) → IsTrue (has_node M w) → label_of g (slot w) ≤ GREATEST_LIMIT →
-        Leads M direction from w (label_of g (slot w))
-    put_leads w known small = elim (put_cases f g p d k (slot w)) [
-      | inl same ↦ subst (λ (e : ℕ). Leads M direction from w e) (sym same) (l.leads w known (omega arith))
-      | inr new ↦
-          let own : w ≡ v = l.own w v known there (new.1 ∙ sym at) in
-          coe 1 0 (i. Leads M direction from (own i) (new.0 i)) way
-    ]
-
-    put_nodes : (q : ℕ) → label_of g q ≤ GREATEST_LIMIT → (w : ℕ) × IsTrue (has_node M w) × (slot w ≡ q)
-    put_nodes q small = elim (put_cases f g p d k q) [
-      | inl same ↦ l.nodes q (omega arith)
-      | inr new ↦ (v, there, at ∙ sym new.1)
-    ]
-
     put_listed : NotedOnce f g p → (q : ℕ) → Contains g.reached.items q → label_of g q ≤ GREATEST_LIMIT
     put_listed (inl h) q c =
         let was = l.listed q (subst (λ (ps : List ℕ). Contains ps q) h.0 c) in
@@ -106,8 +98,13 @@ module _ (M : Map) (slot : ℕ → ℕ) (direction : Direction) (from : List (�
       own = l.own;
       room = λ w known. let was = l.room w known in omega arith;
       low = λ q. let was = l.low q in let le = put_le f g p d k q in omega arith;
-      leads = put_leads;
-      nodes = put_nodes;
+      leads = λ w known small. elim (put_cases f g p d k (slot w)) [
+        | inl same ↦ subst (λ (e : ℕ). Leads M direction from w e) (sym same) (l.leads w known (omega arith))
+        | inr new ↦
+            let own : w ≡ v = l.own w v known there (new.1 ∙ sym at) in
+            coe 1 0 (i. Leads M direction from (own i) (new.0 i)) way
+      ];
+      nodes = λ q small. grind (arith, put_cases f g p d k q, l.nodes q);
       listed = put_listed k.noted;
       apart = put_apart k.noted;
     }
@@ -123,19 +120,7 @@ module _ (M : Map) (slot : ℕ → ℕ) (direction : Direction) (from : List (�
   -- what does not depend on the queue
   pub labelled_same : (f g : Frontier) → IsAlike f g → IsLabelled M slot direction from f →
       IsLabelled M slot direction from g
-  labelled_same f g k l = record {
-    sound = l.sound;
-    own = l.own;
-    room = λ v known. let was = l.room v known in omega (arith, k.len);
-    low = λ p. let was = l.low p in omega (arith, alike_labels f g k p);
-    leads = λ v known small. subst (λ (e : ℕ). Leads M direction from v e) (sym (alike_labels f g k (slot v)))
-        (l.leads v known (omega (arith, alike_labels f g k (slot v))));
-    nodes = λ p small. l.nodes p (omega (arith, alike_labels f g k p));
-    listed = λ p c.
-        let was = l.listed p (subst (λ (ps : List ℕ). Contains ps p) k.reached c) in
-        omega (arith, alike_labels f g k p);
-    apart = subst AreApart (sym k.reached) l.apart;
-  }
+  labelled_same f g k l = grind (arith, alike_labels f g k)
 
   -- ---- what the labels say
 
@@ -183,3 +168,13 @@ module _ (M : Map) (slot : ℕ → ℕ) (direction : Direction) (from : List (�
         let own = l.nodes p small in
         let is = ap (label_of s.frontier) own.2 in
         (own.0, (label_of s.frontier (slot own.0), l.leads own.0 own.1 (omega arith), omega arith), own.2)
+
+    -- the lines from a settled node have been followed
+    pub followed : (x : ℕ) → IsTrue (has_line M x) → label_of s.frontier (slot (near_end M direction x)) ≤ s.limit →
+        label_of s.frontier (slot (far_end M direction x)) ≤ label_of s.frontier (slot (near_end M direction x)) + dm M x
+    followed x line near =
+        let v = near_end M direction x in
+        elim (h.under_way.front v (near_there M h.under_way.labelled.sound direction x line) (omega (arith, h.small))) [
+          | inl cut ↦ cut x line refl tt
+          | inr w ↦ let far = h.counted.ahead (label_of s.frontier (slot v)) (slot v) w in absurd (omega arith)
+        ]

@@ -1,34 +1,13 @@
 -- The slots that are settled, as the frontier changes.
-use Rattle.olr_route.proofs.Common.{◌≡◌, ◌≢◌, ◌==◌, ℕ, ◌+◌, ◌<◌, ◌≤◌, List, [], ◌∷◌, ◌++◌, Contains, length}
-use Rattle.olr_route.proofs.Common.{sym, ap, ◌∙◌, ◌^◌, subst, inl, inr, arith, length-append, IsDistinct}
-use Rattle.olr_route.proofs.Common.{Contains-append_cases, Contains-append_left, Contains-here, Contains-later}
-use Rattle.olr_route.proofs.Common.{Contains-one, Contains-get_or, label_of, IsQueued, IsRelaxed, IsAlike}
-use Rattle.olr_route.proofs.Common.{IsCounted, GREATEST_LIMIT, Frontier}
-use Rattle.std.specs.Cmp.{nat_eq_equiv}
+use Rattle.olr_route.proofs.Common.{◌⊎◌, ◌≡◌, ◌≢◌, ℕ, ◌+◌, ◌<◌, ◌≤◌, [], ◌∷◌, ◌++◌, Contains, sym, ap, ◌∙◌, ◌^◌, subst}
+use Rattle.olr_route.proofs.Common.{inl, inr, arith, length-append, Contains-append_cases, Contains-append_left}
+use Rattle.olr_route.proofs.Common.{Contains-one, Contains-get_or, label_of, IsQueued, IsRelaxed, IsAlike, IsCounted}
+use Rattle.olr_route.proofs.Common.{GREATEST_LIMIT, Frontier}
 use Rattle.olr_route.specs.Queues.{IsPopped}
-use Rattle.std.specs.List.{remove}
 use Rattle.std.proofs.lemmas.List.Elements.{Contains-push}
 use Rattle.std.proofs.lemmas.List.Quantifiers.{all_pairs_push}
-use Rattle.std.proofs.lemmas.List.Sorted.{IsPermutation-remove, length_permutation}
-use Rattle.std.proofs.lemmas.Map.Keys.{IsDistinct-head, IsDistinct-tail}
-use Rattle.olr_route.proofs.DistinctLemmas.{slots_distinct}
-use Rattle.olr_route.proofs.HeapLemmas.{popped_or, not_among}
-use Rattle.olr_route.proofs.SearchLemmas.{put_le, put_cases, put_moves, alike_labels, labelled_listed}
-
--- as many at most as a list that has them all
-no_more : (xs ys : List ℕ) → IsDistinct ◌==◌ xs → ((p : ℕ) → Contains xs p → Contains ys p) → length xs ≤ length ys
-no_more [] ys once all = omega arith
-no_more (x ∷ xs) ys once all =
-    let at = all x (Contains-here x xs) in
-    let perm = IsPermutation-remove ys at.0 x at.1 (sym at.2) in
-    let fewer =
-    no_more xs (remove ys at.0) (IsDistinct-tail ◌==◌ x xs once)
-    (λ p c. elim (popped_or ys (remove ys at.0) x p perm (all p (Contains-later x p xs c))) [
-      | inl h ↦ h
-      | inr is ↦ absurd
-          (not_among ◌==◌ x (nat_eq_equiv.refl x) xs (IsDistinct-head ◌==◌ x xs once) (subst (Contains xs) is c))
-    ]) in
-    omega (arith, length_permutation ys (x ∷ remove ys at.0) perm)
+use Rattle.olr_route.proofs.DistinctLemmas.{slots_distinct, no_more}
+use Rattle.olr_route.proofs.SearchLemmas.{put_le, put_moves, alike_labels, labelled_listed}
 
 -- nothing is settled at first
 pub counted_none : (f : Frontier) → ((p : ℕ) → label_of f p ≤ GREATEST_LIMIT → IsQueued f (label_of f p) p) →
@@ -44,48 +23,47 @@ counted_none f queued = record {
   ordered = omega arith;
 }
 
--- a label is lowered to a length that is greater than the settled ones
-pub counted_put : (f g : Frontier) (p d : ℕ) → IsRelaxed f g p d → (n near next : ℕ) → near < d → next ≤ d →
-    IsCounted f n near next → IsCounted g n near next
-counted_put f g p d k n near next lt le c = record {
+-- labels decrease where their slots are queued, at lengths greater than the settled ones, and what is removed from the
+-- queue is no label
+counted_on : (f g : Frontier) (n near next : ℕ) → ((p : ℕ) → label_of g p ≤ label_of f p) →
+    ((p : ℕ) → (label_of g p ≡ label_of f p) ⊎ IsQueued g (label_of g p) p) →
+    ((p : ℕ) → IsQueued f (label_of f p) p → IsQueued g (label_of f p) p) →
+    ((e p : ℕ) → IsQueued g e p → IsQueued f e p ⊎ ((near < e) × (next ≤ e))) → IsCounted f n near next → IsCounted g n near next
+counted_on f g n near next better fresh kept added c = record {
   slots = c.slots;
   many = c.many;
   apart = c.apart;
-  low = λ q t. let was = c.low q t in let less = put_le f g p d k q in omega arith;
-  done = λ q t w.
-      let was = c.low q t in
-      let less = put_le f g p d k q in
-      elim (put_cases f g p d k q) [
-        | inr new ↦ omega arith
-        | inl same ↦ elim (k.added (label_of g q) q w) [
-          | inl old ↦ c.done q t (subst (λ (e : ℕ). IsQueued f e q) same old)
-          | inr at ↦ omega (arith, at.0)
-        ]
-      ];
-  waits = λ q small. elim ((put_moves f g p d k).fresh q) [
+  low = λ p t. let was = c.low p t in let less = better p in omega arith;
+  done = λ p t w. elim (added (label_of g p) p w) [
+    | inr new ↦ let was = c.low p t in let less = better p in omega arith
+    | inl old ↦
+        let less = better p in
+        let low = f.low (label_of g p) p old in
+        let same : label_of g p ≡ label_of f p = omega arith in
+        c.done p t (subst (λ (e : ℕ). IsQueued f e p) same old)
+  ];
+  waits = λ p small. elim (fresh p) [
     | inr w ↦ inr w
-    | inl same ↦ elim (c.waits q (omega arith)) [
+    | inl same ↦ elim (c.waits p (omega arith)) [
       | inl t ↦ inl t
-      | inr w ↦ inr (subst (λ (e : ℕ). IsQueued g e q) (sym same) (k.kept (label_of f q) q w))
+      | inr w ↦ inr (subst (λ (e : ℕ). IsQueued g e p) (sym same) (kept p w))
     ]
   ];
-  ahead = λ e q w. elim (k.added e q w) [ inl old ↦ c.ahead e q old | inr at ↦ omega (arith, at.0) ];
+  ahead = λ e p w. elim (added e p w) [ inl old ↦ c.ahead e p old | inr new ↦ new.1 ];
   ordered = c.ordered;
 }
+
+-- a label is lowered to a length that is greater than the settled ones
+pub counted_put : (f g : Frontier) (p d : ℕ) → IsRelaxed f g p d → (n near next : ℕ) → near < d → next ≤ d →
+    IsCounted f n near next → IsCounted g n near next
+counted_put f g p d k n near next lt le =
+    counted_on f g n near next (put_le f g p d k) (put_moves f g p d k).fresh (λ q. k.kept (label_of f q) q)
+    (λ e q w. elim (k.added e q w) [ inl old ↦ inl old | inr at ↦ inr (omega (arith, at.0), omega (arith, at.0)) ])
 
 -- farther limits, up to what is queued
 pub counted_up : (f : Frontier) (n near next far then : ℕ) → near ≤ far → far ≤ then →
     ((e p : ℕ) → IsQueued f e p → then ≤ e) → IsCounted f n near next → IsCounted f n far then
-counted_up f n near next far then more ordered ahead c = record {
-  slots = c.slots;
-  many = c.many;
-  apart = c.apart;
-  low = λ p t. let was = c.low p t in omega arith;
-  done = c.done;
-  waits = c.waits;
-  ahead = ahead;
-  ordered = ordered;
-}
+counted_up f n near next far then more ordered ahead c = grind (arith, c.low)
 
 -- by other numbers that are the same
 pub counted_as : (f : Frontier) (n near next m far then : ℕ) → n ≡ m → near ≡ far → next ≡ then →
@@ -96,19 +74,9 @@ module _ (f g : Frontier) (alike : IsAlike f g) (fewer : (e q : ℕ) → IsQueue
   -- what is removed from the queue is no label
   pub counted_same : ((q : ℕ) → IsQueued f (label_of f q) q → IsQueued g (label_of f q) q) → (n near next : ℕ) →
       IsCounted f n near next → IsCounted g n near next
-  counted_same kept n near next c = record {
-    slots = c.slots;
-    many = c.many;
-    apart = c.apart;
-    low = λ p t. let was = c.low p t in omega (arith, alike_labels f g alike p);
-    done = λ p t w. c.done p t (subst (λ (e : ℕ). IsQueued f e p) (alike_labels f g alike p) (fewer _ p w));
-    waits = λ p small. elim (c.waits p (omega (arith, alike_labels f g alike p))) [
-      | inl t ↦ inl t
-      | inr w ↦ inr (subst (λ (e : ℕ). IsQueued g e p) (sym (alike_labels f g alike p)) (kept p w))
-    ];
-    ahead = λ e p w. c.ahead e p (fewer e p w);
-    ordered = c.ordered;
-  }
+  counted_same kept n near next =
+      counted_on f g n near next (λ p. omega (arith, alike_labels f g alike p)) (λ p. inl (alike_labels f g alike p)) kept
+      (λ e p w. inl (fewer e p w))
 
   -- a slot is removed at its label, the least queued length: one more is settled
   pub counted_more : (limit : ℕ) (x : ℕ × ℕ) → IsPopped f.queue g.queue limit x → label_of f x.1 ≡ x.0 →

@@ -1,11 +1,9 @@
 -- Whether a line extends a unique shortest path, by distances only.
 use Rattle.olr_route.proofs.Common.{◌≡◌, ℕ, ◌+◌, ◌≤◌, List, [], ◌∷◌, ◌++◌, IsTrue, ap, inl, inr, arith, cases_lt, Map}
-use Rattle.olr_route.proofs.Common.{has_node}
-use Rattle.olr_route.proofs.Common.{has_line, start, end, dm, IsRoute, dm_of, UniqueShortest, Contains-one}
-use Rattle.olr_route.proofs.Common.{refl}
-use Rattle.olr_route.proofs.Common.{label_of, IsSearch, GREATEST_LIMIT, Along, Dijkstra}
-use Rattle.olr_route.proofs.Common.{IsOnlyPredecessor}
+use Rattle.olr_route.proofs.Common.{has_node, has_line, start, end, dm, IsRoute, dm_of, UniqueShortest, Contains-one}
+use Rattle.olr_route.proofs.Common.{refl, label_of, IsSearch, GREATEST_LIMIT, Along, Dijkstra, IsOnlyPredecessor}
 use Rattle.olr_route.proofs.NoteLemmas.{first_one}
+use Rattle.olr_route.proofs.SearchLemmas.{followed}
 use Rattle.olr_route.proofs.WayLemmas.{way_start}
 use Rattle.olr_route.proofs.RouteEnds.{dm_of-line, unique_on, unique_alone}
 
@@ -36,15 +34,6 @@ module _ (M : Map) (slot : ℕ → ℕ) (s b : ℕ) (q : Dijkstra) (h : IsSearch
         | inr ge ↦ omega arith
       ]
 
-  -- the lines from a settled node have been followed
-  followed : (x : ℕ) → IsTrue (has_line M x) → label_of q.frontier (slot (start M x)) ≤ q.limit →
-      label_of q.frontier (slot (end M x)) ≤ label_of q.frontier (slot (start M x)) + dm M x
-  followed x line near =
-      elim (h.under_way.front (start M x) (h.under_way.labelled.sound.starts x line) (omega (arith, h.small))) [
-        | inl cut ↦ cut x line refl tt
-        | inr w ↦ let far = h.counted.ahead (label_of q.frontier (slot (start M x))) (slot (start M x)) w in absurd (omega arith)
-      ]
-
   module _ (route : List ℕ) (x : ℕ) (line : IsTrue (has_line M x)) (unique : UniqueShortest M s (start M x) route)
       (short : b + (dm_of M route + dm M x) ≤ q.limit + 1) where
     extends_if : label_of q.frontier (slot (start M x)) + dm M x ≡ label_of q.frontier (slot (end M x)) →
@@ -65,7 +54,7 @@ module _ (M : Map) (slot : ℕ → ℕ) (s b : ℕ) (q : Dijkstra) (h : IsSearch
         let m = h.under_way.labelled.sound in
         let some = m.long x line in
         let from = unique_label (start M x) route (m.starts x line) unique (omega arith) in
-        let low = followed x line (omega arith) in
+        let low = followed M slot Along ((s, b) ∷ []) q h x line (omega arith) in
         let total = dm_of-line M route x in
         elim (cases_lt (label_of q.frontier (slot (end M x))) (b + (dm_of M route + dm M x))) [
           | inl lt ↦

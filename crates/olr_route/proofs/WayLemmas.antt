@@ -1,42 +1,11 @@
 -- Routes in one direction or the other, and the far ends of the lines at a node.
-use Rattle.olr_route.proofs.Common.{◌≡◌, ℕ, ◌+◌, ◌<◌, List, [], ◌∷◌, ◌++◌, Contains, IsTrue, length, get_or, refl, sym}
-use Rattle.olr_route.proofs.Common.{ap, ◌∙◌, subst, arith, length-append, get_or-map, length-map, get_or_default_zero}
-use Rattle.olr_route.proofs.Common.{Map, IsMap, HasEnds, has_node, has_line, dm, IsRoute, dm_of, LineEnd, Way, Leads}
-use Rattle.olr_route.proofs.Common.{positive}
+use Rattle.olr_route.proofs.Common.{end, start, ◌≡◌, ℕ, ◌+◌, ◌<◌, List, [], ◌∷◌, ◌++◌, Contains, IsTrue, length, get_or}
+use Rattle.olr_route.proofs.Common.{refl, sym, ap, ◌∙◌, subst, arith, get_or-map, length-map, get_or_default_zero, Map, IsMap}
+use Rattle.olr_route.proofs.Common.{HasEnds, has_node, has_line, dm, IsRoute, dm_of, LineEnd, Way, Leads, positive}
 use Rattle.olr_route.proofs.Common.{near_end, far_end, lines_at, Direction, Along, Against, map, ends_at}
 use Rattle.olr_model.specs.Ends.{end_out, end_in}
 use Rattle.olr_route.proofs.ReadLemmas.{read_at, found_at}
-use Rattle.olr_route.proofs.RouteEnds.{ends_of, dm_of-line, route_on, last_step}
-use Rattle.olr_route.proofs.RouteEnds.Ends.{empty, ended}
-
--- the line by which a route reaches its end
-pub record LastLine (M : Map) (direction : Direction) (s v : ℕ) (lines : List ℕ) : Type 0 where
-  pub line : ℕ
-  pub front : List ℕ
-  pub way : Way M direction s (near_end M direction line) front
-  pub known : IsTrue (has_line M line)
-  pub to : far_end M direction line ≡ v
-  pub long : dm_of M lines ≡ dm_of M front + dm M line
-  pub size : length lines ≡ length front + 1
-
-pub data WayEnds (M : Map) (direction : Direction) (s v : ℕ) (lines : List ℕ) : Type 0 where
-  stays : s ≡ v → dm_of M lines ≡ 0 → WayEnds M direction s v lines
-  continues : LastLine M direction s v lines → WayEnds M direction s v lines
-
-pub way_ends : (M : Map) (direction : Direction) (s v : ℕ) (lines : List ℕ) → Way M direction s v lines →
-    WayEnds M direction s v lines
-way_ends M Along s v lines w = elim (ends_of lines) [
-  | empty e ↦ stays (subst (λ (zs : List ℕ). IsRoute M s v zs) e w) (ap (dm_of M) e)
-  | ended front x e ↦
-      let step = last_step M s v x front (subst (λ (zs : List ℕ). IsRoute M s v zs) e w) in
-      let same : length lines ≡ length (front ++ x ∷ []) = ap (λ (zs : List ℕ). length zs) e in
-      let size : length lines ≡ length front + 1 = omega (arith, length-append front (x ∷ [])) in
-      let long = ap (dm_of M) e ∙ dm_of-line M front x in
-      continues (record { line = x; front = front; way = step.front; known = step.known; to = step.to; long = long; size = size })
-]
-way_ends M Against s v [] w = stays (sym w) refl
-way_ends M Against s v (x ∷ xs) w =
-    continues (record { line = x; front = xs; way = w.2; known = w.0; to = w.1; long = omega arith; size = omega arith })
+use Rattle.olr_route.proofs.RouteEnds.{dm_of-line, route_on}
 
 pub has_ends : (M : Map) → IsMap M → HasEnds M
 has_ends M m = record { starts = m.starts; ends = m.ends; long = positive M m }
@@ -81,12 +50,48 @@ leads_on M direction from x d known l =
     let long : l.begun + dm_of M on.0 ≡ d + dm M x = omega (arith, l.long, on.2) in
     record { source = _; begun = _; lines = on.0; listed = l.listed; there = l.there; way = on.1; long = long }
 
+-- what holds where the routes begin, and stays true along each line
+module _ (M : Map) (from : List (ℕ × ℕ)) (P : ℕ → ℕ → Type 0) where
+  -- in this direction
+  abbrev pub Goes_on : Direction → Type 0
+  Goes_on direction =
+      (x d : ℕ) → IsTrue (has_line M x) → Leads M direction from (near_end M direction x) d → P (near_end M direction x) d →
+      P (far_end M direction x) (d + dm M x)
+
+  along : Goes_on Along → (xs : List ℕ) (u v d e : ℕ) → Leads M Along from u d → P u d → IsRoute M u v xs →
+      d + dm_of M xs ≡ e → P v e
+  along on [] u v d e l p w sum = let same : d ≡ e = omega arith in subst (λ (n : ℕ). P n e) w (subst (P u) same p)
+  along on (x ∷ xs) u v d e l p w sum =
+      let here = subst (λ (n : ℕ). Leads M Along from n d) (sym w.1) l in
+      along on xs (end M x) v (d + dm M x) e (leads_on M Along from x d w.0 here)
+      (on x d w.0 here (subst (λ (n : ℕ). P n d) (sym w.1) p)) w.2 (omega arith)
+
+  against : Goes_on Against → (xs : List ℕ) (s b v e : ℕ) → Contains from (s, b) → IsTrue (has_node M s) → P s b →
+      IsRoute M v s xs → b + dm_of M xs ≡ e → P v e
+  against on [] s b v e listed there p w sum =
+      let same : b ≡ e = omega arith in subst (λ (n : ℕ). P n e) (sym w) (subst (P s) same p)
+  against on (x ∷ xs) s b v e listed there p w sum =
+      let d = b + dm_of M xs in
+      let first : Leads M Against from (end M x) d =
+      record { source = s; begun = b; lines = xs; listed = listed; there = there; way = w.2; long = refl } in
+      let same : d + dm M x ≡ e = omega arith in
+      subst (λ (n : ℕ). P n e) w.1
+      (subst (P (start M x)) same (on x d w.0 first (against on xs s b (end M x) d listed there p w.2 refl)))
+
+  -- holds of each node to which they lead
+  pub by_ways : (direction : Direction) → ((s b : ℕ) → Contains from (s, b) → IsTrue (has_node M s) → P s b) →
+      Goes_on direction → (v d : ℕ) → Leads M direction from v d → P v d
+  by_ways Along first on v d l =
+      along on l.lines l.source v l.begun d (leads_first M Along from l.source l.begun l.listed l.there)
+      (first l.source l.begun l.listed l.there) l.way l.long
+  by_ways Against first on v d l =
+      against on l.lines l.source l.begun v d l.listed l.there (first l.source l.begun l.listed l.there) l.way l.long
+
 pub leads_node : (M : Map) → HasEnds M → (direction : Direction) (from : List (ℕ × ℕ)) (v d : ℕ) →
     Leads M direction from v d → IsTrue (has_node M v)
-leads_node M m direction from v d l = elim (way_ends M direction l.source v l.lines l.way) [
-  | stays e none ↦ subst (λ (u : ℕ). IsTrue (has_node M u)) e l.there
-  | continues k ↦ subst (λ (u : ℕ). IsTrue (has_node M u)) k.to (far_there M m direction k.line k.known)
-]
+leads_node M m direction from v d l =
+    by_ways M from (λ w _. IsTrue (has_node M w)) direction (λ s b _ there. there)
+    (λ x e known _ _. far_there M m direction x known) v d l
 
 -- a route to a node begins at one
 pub way_start : (M : Map) → HasEnds M → (s v : ℕ) (xs : List ℕ) → IsRoute M s v xs → IsTrue (has_node M v) →
@@ -125,45 +130,6 @@ ends_are : (M : Map) (slot : ℕ → ℕ) (direction : Direction) (v : ℕ) →
 ends_are M slot Along v = refl
 ends_are M slot Against v = refl
 
-pub record IsEnd (M : Map) (slot : ℕ → ℕ) (direction : Direction) (v : ℕ) (e : LineEnd) : Type 0 where
-  pub line : ℕ
-  pub known : IsTrue (has_line M line)
-  pub near : near_end M direction line ≡ v
-  pub there : e.slot ≡ slot (far_end M direction line)
-  pub len : e.len ≡ dm M line
-
-pub end_is : (M : Map) (slot : ℕ → ℕ) (direction : Direction) (v : ℕ) (items : List LineEnd) (i : ℕ) →
-    items ≡ ends_at M slot direction v → i < length items → IsEnd M slot direction v (get_or items i no_end)
-end_is M slot direction v items i is lt =
-    let xs = lines_at M direction v in
-    let k = made_at (far_of M slot direction) xs items i (is ∙ ends_are M slot direction v) lt in
-    let x = get_or xs i 0 in
-    let own = read_at M direction v xs i x refl k.0 (sym (get_or_default_zero xs i x k.0)) in
-    let f = subst (IsFar M slot direction x) (sym k.1) (far_is M slot direction x) in
-    record { line = x; known = own.0; near = own.1; there = f.there; len = f.len }
-
--- each line that is entered at v has its far end in the list
-pub record HasEnd (M : Map) (slot : ℕ → ℕ) (direction : Direction) (items : List LineEnd) (x : ℕ) : Type 0 where
-  pub index : ℕ
-  pub within : index < length items
-  pub there : (get_or items index no_end).slot ≡ slot (far_end M direction x)
-  pub len : (get_or items index no_end).len ≡ dm M x
-
-pub has_end : (M : Map) (slot : ℕ → ℕ) (direction : Direction) (v x : ℕ) (items : List LineEnd) →
-    items ≡ ends_at M slot direction v → IsTrue (has_line M x) → near_end M direction x ≡ v →
-    HasEnd M slot direction items x
-has_end M slot direction v x items is known near =
-    let xs = lines_at M direction v in
-    let made = is ∙ ends_are M slot direction v in
-    let k = found_at M direction v xs x refl known near in
-    let long : length items ≡ length xs =
-    ap (λ (zs : List LineEnd). length zs) made ∙ length-map xs (far_of M slot direction) in
-    let e : get_or items k.0 no_end ≡ far_of M slot direction x =
-    ap (λ (zs : List LineEnd). get_or zs k.0 no_end) made ∙ get_or-map (far_of M slot direction) xs k.0 0 no_end k.1
-    ∙ ap (far_of M slot direction) k.2 in
-    let f = subst (IsFar M slot direction x) (sym e) (far_is M slot direction x) in
-    record { index = k.0; within = omega arith; there = f.there; len = f.len }
-
 -- the i-th line that is entered at a node, and its far end
 pub record IsEntry (M : Map) (slot : ℕ → ℕ) (direction : Direction) (v : ℕ) (lines : List ℕ) (i : ℕ) (e : LineEnd) : Type 0
   where
@@ -196,8 +162,8 @@ pub record HasEntry (M : Map) (slot : ℕ → ℕ) (direction : Direction) (line
     pub index : ℕ
     pub within : index < length items
     pub line : x ≡ get_or lines index 0
-    pub there : slot (far_end M direction x) ≡ (get_or items index no_end).slot
-    pub len : dm M x ≡ (get_or items index no_end).len
+    pub there : (get_or items index no_end).slot ≡ slot (far_end M direction x)
+    pub len : (get_or items index no_end).len ≡ dm M x
 
 pub has_entry : (M : Map) (slot : ℕ → ℕ) (direction : Direction) (v x : ℕ) (lines : List ℕ) (items : List LineEnd) →
     lines ≡ lines_at M direction v → items ≡ ends_at M slot direction v → IsTrue (has_line M x) → near_end M direction x ≡ v →
@@ -210,6 +176,28 @@ has_entry M slot direction v x lines items same is known near =
       index = k.0;
       within = omega arith;
       line = sym k.2;
-      there = ap (λ y. slot (far_end M direction y)) (sym k.2) ∙ sym e.there;
-      len = ap (dm M) (sym k.2) ∙ sym e.len;
+      there = e.there ∙ ap (λ y. slot (far_end M direction y)) k.2;
+      len = e.len ∙ ap (dm M) k.2;
     }
+
+-- ---- the far ends alone
+
+pub record IsEnd (M : Map) (slot : ℕ → ℕ) (direction : Direction) (v : ℕ) (e : LineEnd) : Type 0 where
+  pub line : ℕ
+  pub known : IsTrue (has_line M line)
+  pub near : near_end M direction line ≡ v
+  pub there : e.slot ≡ slot (far_end M direction line)
+  pub len : e.len ≡ dm M line
+
+pub end_is : (M : Map) (slot : ℕ → ℕ) (direction : Direction) (v : ℕ) (items : List LineEnd) (i : ℕ) →
+    items ≡ ends_at M slot direction v → i < length items → IsEnd M slot direction v (get_or items i no_end)
+end_is M slot direction v items i is lt =
+    let e = entry_is M slot direction v (lines_at M direction v) items refl is i lt in
+    record { line = get_or (lines_at M direction v) i 0; known = e.known; near = e.leads; there = e.there; len = e.len }
+
+-- each line that is entered at v has its far end in the list
+pub has_end : (M : Map) (slot : ℕ → ℕ) (direction : Direction) (v x : ℕ) (items : List LineEnd) →
+    items ≡ ends_at M slot direction v → IsTrue (has_line M x) → near_end M direction x ≡ v →
+    HasEntry M slot direction (lines_at M direction v) items x
+has_end M slot direction v x items is known near =
+    has_entry M slot direction v x (lines_at M direction v) items refl is known near

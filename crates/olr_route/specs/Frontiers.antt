@@ -2,7 +2,6 @@
 --     label_of f p      the label in slot p; UNREACHED if there is none
 --     frontier_len f      how many slots the table has
 --     IsQueued f d p      slot p is queued, at length d
---     queued_len f      how many entries the queue has
 --     IsEmpty f      no labels, and nothing is queued
 --     IsAlike f g      the tables and the slots with labels are the same
 --     IsKept f g      labels, slots with labels and queue are the same; there may be more room
@@ -14,8 +13,7 @@
 use Rattle.std.specs.Prelude.{◌≡◌, ◌≢◌, ℕ, ◌+◌, ◌*◌, ◌≤◌, ◌<◌, ◌⊎◌, List, [], ◌∷◌, ◌++◌, Contains, length, min, sum, vec_len}
 use Rattle.olr_route.specs.Notes.{label_in, AreApart}
 use Rattle.olr_route.specs.Queues.{Queued, queue_len}
-use Rattle.olr_route.specs.declared.frontier.TheConstants.{UNREACHED}
-use Rattle.olr_route.specs.declared.frontier.TheConstants.{GREATEST_LIMIT}
+use Rattle.olr_route.specs.declared.frontier.TheConstants.{UNREACHED, GREATEST_LIMIT}
 use Rattle.olr_route.specs.declared.frontier.Frontier.{Frontier}
 
 abbrev pub label_of : Frontier → ℕ → ℕ
@@ -27,16 +25,13 @@ frontier_len f = vec_len f.table
 abbrev pub IsQueued : Frontier → ℕ → ℕ → Type 0
 IsQueued f d p = Queued f.queue d p
 
-abbrev pub queued_len : Frontier → ℕ
-queued_len f = queue_len f.queue
-
 abbrev pub to_do : Frontier → ℕ
-to_do f = 2 * sum f.table.items + queued_len f
+to_do f = 2 * sum f.table.items + queue_len f.queue
 
 pub record IsEmpty (f : Frontier) : Type 0 where
   pub labels : (p : ℕ) → label_of f p ≡ UNREACHED
   pub reached : f.reached.items ≡ []
-  pub queue : queued_len f ≡ 0
+  pub queue : queue_len f.queue ≡ 0
 
 pub record IsAlike (f g : Frontier) : Type 0 where
   pub table : g.table.items ≡ f.table.items

@@ -10,8 +10,7 @@ use Rattle.std.specs.List.{AllPairs}
 use Rattle.std.specs.Coded.{coded_ℕ, Coded-set}
 use Rattle.std.proofs.Props.{props}
 use Rattle.olr_spec.specs.Map.{Map, has_node}
-use Rattle.olr_route.specs.declared.frontier.TheConstants.{GREATEST_LIMIT}
-use Rattle.olr_route.specs.declared.frontier.TheConstants.{UNREACHED}
+use Rattle.olr_route.specs.declared.frontier.TheConstants.{GREATEST_LIMIT, UNREACHED}
 
 abbrev pub label_in : List ℕ → ℕ → ℕ
 label_in table p = slice_index_or table p UNREACHED

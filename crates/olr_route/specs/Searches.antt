@@ -26,8 +26,7 @@ use Rattle.olr_spec.specs.Map.{Map, has_node, has_line, start, end, dm}
 use Rattle.olr_route.specs.Distances.{Leads, IsDistance, near_end, far_end}
 use Rattle.olr_route.specs.Notes.{AreApart}
 use Rattle.olr_route.specs.Frontiers.{label_of, frontier_len, IsQueued, IsCounted}
-use Rattle.olr_route.specs.declared.frontier.TheConstants.{GREATEST_LIMIT}
-use Rattle.olr_route.specs.declared.frontier.TheConstants.{UNREACHED}
+use Rattle.olr_route.specs.declared.frontier.TheConstants.{GREATEST_LIMIT, UNREACHED}
 use Rattle.olr_route.specs.declared.frontier.Frontier.{Frontier}
 use Rattle.olr_route.specs.declared.distances.Direction.{Direction}
 use Rattle.olr_route.specs.declared.distances.Dijkstra.{Dijkstra}
@@ -91,7 +90,6 @@ pub record IsBegunAt (M : Map) (slot : ℕ → ℕ) (from : List (ℕ × ℕ)) (
   pub at : slot source ≡ p
   pub least : begun ≤ labels p
 
--- each label is one with which the search begins, or that of a line from a node within the limit
 abbrev pub LabelsNear : Map → (ℕ → ℕ) → Direction → List (ℕ × ℕ) → ℕ → (ℕ → ℕ) → Type 0
 LabelsNear M slot direction from limit labels =
     (p : ℕ) → labels p ≤ GREATEST_LIMIT → IsBegunAt M slot from labels p ⊎ FromWithin M slot direction limit labels p
@@ -105,7 +103,6 @@ pub record IsSearch (M : Map) (slot : ℕ → ℕ) (direction : Direction) (from
   pub near : LabelsNear M slot direction from s.limit (label_of s.frontier)
   pub counted : IsCounted s.frontier s.settled s.limit (s.limit + 1)
 
--- no line but x leads to v within a length
 abbrev pub IsOnlyPredecessor : Map → (ℕ → ℕ) → Frontier → ℕ → ℕ → ℕ → Type 0
 IsOnlyPredecessor M slot f x v length =
     (y : ℕ) → IsTrue (has_line M y) → end M y ≡ v → label_of f (slot (start M y)) + dm M y ≤ length → y ≡ x
@@ -113,7 +110,6 @@ IsOnlyPredecessor M slot f x v length =
 abbrev pub LiesWithin : Map → Direction → List (ℕ × ℕ) → ℕ → ℕ → Type 0
 LiesWithin M direction from limit v = (d : ℕ) × IsDistance M direction from v d × (d ≤ limit)
 
--- a route of at most the greatest limit leads to v
 abbrev pub IsReached : Map → Direction → List (ℕ × ℕ) → ℕ → Type 0
 IsReached M direction from v = (d : ℕ) × Leads M direction from v d × (d ≤ GREATEST_LIMIT)
 

@@ -88,6 +88,7 @@ impl Dijkstra {
     /// Continues the search to a limit in decimetres. Its labels are then those of a search within this limit, or
     /// within a greater one to which it was settled before. It goes no farther: lines are followed only from nodes within
     /// the limit.
+    #[tactic(auto, using(crate::proofs::MarkLemmas::plain))]
     pub fn settle_to<M: MapRead>(&mut self, map: &M, limit: u32) -> Result<(), AllocError>
         requires small { limit ≤ GREATEST_LIMIT }
         requires begun { (direction : _) × (from : List (ℕ × ℕ))
@@ -233,6 +234,7 @@ impl Dijkstra {
 
     /// The slots of the nodes that the search has labelled, each once: those within the limit to which it is settled,
     /// and some beyond it, up to `GREATEST_LIMIT`. In no particular order.
+    #[tactic(auto, using(crate::proofs::SearchLemmas::labelled_listed, crate::proofs::SearchLemmas::near_listed, crate::proofs::SearchLemmas::listed_reached, crate::proofs::SearchLemmas::is_distance, crate::proofs::DistinctLemmas::slots_distinct))]
     pub fn labelled_slots(&self) -> &[u32]
         ensures near { (M : Map) (node_slot : ℕ → ℕ) (direction : _) (from : List (ℕ × ℕ)) (v : ℕ)
             → IsSearch M node_slot direction from self.now → LiesWithin M direction from (limit_of self.now) v

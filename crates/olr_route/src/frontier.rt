@@ -98,6 +98,7 @@ impl Frontier {
     }
 
     /// The nodes whose labels are at most `limit`, in no particular order.
+    #[tactic(auto, using(crate::proofs::DistinctLemmas::no_nodes))]
     pub fn nodes_within<M: MapRead>(
         &self,
         alloc: Global,
@@ -116,6 +117,7 @@ impl Frontier {
     }
 
     /// Removes all labels. Takes time proportional to their number.
+    #[tactic(auto, using(crate::proofs::NoteLemmas::none_queued, crate::proofs::NoteLemmas::noted_less, crate::proofs::NoteLemmas::noted_past))]
     pub fn clear(&mut self)
         ensures { IsEmpty self.new }
     {
@@ -142,6 +144,7 @@ impl Frontier {
 
     /// Lowers a node's label to a length in decimetres and queues its slot, from where the search will follow this many
     /// lines. No effect if the label is no greater.
+    #[tactic(auto, using(crate::proofs::NoteLemmas::read_label, crate::proofs::NoteLemmas::noted_more))]
     pub fn relax(&mut self, slot: u32, dist: u32, lines: usize) -> Result<(), AllocError>
         requires { slot < frontier_len self.old }
         ensures { OnOk result (IsRelaxed self.old self.new slot dist) }

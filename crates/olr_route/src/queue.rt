@@ -26,6 +26,7 @@ impl Queue {
     ghost use Rattle.olr_route.specs.Queues.{Queued, IsPopped, queue_len};
 
     /// The empty queue. Does not allocate.
+    #[tactic(auto, using(crate::proofs::HeapLemmas::none_once))]
     pub fn new(alloc: Global) -> Queue
         ensures { queue_len result ≡ 0 }
     {
@@ -35,6 +36,7 @@ impl Queue {
     }
 
     /// Removes all entries.
+    #[tactic(auto, using(crate::proofs::HeapLemmas::none_once))]
     pub fn clear(&mut self)
         ensures { queue_len self.new ≡ 0 }
     {
@@ -42,6 +44,7 @@ impl Queue {
     }
 
     /// Adds a slot, at a length in decimetres at which it is not queued.
+    #[tactic(auto, using(crate::proofs::HeapLemmas::pushed_there, crate::proofs::HeapLemmas::pushed_kept, crate::proofs::HeapLemmas::pushed_added))]
     pub fn push(&mut self, dist: u32, slot: u32) -> Result<(), AllocError>
         requires { ¬ Queued self.old dist slot }
         ensures there { OnOk result (Queued self.new dist slot) }

@@ -10,6 +10,7 @@ use crate::resolved::resolve_line;
 use olr_model::{LineId, MapRead};
 
 /// Whether a line extends the shortest path to its start to the shortest path to its end, within the limit.
+#[tactic(auto, using(crate::proofs::RouteEnds::last_step))]
 fn extends_least<M: MapRead>(map: &M, labels: &Labels, line: LineId) -> bool
     ensures { (s : ℕ) (route : List ℕ) → AreLabels (M.map map.now) (M.node_slot map.now) s labels.now
         → LeastWithin (M.map map.now) s (limit_of labels.now) (start (M.map map.now) line) route
@@ -24,6 +25,7 @@ fn extends_least<M: MapRead>(map: &M, labels: &Labels, line: LineId) -> bool
 
 /// Whether a line extends the unique shortest path to its start to the unique shortest path to its end. Unspecified if
 /// the extended path is longer than the limit.
+#[tactic(auto, using(crate::proofs::RouteEnds::last_step))]
 fn extends_unique<M: MapRead>(map: &M, labels: &Labels, line: LineId) -> bool
     ensures { (s : ℕ) (route : List ℕ) → AreLabels (M.map map.now) (M.node_slot map.now) s labels.now
         → UniqueShortest (M.map map.now) s (start (M.map map.now) line) route
@@ -48,6 +50,7 @@ pub fn is_least<M: MapRead>(map: &M, labels: &Labels, lines: &[LineId]) -> bool
 
 /// Whether a route from the source of the labels is the unique shortest path to its end, each other route being longer,
 /// and within their limit. Unspecified if the lines are not such a route, or the labels are of another map.
+#[tactic(auto, using(olr_spec::proofs::RouteLemmas::unique_least))]
 pub fn is_unique_shortest<M: MapRead>(map: &M, labels: &Labels, lines: &[LineId]) -> bool
     ensures { (s t : ℕ) → AreLabels (M.map map.now) (M.node_slot map.now) s labels.now
         → IsRoute (M.map map.now) s t lines.now

@@ -1,6 +1,5 @@
 use Rattle.olr_route.proofs.LabelNames.{◌∷◌, [], ◌++◌, ℕ, List, None, Option, Contains, length, get_or, length-append}
-use Rattle.olr_route.proofs.LabelNames.{ap, sym, ◌∙◌}
-use Rattle.olr_route.proofs.LabelNames.{subst, arith, below_more, get_or_default_zero, Along, IsLabel}
+use Rattle.olr_route.proofs.LabelNames.{ap, sym, ◌∙◌, subst, arith, below_more, get_or_default_zero, Along, IsLabel}
 use Rattle.std.proofs.Common.{is_some}
 use Rattle.std.proofs.lemmas.List.{get_or_push, get_or_append_left}
 use Rattle.olr_route.proofs.routes.labels_of.Goals as goal

@@ -1,6 +1,6 @@
-use Rattle.olr_route.proofs.LabelNames.{ℕ, Some, get_or, arith, sym, subst, ◌∙◌, ◌↔◌, IsTrue, IsFound, IsLast}
-use Rattle.olr_route.proofs.LabelNames.{EndsRoute, enters}
-use Rattle.olr_route.proofs.LabelNames.{get_or_default_zero, below_more, false≢true}
+use Rattle.olr_route.proofs.LabelNames.{Against, ℕ, Some, get_or, arith, sym, subst, ◌∙◌, ◌↔◌, IsTrue, IsFound, IsLast}
+use Rattle.olr_route.proofs.LabelNames.{EndsRoute, get_or_default_zero, below_more, false≢true}
+use Rattle.olr_route.proofs.ReadLemmas.{read_at}
 use Rattle.olr_route.proofs.EndLemmas.{first_is_last, none_is_last}
 use Rattle.olr_route.proofs.routes.last_line.Given.{Over}
 use Rattle.olr_route.proofs.routes.last_line.Goals.{After-ends_route}
@@ -15,7 +15,7 @@ ends g c s f =
     let M = g.M.MapRead.map c.args.map.now in
     let lines = c.in_lines-line-items.result.now in
     let i = c.loop-line.line-index in
-    let k = enters M c.args.node i c.line-item.result lines c.in_lines-line-items.ensures c.loop-line-test.true c.line-item.is in
+    let k = read_at M Against c.args.node lines i c.line-item.result c.in_lines-line-items.ensures c.loop-line-test.true c.line-item.is in
     subst (λ (x : ℕ). IsTrue c.ends_route.result ↔ EndsRoute M s c.args.node c.args.length x)
     (c.line-item.is ∙ get_or_default_zero lines i c.line-item.result c.loop-line-test.true)
     (c.ends_route.ensures s c.args.node f k.0 k.1)

@@ -1,10 +1,7 @@
 use Rattle.olr_route.proofs.LabelNames.{◌∷◌, [], ◌⊎◌, ◌↔◌, ℕ, List, Contains, length, refl, sym, subst, inl, inr}
 use Rattle.olr_route.proofs.LabelNames.{Along, IsStrictlyIncreasing, LiesWithin, Counts, ◌∙◌}
 use Rattle.std.proofs.Common.{rules}
-use Rattle.std.proofs.lemmas.Bool.{eqb-true}
-use Rattle.std.proofs.lemmas.Map.Views.{Contains-from_any, list_any-from_Contains}
-use Rattle.std.proofs.lemmas.Map.Made.{length-le_from_is_member}
-use Rattle.std.specs.Cmp.{nat_eq_equiv}
+use Rattle.olr_route.proofs.DistinctLemmas.{no_more}
 use Rattle.olr_spec.proofs.SameNumbers.{distinct_from_ascending}
 use Rattle.olr_route.proofs.routes.search.Given.{Over}
 use Rattle.olr_route.proofs.routes.search.Goals.{In_ok-labels}
@@ -49,8 +46,6 @@ returns-clause-work g c =
       many = refl;
     } in
     let few =
-    length-le_from_is_member nat_eq_equiv nodes c.note_all.new.self count.apart
-    (λ q is. list_any-from_Contains nat_eq_equiv q c.note_all.new.self ((c.in_ok-note_all.ensures.ok q).1
-    (inr (subst (λ (vs : List ℕ). Contains vs q) (sym c.deref.ensures.value)
-    (Contains-from_any (λ x y e. eqb-true x y e) q nodes is))))) in
+    no_more nodes c.note_all.new.self count.apart (λ q there. (c.in_ok-note_all.ensures.ok q).1
+    (inr (subst (λ (vs : List ℕ). Contains vs q) (sym c.deref.ensures.value) there))) in
     (length nodes, count, search rules, few)

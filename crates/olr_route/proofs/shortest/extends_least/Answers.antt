@@ -1,15 +1,8 @@
-use Rattle.olr_route.proofs.LabelNames.{◌∷◌, [], ◌++◌, ℕ, List, sym, subst, ap, ◌∙◌, LeastWithin, limit_of, last_step}
-use Rattle.olr_route.proofs.LabelNames.{false≢true}
+use Rattle.olr_route.proofs.LabelNames.{◌∷◌, [], ◌++◌, ℕ, List, sym, subst, ap, ◌∙◌, LeastWithin, limit_of}
 use Rattle.olr_route.specs.ResolvedLines.{ResolvedLine}
 use Rattle.olr_route.proofs.EndLemmas.{option_is}
 use Rattle.olr_route.proofs.ExtendLemmas.{same_front}
 use Rattle.olr_route.proofs.shortest.extends_least.Goals as goal
-
-pub returns-in-None : goal.returns-in-None
-returns-in-None g c = λ s route a l. (
-  λ e. absurd (false≢true e),
-  λ whole. absurd (c.in-None.ensures (last_step (g.M.MapRead.map c.args.map.now) s _ c.args.line route whole.least.route).known),
-)
 
 pub returns-in-Some : goal.returns-in-Some
 returns-in-Some g c = λ s route a l.

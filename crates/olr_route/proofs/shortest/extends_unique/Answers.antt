@@ -1,7 +1,5 @@
 use Rattle.olr_route.proofs.LabelNames.{◌∷◌, [], ◌++◌, ◌+◌, ◌≤◌, ◌↔◌, ℕ, IsTrue, ap, subst, start, end, UniqueShortest}
-use Rattle.olr_route.proofs.LabelNames.{dm_of, limit_of}
-use Rattle.olr_route.proofs.LabelNames.{last_step, dm, false≢true}
-use Rattle.olr_route.proofs.LabelNames.{arith, sym, ◌∙◌}
+use Rattle.olr_route.proofs.LabelNames.{dm_of, limit_of, dm, arith, sym, ◌∙◌}
 use Rattle.olr_spec.specs.Margins.{no_margin}
 use Rattle.olr_route.specs.ResolvedLines.{ResolvedLine}
 use Rattle.olr_route.proofs.ReadLemmas.{resolved_as}
@@ -28,9 +26,3 @@ returns-in-Some g c = λ s route a.
     (λ unique short.
     let len = ap (λ (r : ResolvedLine). r.len) is ∙ ap (λ (r : ResolvedLine). dm M r.id) (sym is) in
     c.extends_unique_shortest.ensures no_margin s 0 route a.search len unique (omega (arith, len)))
-
-pub returns-in-None : goal.returns-in-None
-returns-in-None g c = λ s route a unique short. (
-  λ e. absurd (false≢true e),
-  λ whole. absurd (c.in-None.ensures (last_step (g.M.MapRead.map c.args.map.now) s _ c.args.line route whole.route).known),
-)

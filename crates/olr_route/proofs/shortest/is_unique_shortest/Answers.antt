@@ -1,7 +1,7 @@
-use Rattle.olr_route.proofs.LabelNames.{arith, limit_of, UniqueShortest}
+use Rattle.olr_route.proofs.LabelNames.{limit_of, UniqueShortest}
 use Rattle.std.proofs.Common.{rules, tests}
 use Rattle.std.proofs.lemmas.Iterator.{cases_from_all, YieldsList-from_slice}
-use Rattle.olr_spec.proofs.RouteLemmas.{empty_unique, prefix_of_unique, unique_least}
+use Rattle.olr_spec.proofs.RouteLemmas.{empty_unique, prefix_of_unique}
 use Rattle.olr_route.proofs.ExtendLemmas.{Extends, Stops, tested}
 use Rattle.olr_route.proofs.shortest.is_unique_shortest.Goals as goal
 
@@ -18,7 +18,3 @@ returns-then-is_least g c = λ s t a w.
     (cases_from_all _ _ _ (Extends M s limit unique prefix) (Stops M s limit unique prefix) c.all.ensures.ran
     (YieldsList-from_slice lines cc) (λ x q k. search (rules, tests)) (λ x q k. search (rules, tests))) in
     (λ yes. record { unique = k.0 yes; within = short.within }, λ whole. k.1 whole.unique)
-
-pub returns-else-is_least : goal.returns-else-is_least
-returns-else-is_least g c = λ s t a w.
-    grind (arith, c.is_least.ensures s t a w, unique_least (g.M.MapRead.map c.args.map.now) s t c.args.lines.now)

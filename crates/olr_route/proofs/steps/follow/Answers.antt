@@ -1,6 +1,5 @@
 use Rattle.olr_route.proofs.Common.{◌≡◌, ◌≤◌, ◌<◌, ◌+◌, ℕ, IsTrue, get_or, sym, ap, subst, ◌∙◌, arith, inl, inr, Map}
-use Rattle.olr_route.proofs.Common.{has_node, dm}
-use Rattle.olr_route.proofs.Common.{Leads, near_end, far_end, label_of, below_more, line_short, positive}
+use Rattle.olr_route.proofs.Common.{has_node, dm, Leads, near_end, far_end, label_of, below_more, line_short, positive}
 use Rattle.olr_route.proofs.Common.{get_or_default_zero, IsSeenAs}
 use Rattle.olr_route.proofs.WayLemmas.{IsEntry, entry_is, has_entry, no_end, far_node, leads_on}
 use Rattle.olr_route.proofs.MarkLemmas.{near_over, far_over}
@@ -142,9 +141,9 @@ returns-clause-closed g c = λ N v s known at x line near under.
     has_entry M slot way v x c.lines_from.result.lines.now c.lines_from.result.ends.now
     (c.lines_from.ensures.lines v inside at) (c.lines_from.ensures.ends v inside at) there from in
     let long : dm N x ≡ counted (get_or c.lines_from.result.lines.now k.index 0) (get_or c.lines_from.result.ends.now k.index no_end).len =
-    s.long x there (ap slot from ∙ at) ∙ coe 0 1 (i. counted x (dm M x) ≡ counted (k.line i) (k.len i)) (λ _. counted x (dm M x)) in
+    s.long x there (ap slot from ∙ at) ∙ coe 0 1 (i. counted x (dm M x) ≡ counted (k.line i) (sym k.len i)) (λ _. counted x (dm M x)) in
     let place : slot (far_end N way x) ≡ (get_or c.lines_from.result.ends.now k.index no_end).slot =
-    ap slot (far_over M N s.over way x) ∙ k.there in
+    ap slot (far_over M N s.over way x) ∙ sym k.there in
     let low =
     c.loop-index.invariant.followed k.index (omega arith)
     (coe 0 1 (i. g.A.Admits.lets c.args.admits.now (place i) (c.args.dist + long i)) under) in

@@ -1,6 +1,5 @@
 use Rattle.olr_route.proofs.Common.{◌≡◌, ◌+◌, ℕ, refl, sym, ap, subst, ◌∙◌, inl, inr, arith, label_of, IsCounted}
-use Rattle.olr_route.proofs.Common.{IsQueued, IsTrue, Map}
-use Rattle.olr_route.proofs.Common.{IsSearchedAs, IsSeenAs, ◌≤◌}
+use Rattle.olr_route.proofs.Common.{IsQueued, IsTrue, Map, IsSearchedAs, IsSeenAs, ◌≤◌}
 use Rattle.olr_route.proofs.SettledLemmas.{counted_same, counted_more, counted_up, counted_fits}
 use Rattle.olr_route.proofs.steps.settle.Given.{Over}
 use Rattle.olr_route.proofs.CutLemmas.{cut_begun, cut_same, cut_more, stays_then, stays_more}

@@ -1,8 +1,8 @@
 use Rattle.olr_route.proofs.Common.{◌≡◌, ◌≤◌, ℕ, IsTrue, get_or, refl, sym, subst, ◌∙◌, inl, inr, arith, below_more}
-use Rattle.olr_route.proofs.Common.{get_or_default, has_node, label_of, IsQueued, IsUnderWay, IsBegunAt, Map, List}
+use Rattle.olr_route.proofs.Common.{get_or_default, has_node, label_of, IsQueued, IsUnderWay}
 use Rattle.olr_route.proofs.SearchLemmas.{empty_labelled}
 use Rattle.olr_route.proofs.SettledLemmas.{counted_none, counted_as}
-use Rattle.olr_route.proofs.CutLemmas.{settled_up_to}
+use Rattle.olr_route.proofs.CutLemmas.{settled_up_to, begun_still, near_on}
 use Rattle.olr_route.proofs.MarkLemmas.{plain}
 use Rattle.olr_route.proofs.distances.Dijkstra.begin.Given.{Over}
 use Rattle.olr_route.proofs.distances.Dijkstra.begin.Goals.{After-loop-begin}
@@ -19,18 +19,6 @@ loop-begin-init g c =
       way = refl;
       limit = refl;
     }
-
--- a label that stays is still one with which the search begins
-begun_still : (M : Map) (slot : ℕ → ℕ) (from : List (ℕ × ℕ)) (old new : ℕ → ℕ) (p : ℕ) → new p ≡ old p →
-    IsBegunAt M slot from old p → IsBegunAt M slot from new p
-begun_still M slot from old new p same b = record {
-  source = b.source;
-  begun = b.begun;
-  listed = b.listed;
-  there = b.there;
-  at = b.at;
-  least = omega (arith, b.least);
-}
 
 pub loop-begin-preserved : goal.loop-begin-preserved
 loop-begin-preserved g c =
@@ -56,9 +44,7 @@ loop-begin-preserved g c =
       ];
       near = λ p small. elim (e.only items p (n, c.loop-begin-test.true, sym c.begin-item.is)) [
         | inr b ↦ b
-        | inl same ↦
-            begun_still M slot items (label_of c.loop-begin.self.frontier) (label_of c.start.new.frontier) p same
-            (inv.near p (omega arith))
+        | inl same ↦ begun_still same (inv.near p (omega arith))
       ];
       way = inv.way;
       limit = inv.limit;
@@ -112,17 +98,9 @@ returns-clause-search g c =
       settled = λ v d known le l.
           settled_up_to _ _ c.args.direction c.args.from.now c.settle.new.frontier 0 u (omega arith) e.far v d
           (omega arith) l;
-      near = λ p small. elim (e.near M 0 0 0 none as_is p) [
-        | inr k ↦ inr (record {
-          line = k.line;
-          known = k.known;
-          to = k.to;
-          near = omega (arith, k.near);
-          sum = k.sum;
-        })
-        | inl same ↦ inl (begun_still M slot c.args.from.now (label_of c.loop-begin.self.frontier)
-            (label_of c.settle.new.frontier) p same (c.loop-begin.invariant.near p (omega arith)))
-      ];
+      near = near_on M slot c.args.direction c.args.from.now 0 0 _ (label_of c.loop-begin.self.frontier)
+          (label_of c.settle.new.frontier) (omega arith) (omega arith) e.better (e.near M 0 0 0 none as_is)
+          (λ p small. inl (c.loop-begin.invariant.near p small));
       counted =
           counted_as c.settle.new.frontier _ _ _ _ _ _ (omega arith) (omega arith) (omega arith)
           (e.counted 0 0 0 none);

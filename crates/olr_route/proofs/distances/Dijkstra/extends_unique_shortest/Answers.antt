@@ -1,5 +1,4 @@
-use Rattle.olr_route.proofs.Common.{◌≡◌, ◌+◌, ◌≤◌, ◌++◌, ◌∷◌, [], ℕ, List, IsSearch, UniqueShortest}
-use Rattle.olr_route.proofs.Common.{IsOnlyPredecessor}
+use Rattle.olr_route.proofs.Common.{◌≡◌, ◌+◌, ◌≤◌, ◌++◌, ◌∷◌, [], ℕ, List, IsSearch, UniqueShortest, IsOnlyPredecessor}
 use Rattle.olr_route.proofs.Common.{sym, ap, subst, arith, ◌∙◌, ◌↔◌, IsTrue, label_of, start, end, dm, dm_of, Along}
 use Rattle.olr_route.proofs.Common.{Against, lines_in}
 use Rattle.std.proofs.lemmas.Bool.{false≢true}
@@ -9,8 +8,7 @@ use Rattle.olr_model.specs.Ends.{ends_in}
 use Rattle.olr_route.proofs.CountingLemmas.{reported_as}
 use Rattle.olr_route.proofs.WayLemmas.{as_many}
 use Rattle.olr_route.proofs.distances.Dijkstra.extends_unique_shortest.Given.{Over}
-use Rattle.olr_route.proofs.distances.Dijkstra.extends_unique_shortest.Goals.{After-is_sum}
-use Rattle.olr_route.proofs.distances.Dijkstra.extends_unique_shortest.Goals.{After-in_lines_at-entering}
+use Rattle.olr_route.proofs.distances.Dijkstra.extends_unique_shortest.Goals.{After-is_sum, After-in_lines_at-entering}
 use Rattle.olr_route.proofs.distances.Dijkstra.extends_unique_shortest.Goals as goal
 
 -- the result, by what is read

@@ -3,13 +3,6 @@ use Rattle.std.proofs.lemmas.Result.{on_ok_weaker}
 use Rattle.olr_route.proofs.MarkLemmas.{plain}
 use Rattle.olr_route.proofs.distances.Dijkstra.settle_to.Goals as goal
 
-pub settle_by-requires-clause-begun : goal.settle_by-requires-clause-begun
-settle_by-requires-clause-begun g c =
-    let b = c.requires.begun in
-    let M = g.M.MapRead.map c.args.map.now in
-    let s = c.args.self.now in
-    (M, b.0, b.1, plain M (g.M.MapRead.node_slot c.args.map.now) b.0 s.frontier (s.limit + 1), b.2)
-
 pub returns-clause-search : goal.returns-clause-search
 returns-clause-search g c =
     let M = g.M.MapRead.map c.args.map.now in

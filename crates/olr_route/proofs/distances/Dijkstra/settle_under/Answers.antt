@@ -1,4 +1,4 @@
-use Rattle.olr_route.proofs.Common.{ℕ, ◌+◌, List, sym, subst, arith, IsSearch, IsUnderWay, IsCut, Direction}
+use Rattle.olr_route.proofs.Common.{ℕ, ◌+◌, List, sym, subst, arith, IsSearch, IsCut, Direction}
 use Rattle.olr_route.specs.Bounds.{IsUnder}
 use Rattle.olr_route.proofs.CutLemmas.{cut_settled}
 use Rattle.olr_route.proofs.MarkLemmas.{plain}
@@ -14,28 +14,19 @@ cut g c direction from h =
     let M = g.M.MapRead.map c.args.map.now in
     let slot = g.M.MapRead.node_slot c.args.map.now in
     let s = c.args.self.now in
-    subst (λ (d : Direction). IsCut M slot d from (IsUnder c.args.bounds.now) c.settle.new.frontier) h.way
-    (c.in_ok-settle.ensures.cut M from s.settled s.limit (s.limit + 1) h.counted
-    (plain M slot s.direction s.frontier (s.limit + 1))
-    (subst (λ (d : Direction). IsUnderWay M slot d from s.frontier) (sym h.way) h.under_way))
+    subst (λ (d : Direction). IsSearch M slot d from s → IsCut M slot d from (IsUnder c.args.bounds.now) c.settle.new.frontier)
+    h.way (λ h. c.in_ok-settle.ensures.cut M from s.settled s.limit (s.limit + 1) h.counted
+    (plain M slot s.direction s.frontier (s.limit + 1)) h.under_way) h
 
 pub settle-requires-clause-begun : goal.settle-requires-clause-begun
 settle-requires-clause-begun g c =
     let b = c.requires.begun in
-    let h = b.2 in
     let M = g.M.MapRead.map c.args.map.now in
     let slot = g.M.MapRead.node_slot c.args.map.now in
-    let s = c.args.self.now in (
-      M,
-      b.1,
-      s.settled,
-      s.limit,
-      s.limit + 1,
-      plain M slot s.direction s.frontier (s.limit + 1),
-      subst (λ (d : Direction). IsUnderWay M slot d b.1 s.frontier) (sym h.way) h.under_way,
-      h.counted,
-      h.small,
-    )
+    let s = c.args.self.now in
+    let h = subst (λ (d : Direction). IsSearch M slot d b.1 s) (sym b.2.way) b.2 in
+    let as_is = plain M slot s.direction s.frontier (s.limit + 1) in
+    (M, b.1, s.settled, s.limit, s.limit + 1, as_is, h.under_way, h.counted, h.small)
 
 pub returns-clause-labelled : goal.returns-clause-labelled
 returns-clause-labelled g c = λ direction from h. (cut g c direction from h).labelled

@@ -2,10 +2,6 @@ use Rattle.olr_route.proofs.Common.{subst, arith, AreAllReached}
 use Rattle.olr_route.proofs.NoteLemmas.{noted_less, noted_past, none_queued}
 use Rattle.olr_route.proofs.frontier.Frontier.clear.Goals as goal
 
-pub invariant_of-self : goal.invariant_of-self
-invariant_of-self c =
-    record { noted = c.args.self.now.noted; low = λ d p w. absurd (none_queued c.clear.new.self c.clear.ensures d p w) }
-
 pub invariant_of-self-then-slot-len : goal.invariant_of-self-then-slot-len
 invariant_of-self-then-slot-len c =
     let h = c.in-Some.ensures.items in

@@ -2,11 +2,8 @@ use Rattle.olr_route.proofs.Common.{ℕ, Bool, List, nat_le, filter, label_of, g
 use Rattle.olr_route.proofs.Common.{◌∙◌, AreFilled, AreNodesIn}
 use Rattle.std.proofs.lemmas.List.{take_all}
 use Rattle.std.proofs.lemmas.List.Elements.{filter_more}
-use Rattle.olr_route.proofs.DistinctLemmas.{no_nodes, nodes_more}
+use Rattle.olr_route.proofs.DistinctLemmas.{nodes_more}
 use Rattle.olr_route.proofs.frontier.Frontier.nodes_within.Goals as goal
-
-pub loop-slot-init : goal.loop-slot-init
-loop-slot-init g c = λ filled. rw c.in_ok-nodes.ensures.items (no_nodes _ _)
 
 pub loop-slot-preserved : goal.loop-slot-preserved
 loop-slot-preserved g c = λ filled.

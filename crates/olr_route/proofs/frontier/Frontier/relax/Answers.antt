@@ -1,4 +1,4 @@
-use Rattle.olr_route.proofs.Common.{refl, subst, sym, arith, AreAllReached}
+use Rattle.olr_route.proofs.Common.{refl, arith}
 use Rattle.olr_route.proofs.NoteLemmas.{noted_more, noted_put, read_label, low_put}
 use Rattle.olr_route.proofs.SearchLemmas.{put_by}
 use Rattle.olr_route.proofs.frontier.Frontier.relax.Goals as goal
@@ -10,14 +10,6 @@ push-requires c = λ w.
     read_label c.args.self.now.table.items c.args.slot _ c.index-label.result.now c.index-label.ensures c.requires
     c.args.self.now.table.ok.0 in
     omega arith
-
-pub invariant_of-self : goal.invariant_of-self
-invariant_of-self c =
-    record {
-      noted = subst (AreAllReached c.args.self.now.table.items) (sym c.in_err-note.ensures.unchanged)
-          c.args.self.now.noted;
-      low = c.args.self.now.low;
-    }
 
 pub invariant_of-self-in-Break-branch-2 : goal.invariant_of-self-in-Break-branch-2
 invariant_of-self-in-Break-branch-2 c =

@@ -1,14 +1,11 @@
-use Rattle.olr_route.proofs.Common.{arith, queue_key, heap_items, inl, inr}
-use Rattle.olr_route.proofs.HeapLemmas.{pushed_kept, pushed_there, pushed_once, pushed_added}
+use Rattle.olr_route.proofs.Common.{arith, inl, inr}
+use Rattle.olr_route.proofs.HeapLemmas.{pushed_kept, pushed_once, pushed_added}
 use Rattle.olr_route.proofs.queue.Queue.push.Goals as goal
 
 pub invariant_of-self-clause-once : goal.invariant_of-self-clause-once
 invariant_of-self-clause-once c =
     pushed_once _ c.push.result _ _ _ c.args.dist c.args.slot (omega arith) c.push.ensures.permutation
     c.push.ensures.unchanged (λ there. c.requires (record { small = c.ranges.slot.fits; there = there })) c.args.self.now.once
-
-pub returns-clause-there : goal.returns-clause-there
-returns-clause-there c = grind (arith, queue_key, heap_items, pushed_there)
 
 pub returns-clause-kept : goal.returns-clause-kept
 returns-clause-kept c =
