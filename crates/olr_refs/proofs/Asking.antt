@@ -1,20 +1,14 @@
 -- The coverage queries of LRPs: what is asked from one LRP to the next, and what that says of a path.
-use Rattle.olr_refs.proofs.Common.{◌≡◌, ◌<◌, ◌≤◌, ◌+◌, ◌-◌, ◌*◌, ℕ, List, [], ◌∷◌, ◌++◌, length, Contains, Option, Some}
-use Rattle.olr_refs.proofs.Common.{None, MatchOption, refl, sym, ap, ◌∙◌, subst, arith, inr, IsTrue, nat_tests, Map}
-use Rattle.olr_refs.proofs.Common.{IsMap, Path, is_path, NextWith, path_fault, FootWith, CoverageQuery, KnownQuery}
-use Rattle.olr_refs.proofs.Common.{foot_queried_with, append-nil, append_assoc, nat_lt, option_to_list, filter-append}
-use Rattle.olr_refs.proofs.Common.{querying, KnownOfWith, QueriesFromWith, QueriesOfWith, Next-candidate, Asks}
-use Rattle.olr_refs.proofs.Common.{IsKnownOfWith, IsAnswered, IsReuse, own_of, Extends, ForPoints, raised_work}
-use Rattle.olr_refs.proofs.Common.{taken_start, taken_end, from_start, length-append, Contains-append_left}
-use Rattle.olr_refs.proofs.Common.{Contains-append_right}
+use Rattle.olr_refs.proofs.Common.{◌≡◌, ◌<◌, ◌≤◌, ◌+◌, ◌-◌, ◌*◌, ℕ, List, [], ◌∷◌, ◌++◌, length, Contains, Option}
+use Rattle.olr_refs.proofs.Common.{Some, None, MatchOption, refl, sym, ap, ◌∙◌, subst, arith, inr, IsTrue, nat_tests}
+use Rattle.olr_refs.proofs.Common.{Map, IsMap, Path, is_path, NextWith, path_fault, FootWith, CoverageQuery}
+use Rattle.olr_refs.proofs.Common.{KnownQuery, foot_queried_with, append-nil, append_assoc, nat_lt, option_to_list}
+use Rattle.olr_refs.proofs.Common.{filter-append, querying, KnownOfWith, QueriesFromWith, QueriesOfWith}
+use Rattle.olr_refs.proofs.Common.{Next-candidate, Asks, IsKnownOfWith, IsAnswered, IsReuse, own_of, Extends}
+use Rattle.olr_refs.proofs.Common.{ForPoints, raised_work, taken_start, taken_end, from_start, length-append}
+use Rattle.olr_refs.proofs.Common.{Contains-append_left, Contains-append_right, Found, Reuse, Margin, IfSome}
+use Rattle.olr_refs.proofs.Common.{drop-append_seam, take-append_seam, All-push, All-weaker, AreKnownWith}
 use Rattle.olr_refs.specs.declared.chosen.Queries.{Queries}
-use Rattle.olr_refs.specs.declared.reuse.Found.{Found}
-use Rattle.olr_refs.specs.declared.reuse.Reuse.{Reuse}
-use Rattle.olr_spec.specs.Margins.{Margin}
-use Rattle.std.specs.Prelude.{IfSome}
-use Rattle.std.proofs.Math.Seq.{drop-append_seam, take-append_seam}
-use Rattle.std.proofs.lemmas.List.Elements.{All-push, All-weaker}
-use Rattle.olr_spec.specs.Queries.{AreKnownWith}
 use Rattle.olr_refs.proofs.Noting.{zip_append, cost_more, searched_more, Led, led_more}
 use Rattle.olr_refs.proofs.Referring.{of_path}
 use Rattle.olr_spec.specs.Encoding as spec

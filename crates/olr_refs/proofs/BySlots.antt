@@ -1,9 +1,6 @@
 -- Degree-two nodes, by the slots of nodes.
 use Rattle.olr_refs.proofs.Common.{◌≡◌, ◌==◌, ◌∙◌, ℕ, List, [], ◌∷◌, IsTrue, Map, has, has_node, map, refl, sym, ap}
-use Rattle.olr_refs.proofs.Common.{inl, inr, cases_eq, eq-eqb, has_here}
-use Rattle.std.proofs.lemmas.Bool.{ne_eqb}
-use Rattle.olr_spec.specs.Extension.{passes_between}
-use Rattle.olr_spec.proofs.ListLemmas.{has_there}
+use Rattle.olr_refs.proofs.Common.{inl, inr, cases_eq, eq-eqb, has_here, ne_eqb, passes_between, has_there}
 
 module _ (M : Map) (slot : ℕ → ℕ)
     (own : (v w : ℕ) → IsTrue (has_node M v) → IsTrue (has_node M w) → slot v ≡ slot w → v ≡ w) where

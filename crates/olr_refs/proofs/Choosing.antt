@@ -2,8 +2,7 @@
 use Rattle.olr_refs.proofs.Common.{◌≡◌, ◌<◌, ◌≤◌, ◌-◌, ℕ, Bool, true, false, List, length, sym, subst, arith, Option}
 use Rattle.olr_refs.proofs.Common.{Some, MatchOption, cases_lt, cases_order, Coord, Map, coord_at, passing, node_at}
 use Rattle.olr_refs.proofs.Common.{fit16, CandidateWith, NextWith, IsReach, option_or, ValidCandidateWith, Greatest}
-use Rattle.olr_spec.specs.Margins.{Margin}
-use Rattle.olr_spec.specs.Points.{To_valid}
+use Rattle.olr_refs.proofs.Common.{Margin, To_valid}
 
 abbrev pub fit : Map → List ℕ → ℕ → ℕ → Bool
 fit M ls i j = fit16 (coord_at M (node_at M ls i)) (coord_at M (node_at M ls j))

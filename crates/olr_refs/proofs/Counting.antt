@@ -2,22 +2,22 @@
 use Rattle.olr_refs.proofs.Common.{◌≡◌, ◌==◌, ◌<◌, ◌≤◌, ◌+◌, ℕ, true, List, [], ◌∷◌, ◌++◌, sym, ap, ◌∙◌, subst, refl}
 use Rattle.olr_refs.proofs.Common.{arith, inl, inr, cases_lt, IsTrue, Map, start, end, dm, has, has_line, has_node}
 use Rattle.olr_refs.proofs.Common.{has_here, IsRoute, UniqueShortest, dm_of, dm_of-append, Each, route_known}
-use Rattle.olr_refs.proofs.Common.{list_any-append, or_left, or_right, Along, Dijkstra, IsSearch, LiesWithin, limit_of}
-use Rattle.olr_refs.proofs.Common.{CoverageQuery, Sees, Contains-one}
-use Rattle.olr_spec.proofs.ListLemmas.{Each-tail, has_cases, dec_same}
-use Rattle.olr_spec.proofs.CountedLemmas.{counted_own, counted_other, counted_zero, counted_least, counted_route, route_counted}
+use Rattle.olr_refs.proofs.Common.{list_any-append, or_left, or_right, Along, Dijkstra, IsSearch, LiesWithin}
+use Rattle.olr_refs.proofs.Common.{limit_of, CoverageQuery, Sees, Contains-one, cond, Each-tail, has_cases, dec_same}
+use Rattle.olr_refs.proofs.Common.{begun_at, label_of, Margin, counted, counted_dm, counted_dm_of, CountedRoute}
+use Rattle.olr_refs.proofs.Common.{cases_Bool}
+use Rattle.olr_spec.proofs.CountedLemmas.{counted_own, counted_other, counted_zero, counted_least, counted_route}
+use Rattle.olr_spec.proofs.CountedLemmas.{route_counted}
 use Rattle.olr_spec.proofs.CountedMoves.{counted_longer}
-use Rattle.olr_refs.specs.Choice.{begun_at}
-use Rattle.olr_refs.proofs.Common.{cond}
 use Rattle.olr_route.proofs.UniqueLemmas.{label_way, way_le}
-use Rattle.olr_route.specs.Frontiers.{label_of}
 use Rattle.olr_route.specs.declared.frontier.TheConstants.{GREATEST_LIMIT}
-use Rattle.olr_spec.specs.Margins.{Margin, counted, counted_dm, counted_dm_of, CountedRoute}
-use Rattle.std.proofs.lemmas.Bool.{cases_Bool}
 
 -- ---- one line more
 
 module _ (g : Margin) (M : Map) (xs rest : List ℕ) where
+  still : (y : ℕ) → has xs y ≡ true → has (xs ++ rest) y ≡ true
+  still y on = list_any-append (λ z. z == y) xs rest ∙ or_left (has xs y) (has rest y) on
+
   -- the lines count as much
   pub own_same : (ys : List ℕ) → Each (λ y. IsTrue (has_line M y)) ys → Each (λ y. has xs y ≡ true) ys →
       dm_of (counted g M (xs ++ rest)) ys ≡ dm_of (counted g M xs) ys
@@ -28,8 +28,9 @@ module _ (g : Margin) (M : Map) (xs rest : List ℕ) where
       omega (
         arith,
         counted_own g M xs y here on,
-        counted_own g M (xs ++ rest) y here (list_any-append (λ z. z == y) xs rest ∙ or_left (has xs y) (has rest y) on),
-        own_same ys (Each-tail (λ z. IsTrue (has_line M z)) y ys known) (Each-tail (λ z. has xs z ≡ true) y ys own),
+        counted_own g M (xs ++ rest) y here (still y on),
+        own_same ys
+            (Each-tail (λ z. IsTrue (has_line M z)) y ys known) (Each-tail (λ z. has xs z ≡ true) y ys own),
       )
 
   -- and others no less
@@ -40,13 +41,7 @@ module _ (g : Margin) (M : Map) (xs rest : List ℕ) where
       let here = known y (has_here y ys) in
       let more = more_counts ys (Each-tail (λ z. IsTrue (has_line M z)) y ys known) in
       elim (cases_Bool (has xs y)) [
-        | inl on ↦ omega (
-          arith,
-          more,
-          counted_own g M xs y here on,
-          counted_own g M (xs ++ rest) y here
-              (list_any-append (λ z. z == y) xs rest ∙ or_left (has xs y) (has rest y) on),
-        )
+        | inl on ↦ omega (arith, more, counted_own g M xs y here on, counted_own g M (xs ++ rest) y here (still y on))
         | inr off ↦ omega (arith, more, counted_other g M xs y off, counted_least g M (xs ++ rest) y here)
       ]
 
@@ -67,19 +62,17 @@ module _ (g : Margin) (M : Map) (xs rest : List ℕ) where
 
 pub line_counts : (g : Margin) (M : Map) (xs : List ℕ) (x : ℕ) → IsTrue (has_line M x) →
     dm (counted g M (xs ++ x ∷ [])) x ≡ counted_dm g (dm M x)
-line_counts g M xs x known =
-    counted_own g M (xs ++ x ∷ []) x known
+line_counts g M xs x known = counted_own g M (xs ++ x ∷ []) x known
     (list_any-append (λ z. z == x) xs (x ∷ []) ∙ or_right (has xs x) (has (x ∷ []) x) (has_here x []))
 
 pub sum_counts : (g : Margin) (M : Map) (xs : List ℕ) (x : ℕ) → Each (λ y. IsTrue (has_line M y)) xs →
     IsTrue (has_line M x) → counted_dm_of g M (xs ++ x ∷ []) ≡ counted_dm_of g M xs + counted_dm g (dm M x)
-sum_counts g M xs x each known =
-    omega (
-      arith,
-      dm_of-append (counted g M (xs ++ x ∷ [])) xs (x ∷ []),
-      own_same g M xs (x ∷ []) xs each (λ y on. on),
-      line_counts g M xs x known,
-    )
+sum_counts g M xs x each known = omega (
+  arith,
+  dm_of-append (counted g M (xs ++ x ∷ [])) xs (x ∷ []),
+  own_same g M xs (x ∷ []) xs each (λ y on. on),
+  line_counts g M xs x known,
+)
 
 -- ---- what a search on it settles
 

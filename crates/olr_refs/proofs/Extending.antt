@@ -1,10 +1,10 @@
 -- The extended path, composed of the path and the parts of the tried runs.
-use Rattle.olr_refs.proofs.Common.{◌⊎◌, ◌≡◌, ℕ, ◌+◌, ◌<◌, Bool, not, cond, List, [], ◌∷◌, ◌++◌, length, Contains, None}
-use Rattle.olr_refs.proofs.Common.{refl, sym, ap, ◌∙◌, subst, arith, length-append, length-map, map-append, Map}
-use Rattle.olr_refs.proofs.Common.{has_line, dm_of, first_unknown, Path, is_path, last, NodeOf, Along, Against, Extends}
-use Rattle.olr_refs.proofs.Common.{ResolvedLine, records_of, ids, AreRecords, IsRun, no_unknown, path_nonempty}
-use Rattle.olr_refs.proofs.Common.{all_first, all_last, first, LongestStart, LongestEnd, taken_start, taken_end}
-use Rattle.olr_refs.proofs.Common.{from_start, ◌↔◌, IsTrue}
+use Rattle.olr_refs.proofs.Common.{◌⊎◌, ◌≡◌, ℕ, ◌+◌, ◌<◌, Bool, not, cond, List, [], ◌∷◌, ◌++◌, length, Contains}
+use Rattle.olr_refs.proofs.Common.{None, refl, sym, ap, ◌∙◌, subst, arith, length-append, length-map, map-append, Map}
+use Rattle.olr_refs.proofs.Common.{has_line, dm_of, first_unknown, Path, is_path, last, NodeOf, Along, Against}
+use Rattle.olr_refs.proofs.Common.{Extends, ResolvedLine, records_of, ids, AreRecords, IsRun, no_unknown}
+use Rattle.olr_refs.proofs.Common.{path_nonempty, all_first, all_last, first, LongestStart, LongestEnd, taken_start}
+use Rattle.olr_refs.proofs.Common.{taken_end, from_start, ◌↔◌, IsTrue}
 use Rattle.olr_refs.proofs.Resolving.{ids_are, are_records, records_append, records_length}
 
 last_behind : (xs ys : List ℕ) → 0 < length ys → last (xs ++ ys) ≡ last ys
@@ -57,8 +57,7 @@ module _ (M : Map) (slot : ℕ → ℕ) (P : Path) (good : IsTrue (is_path P.lin
     front_some = grind (arith, own_some, length-append)
 
     pub front_last : IsTrue (has_line M (last (ids front)))
-    front_last =
-        rw (from_is, last_behind (taken_start M (ids before) P.lines) P.lines some)
+    front_last = rw (from_is, last_behind (taken_start M (ids before) P.lines) P.lines some)
         (all_last _ P.lines some (no_unknown M P.lines unknown))
 
     module _ (after : List ResolvedLine) (after_len : ℕ) (after_valid : Bool)

@@ -1,9 +1,8 @@
 -- What is known of joined lines.
 use Rattle.olr_refs.proofs.Common.{◌≡◌, ◌<◌, ◌+◌, ℕ, List, [], ◌∷◌, ◌++◌, length, take, get_or, sym, ap, ◌∙◌, subst}
 use Rattle.olr_refs.proofs.Common.{arith, length-append, cases_order, get_or_default, slice_index, IsTrue, Map, IsMap}
-use Rattle.olr_refs.proofs.Common.{has_line, has_node, start, end, dm, dm_of, AreJoined, dm_of-append}
-use Rattle.olr_refs.proofs.Common.{has_index, DistancesTo, get_or_append_left, take_more, get_or-append_seam}
-use Rattle.olr_refs.proofs.Common.{route_known}
+use Rattle.olr_refs.proofs.Common.{has_line, has_node, start, end, dm, dm_of, AreJoined, dm_of-append, has_index}
+use Rattle.olr_refs.proofs.Common.{DistancesTo, get_or_append_left, take_more, get_or-append_seam, route_known}
 
 -- line k is on the map
 pub known_at : (M : Map) (ls : List ℕ) (k : ℕ) → AreJoined M ls → k < length ls → IsTrue (has_line M (slice_index ls k))

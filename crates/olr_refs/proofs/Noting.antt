@@ -1,13 +1,13 @@
 -- What the searches for coverage queries note and cost, and the footprint.
 use Rattle.olr_refs.proofs.Common.{append_assoc, ◌≡◌, ◌≤◌, ◌+◌, ◌*◌, ℕ, List, [], ◌∷◌, ◌++◌, length, Contains, arith}
 use Rattle.olr_refs.proofs.Common.{inl, inr, length-append, None, Some, Option, subst, ◌⊎◌, IsTrue, ◌↔◌, AllZip}
-use Rattle.olr_refs.proofs.Common.{eqb-true, Contains-append_left, Map, has_node, IsMap, dm_of, Path, is_path, NextWith}
-use Rattle.olr_refs.proofs.Common.{last_position, Sees, FootWith, CoverageQuery, QueriesOfWith, Contains-here}
-use Rattle.olr_refs.proofs.Common.{Contains-cases, Work, Along, Dijkstra, IsSearch, LiesWithin, limit_of, AreSearched}
-use Rattle.olr_refs.proofs.Common.{CostsAtMost, SeenBy, Notes, no_work, raised_work, foot_queried_with}
-use Rattle.olr_refs.proofs.Common.{Contains-append_right, Contains-append_cases, NoNextWith, FollowWith, TraversedOf}
-use Rattle.olr_refs.proofs.Common.{Contains-one, Counts, append-nil, MatchOption}
-use Rattle.olr_spec.specs.Margins.{Margin, counted}
+use Rattle.olr_refs.proofs.Common.{eqb-true, Contains-append_left, Map, has_node, IsMap, dm_of, Path, is_path}
+use Rattle.olr_refs.proofs.Common.{NextWith, last_position, Sees, FootWith, CoverageQuery, QueriesOfWith}
+use Rattle.olr_refs.proofs.Common.{Contains-here, Contains-cases, Work, Along, Dijkstra, IsSearch, LiesWithin}
+use Rattle.olr_refs.proofs.Common.{limit_of, AreSearched, CostsAtMost, SeenBy, Notes, no_work, raised_work}
+use Rattle.olr_refs.proofs.Common.{foot_queried_with, Contains-append_right, Contains-append_cases, NoNextWith}
+use Rattle.olr_refs.proofs.Common.{FollowWith, TraversedOf, Contains-one, Counts, append-nil, MatchOption, Margin}
+use Rattle.olr_refs.proofs.Common.{counted}
 use Rattle.std.specs.Cmp.{nat_eq_equiv}
 use Rattle.std.proofs.lemmas.Map.Made.{length-le_from_is_member}
 use Rattle.std.proofs.lemmas.Map.Views.{Contains-from_any, list_any-from_Contains}
@@ -79,17 +79,16 @@ zip_append R (a ∷ ws) xs (b ∷ bs) ys z w = (z.0, zip_append R ws xs bs ys z.
 one_settled : (g : Margin) (M : Map) (xs : List ℕ) (b : ℕ) (l : CoverageQuery) (n : ℕ) →
     Counts (counted g M xs) Along ((l.from, b) ∷ []) l.within n → (all : List ℕ) →
     ((v : ℕ) → SeenBy M (l ∷ []) v → Contains all v) → n ≤ length all
-one_settled g M xs b l n c all each =
-    omega (
-      arith,
-      c.many,
-      length-le_from_is_member nat_eq_equiv c.nodes all c.apart
-          (λ v is. list_any-from_Contains nat_eq_equiv v all (each v (
-            l,
-            Contains-here l [],
-            seen_counted g M xs l b v ((c.exactly v).0 (Contains-from_any (λ x y e. eqb-true x y e) v c.nodes is)),
-          ))),
-    )
+one_settled g M xs b l n c all each = omega (
+  arith,
+  c.many,
+  length-le_from_is_member nat_eq_equiv c.nodes all c.apart
+      (λ v is. list_any-from_Contains nat_eq_equiv v all (each v (
+        l,
+        Contains-here l [],
+        seen_counted g M xs l b v ((c.exactly v).0 (Contains-from_any (λ x y e. eqb-true x y e) v c.nodes is)),
+      ))),
+)
 
 pub one_cost : (g : Margin) (M : Map) (xs : List ℕ) (b : ℕ) (l : CoverageQuery) (q : Dijkstra) (w : Work) →
     limit_of q ≡ l.within → Counts (counted g M xs) Along ((l.from, b) ∷ []) (limit_of q) w.settled →
@@ -159,8 +158,7 @@ pub seen_added : (traversed new : List ℕ) (seen : Option (List ℕ)) (nodes : 
     Contains new v ↔ (Contains traversed v ⊎ MatchOption seen ⊥ (λ s. Contains s v))
 seen_added traversed new seen nodes e f v = rw e (f v)
 
-foot_of : (F G T S B N Q : Type 0) → (F ↔ (T ⊎ S)) → (T ↔ N) → (S ↔ (B ⊎ Q)) → (B → ⊥) → (G ↔ (N ⊎ Q)) →
-    F ↔ G
+foot_of : (F G T S B N Q : Type 0) → (F ↔ (T ⊎ S)) → (T ↔ N) → (S ↔ (B ⊎ Q)) → (B → ⊥) → (G ↔ (N ⊎ Q)) → F ↔ G
 foot_of F G T S B N Q f o n none law = grind arith
 
 -- of a path's traversed nodes and what its queries reach

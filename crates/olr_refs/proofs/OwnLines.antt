@@ -1,24 +1,17 @@
 -- A path's own lines at its LRPs are on the map, one for each LRP of its reference.
 use Rattle.olr_refs.proofs.Common.{◌≡◌, ◌<◌, ◌≤◌, ◌-◌, ◌+◌, ℕ, suc, List, [], ◌∷◌, ◌++◌, length, take, refl, sym, ap}
 use Rattle.olr_refs.proofs.Common.{◌∙◌, subst, arith, slice_index, map, None, IsTrue, Map, IsMap, has_line, Path}
-use Rattle.olr_refs.proofs.Common.{is_path, extended_path, Each, has_index, LinkedWith, EncodesWith, legs, kept_points}
-use Rattle.olr_refs.proofs.Common.{Reference, extended_sound, path_fault, EncodingWith}
-use Rattle.olr_spec.specs.Margins.{Margin}
+use Rattle.olr_refs.proofs.Common.{is_path, extended_path, Each, has_index, LinkedWith, EncodesWith, legs}
+use Rattle.olr_refs.proofs.Common.{kept_points, Reference, extended_sound, path_fault, EncodingWith, Margin, All}
+use Rattle.olr_refs.proofs.Common.{All-nil, All-cons, Points, OwnLinesWith, own_lines, by_answer, same_path}
 use native.Mathlib.Numerals.{unary_clauses}
-use Rattle.std.specs.List.{All}
-use Rattle.std.proofs.lemmas.List.Elements.{All-nil, All-cons}
-use Rattle.olr_spec.specs.Encoding.{Points}
 use Rattle.olr_spec.specs.Receiver.{last_number}
-use Rattle.olr_spec.specs.Recovery.{OwnLinesWith, own_lines}
 use Rattle.olr_spec.proofs.DecodedLemmas.{Kept, form, answer_decodes}
-use Rattle.olr_spec.proofs.FitLemmas.{by_answer}
-use Rattle.olr_spec.proofs.ReceiverLemmas.{same_path}
 
 -- ---- along an extended path
 
 -- all but the last leave their LRP
-pub own_by : (ls ks : List ℕ) → 0 < length ks →
-    own_lines ls ks ≡ map (slice_index ls) (take (length ks - 1) ks)
+pub own_by : (ls ks : List ℕ) → 0 < length ks → own_lines ls ks ≡ map (slice_index ls) (take (length ks - 1) ks)
     ++ slice_index ls (slice_index ks (length ks - 1) - 1) ∷ []
 own_by ls [] some = absurd (omega arith)
 own_by ls (i ∷ []) some = refl

@@ -1,10 +1,10 @@
 -- The LRPs of a reference, as they are read.
-use Rattle.olr_refs.proofs.Common.{◌≡◌, ◌<◌, ◌≤◌, ◌-◌, ◌+◌, ℕ, zero, suc, ℤ, Option, List, [], ◌∷◌, ◌++◌, length, take}
-use Rattle.olr_refs.proofs.Common.{refl, arith, slice_index, Coord, abs24, relative, Map, Attrs, Middle, Reference}
-use Rattle.olr_refs.proofs.Common.{attrs_with, dm_between, reference_by_with, legs, leg_at, position, middle_points_of}
-use Rattle.olr_refs.proofs.Common.{Leg, bearing_back, First, Last, offset, last_two, first_point_with}
-use Rattle.olr_refs.proofs.Common.{middle_point_with, middle_points_with, last_point, ◌∙◌, ap, to_z-of_z, Width, w64}
-use Rattle.olr_spec.specs.Margins.{Margin}
+use Rattle.olr_refs.proofs.Common.{◌≡◌, ◌<◌, ◌≤◌, ◌-◌, ◌+◌, ℕ, zero, suc, ℤ, Option, List, [], ◌∷◌, ◌++◌, length}
+use Rattle.olr_refs.proofs.Common.{take, refl, arith, slice_index, Coord, abs24, relative, Map, Attrs, Middle}
+use Rattle.olr_refs.proofs.Common.{Reference, attrs_with, dm_between, reference_by_with, legs, leg_at, position}
+use Rattle.olr_refs.proofs.Common.{middle_points_of, Leg, bearing_back, First, Last, offset, last_two}
+use Rattle.olr_refs.proofs.Common.{first_point_with, middle_point_with, middle_points_with, last_point, ◌∙◌, ap}
+use Rattle.olr_refs.proofs.Common.{to_z-of_z, Width, w64, Margin}
 use mir.Val.{SFits, of_z, to_z}
 
 -- what a call computes from a number that is passed, as it is stored

@@ -1,33 +1,25 @@
 -- The positions that are covered, by one route along the lines after a position, where these count longer.
-use Rattle.olr_refs.proofs.Common.{cases_lt, ◌≡◌, ◌==◌, ◌<◌, ◌≤◌, ◌-◌, ◌+◌, ◌*◌, ℕ, min, max, Bool, List, [], ◌∷◌, ◌++◌}
-use Rattle.olr_refs.proofs.Common.{length, take, drop, ap, sym, subst, ◌∙◌, arith, inl, inr, cases_order, IsTrue, ◌↔◌}
-use Rattle.olr_refs.proofs.Common.{slice_index, Map, IsMap, start, end, dm, has_line, IsRoute, dm_of, limit, AreJoined}
-use Rattle.olr_refs.proofs.Common.{stretch, CoveredWith, CountedTo, IsLastTestedWith, dm_of-append, stretch_parts}
-use Rattle.olr_refs.proofs.Common.{Along, Dijkstra, IsSearch, limit_of, IsFar, IsReach, UniqueShortest, Needed}
-use Rattle.olr_refs.proofs.Common.{empty_unique, stretch_last, ResolvedLine, record_of, cases_eq, ne_eqb, cond, refl}
-use Rattle.olr_refs.proofs.Common.{has_node}
-use Rattle.std.proofs.lemmas.Bool.{cases_Bool}
+use Rattle.olr_refs.proofs.Common.{cases_lt, ◌≡◌, ◌==◌, ◌<◌, ◌≤◌, ◌-◌, ◌+◌, ◌*◌, ℕ, min, max, Bool, List, [], ◌∷◌}
+use Rattle.olr_refs.proofs.Common.{◌++◌, length, ap, sym, subst, ◌∙◌, arith, inl, inr, cases_order, IsTrue, ◌↔◌}
+use Rattle.olr_refs.proofs.Common.{slice_index, Map, IsMap, start, end, dm, has_line, IsRoute, dm_of, limit}
+use Rattle.olr_refs.proofs.Common.{AreJoined, stretch, CoveredWith, CountedTo, IsLastTestedWith, dm_of-append}
+use Rattle.olr_refs.proofs.Common.{stretch_parts, Along, Dijkstra, IsSearch, limit_of, IsFar, IsReach, UniqueShortest}
+use Rattle.olr_refs.proofs.Common.{Needed, empty_unique, stretch_last, ResolvedLine, record_of, cases_eq, ne_eqb}
+use Rattle.olr_refs.proofs.Common.{cond, refl, has_node, cases_Bool, cond_both, begun_at, MayMark, label_of}
+use Rattle.olr_refs.proofs.Common.{Each-range, next_start, way_between, Margin, is_margin, counted, counted_dm}
+use Rattle.olr_refs.proofs.Common.{counted_dm_of, CountedRoute, empty_stretch}
 use Rattle.olr_refs.proofs.Counting.{own_same, line_counts, sum_counts, unique_more, end_ahead, starts_settled}
 use Rattle.olr_refs.proofs.Joined.{known_at}
 use Rattle.olr_refs.proofs.LegLemmas.{joined_known}
 use Rattle.olr_refs.proofs.Stretches.{stretch_sum}
-use Rattle.olr_refs.specs.Choice.{begun_at, MayMark}
 use Rattle.olr_route.specs.Lengths.{MayCount}
-use Rattle.olr_route.specs.Frontiers.{label_of}
-use Rattle.std.proofs.lemmas.Bool.{cond_both}
 use Rattle.olr_spec.proofs.CountedLemmas.{counted_nil, counted_start}
 use Rattle.olr_spec.proofs.ElsewhereLemmas.{counted_part}
-use Rattle.olr_spec.proofs.ListLemmas.{Each-range}
-use Rattle.olr_spec.proofs.WayLemmas.{next_start, way_between}
-use Rattle.olr_spec.specs.Margins.{Margin, is_margin, counted, counted_dm, counted_dm_of, CountedRoute}
-
-pub empty_stretch : (ls : List ℕ) (p : ℕ) → [] ≡ stretch ls p p
-empty_stretch ls p = let e : 0 ≡ p - p = omega arith in ap (λ (n : ℕ). take n (drop p ls)) e
 
 pub unique_start : (g : Margin) (M : Map) → IsMap M → (ls : List ℕ) (i : ℕ) → AreJoined M ls → i + 1 < length ls →
     CountedTo g M ls i (i + 1)
 unique_start g M m ls i w h =
-    rw (← empty_stretch ls (i + 1), ← next_start M _ _ ls i w h, counted_nil) (empty_unique M m (end M (slice_index ls i)))
+    rw (empty_stretch ls (i + 1) (i + 1) (omega arith), ← next_start M _ _ ls i w h, counted_nil) (empty_unique M m (end M (slice_index ls i)))
 
 -- a shorter route along the same lines is a unique shortest path too
 unique_shorter : (g : Margin) (M : Map) → IsMap M → (ls : List ℕ) (i j k : ℕ) → AreJoined M ls → i < j → j ≤ k → k < length ls →
@@ -142,7 +134,7 @@ pub tests_start : (g : Margin) (M : Map) → IsMap M → (slot : ℕ → ℕ) (l
     i + 1 < length ls → IsSearch M slot Along ((end M (slice_index ls i), begun_at g) ∷ []) s → limit_of s ≡ 0 →
     Tests g M slot ls i (i + 1) 0 s
 tests_start g M m slot ls i s w h search at_source =
-    let none = empty_stretch ls (i + 1) in
+    let none = sym (empty_stretch ls (i + 1) (i + 1) (omega arith)) in
     record {
       search = subst (λ zs. IsSearch (counted g M zs) slot Along ((end M (slice_index ls i), begun_at g) ∷ []) s) none
           (subst (λ K. IsSearch K slot Along ((end M (slice_index ls i), begun_at g) ∷ []) s) (sym (counted_nil g M)) search);
@@ -233,8 +225,7 @@ module _ (g : Margin) (M : Map) (m : IsMap M) (slot : ℕ → ℕ) (ls : List �
   module _ (new : Dijkstra) (search : IsSearch (counted g M (front ++ line.id ∷ [])) slot Along ((from, begun_at g) ∷ []) new)
       (n : ℕ) (sum : n ≡ within + line.len) (far : limit_of new ≡ max (limit_of old) n) where
     search_on : IsSearch (counted g M (stretch ls (i + 1) (k + 1))) slot Along ((from, begun_at g) ∷ []) new
-    search_on =
-        subst (λ zs. IsSearch (counted g M zs) slot Along ((from, begun_at g) ∷ []) new)
+    search_on = subst (λ zs. IsSearch (counted g M zs) slot Along ((from, begun_at g) ∷ []) new)
         (ap (λ y. front ++ y ∷ []) id_is ∙ sym longer) search
 
     settled_on : limit_of new ≡ n

@@ -1,22 +1,19 @@
 -- The encoding of a path, by its extension, its LRPs, its coverage queries and its reference.
 use Rattle.olr_refs.proofs.Common.{◌≡◌, ◌<◌, ◌+◌, ℕ, List, [], ◌∷◌, length, Option, Some, None, MatchOption, Contains}
 use Rattle.olr_refs.proofs.Common.{ap, ◌∙◌, arith, inl, inr, eq-eqb, IsTrue, Map, IsMap, dm_of, Path, is_path}
-use Rattle.olr_refs.proofs.Common.{extended_path, AreJoined, last_position, Reference, legs, reference_with, path_fault}
-use Rattle.olr_refs.proofs.Common.{CoverageQuery, QueriesOfWith, path_nonempty, all_first, all_last, path_also, Extends}
-use Rattle.olr_refs.proofs.Common.{later, joined_with, answer_of, Tried, OfPathWith, answer_by_points_with}
-use Rattle.olr_refs.proofs.Common.{EncodingWith, EncodesWith, Traversed, TraversedOfExtended, QueriesOfExtendedWith}
-use Rattle.olr_refs.proofs.Common.{sound_lines, one_tried, extended_sound, ForPoints, searches_of, ◌↔◌}
+use Rattle.olr_refs.proofs.Common.{extended_path, AreJoined, last_position, Reference, legs, reference_with}
+use Rattle.olr_refs.proofs.Common.{path_fault, CoverageQuery, QueriesOfWith, path_nonempty, all_first, all_last}
+use Rattle.olr_refs.proofs.Common.{path_also, Extends, later, joined_with, answer_of, Tried, OfPathWith}
+use Rattle.olr_refs.proofs.Common.{answer_by_points_with, EncodingWith, EncodesWith, Traversed, TraversedOfExtended}
+use Rattle.olr_refs.proofs.Common.{QueriesOfExtendedWith, sound_lines, one_tried, extended_sound, ForPoints}
+use Rattle.olr_refs.proofs.Common.{searches_of, ◌↔◌, kept_points, own_lines, OwnLinesOfWith, recovered_with, Margin}
 use Rattle.olr_answers.specs.declared.answer.Answer.{Answer}
 use Rattle.olr_answers.specs.declared.answer.Answer.TheVariants.{Points, Refused}
 use Rattle.std.proofs.lemmas.Slice.Zip.{AllZip-long}
 use Rattle.std.proofs.lemmas.List.Sums.{length-filter}
 use Rattle.olr_refs.specs.Referring.{JoinsOf, AnsweredAlong, SearchesOf}
-use Rattle.olr_refs.proofs.Common.{kept_points}
-use Rattle.olr_spec.specs.Recovery.{own_lines, OwnLinesOfWith}
 use Rattle.olr_spec.proofs.JoinedLemmas.{extended_joined}
-use Rattle.olr_spec.proofs.ReceiverLemmas.{recovered_with}
 use Rattle.olr_refs.specs.Recovered.{RecoveredOf}
-use Rattle.olr_spec.specs.Margins.{Margin}
 use Rattle.olr_spec.specs.Encoding as spec
 use Rattle.olr_answers.specs.Answers as answers
 

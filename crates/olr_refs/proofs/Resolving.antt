@@ -1,9 +1,8 @@
 -- Lines of a path as a map has them.
 use Rattle.olr_refs.proofs.Common.{arith, ◌≡◌, ◌<◌, ℕ, List, [], ◌∷◌, ◌++◌, length, get_or, refl, sym, ap, ◌∙◌, subst}
 use Rattle.olr_refs.proofs.Common.{get_or-map, length-map, map-append, slice_index, Map, ResolvedLine, record_of}
-use Rattle.olr_refs.proofs.Common.{records_of, ids, AreRecords, Some}
+use Rattle.olr_refs.proofs.Common.{records_of, ids, AreRecords, Some, slice_get}
 use Rattle.std.proofs.lemmas.Option.{get_or_from_slice_get, slice_get_within}
-use Rattle.std.specs.List.{slice_get}
 
 -- the record of line k
 pub record_at : (M : Map) (slot : ℕ → ℕ) (ls : List ℕ) (rs : List ResolvedLine) (k : ℕ) (d : ResolvedLine) → rs ≡ records_of M slot ls →

@@ -1,23 +1,19 @@
 -- Known coverage queries on an extended path: how one is found, and what it says there.
 use Rattle.olr_refs.proofs.Common.{cases_lt, ◌≡◌, ◌<◌, ◌≤◌, ◌-◌, ◌+◌, ◌∷◌, ℕ, min, Bool, true, false, List, get_or}
-use Rattle.olr_refs.proofs.Common.{Result, Some, Contains, Option, [], refl, sym, ap, ◌∙◌, subst, arith, get_or_default}
-use Rattle.olr_refs.proofs.Common.{IsTrue, ◌↔◌, slice_index, length, length-take, length-drop, get_or-take, get_or-drop}
-use Rattle.olr_refs.proofs.Common.{IsBinarySearchResult, nat_cmp, IsMap, Map, start, end, AreJoined, IsRoute, CountedTo}
-use Rattle.olr_refs.proofs.Common.{CoveredWith, stretch, KnownQuery, CoverageQuery, IsLastTestedWith, IsFar, IsReach}
-use Rattle.olr_refs.proofs.Common.{Ok, Err, IsReuse, IsAnswered, IsKnownOfWith, EndsHere, own_of, Contains-here}
-use Rattle.olr_refs.proofs.Common.{known_reach, no_work, All-contains, IsSearchInRange, IsKnownWith, query_to_with}
-use Rattle.olr_refs.proofs.Common.{if◌then◌else◌}
-use Rattle.olr_refs.specs.declared.reuse.Found.{Found}
-use Rattle.olr_refs.specs.declared.reuse.Reuse.{Reuse}
-use Rattle.olr_spec.specs.Margins.{Margin, counted, CountedRoute}
+use Rattle.olr_refs.proofs.Common.{Result, Some, Contains, Option, [], refl, sym, ap, ◌∙◌, subst, arith}
+use Rattle.olr_refs.proofs.Common.{get_or_default, IsTrue, ◌↔◌, slice_index, length, length-take, length-drop}
+use Rattle.olr_refs.proofs.Common.{get_or-take, get_or-drop, IsBinarySearchResult, nat_cmp, IsMap, Map, start, end}
+use Rattle.olr_refs.proofs.Common.{AreJoined, IsRoute, CountedTo, CoveredWith, stretch, KnownQuery, CoverageQuery}
+use Rattle.olr_refs.proofs.Common.{IsLastTestedWith, IsFar, IsReach, Ok, Err, IsReuse, IsAnswered, IsKnownOfWith}
+use Rattle.olr_refs.proofs.Common.{EndsHere, own_of, Contains-here, known_reach, no_work, All-contains}
+use Rattle.olr_refs.proofs.Common.{IsSearchInRange, IsKnownWith, query_to_with, if◌then◌else◌, Found, Reuse, Margin}
+use Rattle.olr_refs.proofs.Common.{counted, CountedRoute, drop-drop, drop-take, take-take, way_on, next_start}
+use Rattle.olr_refs.proofs.Common.{empty_stretch}
 use Rattle.std.specs.Result.{result_ok}
 use Rattle.std.proofs.lemmas.Cmp.{ranked}
-use Rattle.std.proofs.lemmas.List.{drop-drop, drop-take, take-take}
 use Rattle.olr_spec.proofs.KnownLemmas.{one_end}
-use Rattle.olr_spec.proofs.QueryLemmas.{way_on}
-use Rattle.olr_spec.proofs.WayLemmas.{next_start}
 use Rattle.olr_refs.proofs.Noting.{cost_none}
-use Rattle.olr_refs.proofs.Reaching.{all_covered, covered_so_far, empty_stretch}
+use Rattle.olr_refs.proofs.Reaching.{all_covered, covered_so_far}
 use Rattle.olr_refs.proofs.Stretches.{stretch_sum}
 
 -- ---- by the line where it begins
@@ -66,8 +62,7 @@ module _ (g : Margin) (M : Map) (ls : List ℕ) (r : Reuse) (is : IsReuse g M ls
   to = start M (slice_index ls (r.lead + e.last))
 
   part_is : (m : ℕ) → e.first ≤ m → m ≤ e.last → stretch ls (i + 1) (r.lead + m) ≡ stretch (own_of ls r) e.first m
-  part_is m h k =
-      ap (λ (n : ℕ). stretch ls n (r.lead + m)) begins ∙ sym (own_stretch ls r e.first m h (omega arith))
+  part_is m h k = ap (λ (n : ℕ). stretch ls n (r.lead + m)) begins ∙ sym (own_stretch ls r e.first m h (omega arith))
 
   way : IsRoute M from to (stretch (own_of ls r) e.first e.last)
   way = subst (IsRoute M from to) (part_is e.last (omega arith) (omega arith))
@@ -78,7 +73,7 @@ module _ (g : Margin) (M : Map) (ls : List ℕ) (r : Reuse) (is : IsReuse g M ls
     from_known : e.query.from ≡ from
     from_known =
         let own = own_of ls r in
-        let none = subst (λ zs. IsRoute (counted g M zs) e.query.from (start M (slice_index own e.first)) zs) (sym (empty_stretch own e.first))
+        let none = subst (λ zs. IsRoute (counted g M zs) e.query.from (start M (slice_index own e.first)) zs) (empty_stretch own e.first e.first (omega arith))
         (k.before e.first (omega arith) order).route in
         none ∙ ap (start M) (own_line ls r e.first (omega arith) ∙ ap (slice_index ls) (sym begins))
         ∙ sym (next_start M _ _ ls i joined (omega arith))

@@ -5,15 +5,13 @@ use Rattle.olr_refs.proofs.Common.{◌++◌, length, map, reverse, Option, Some,
 use Rattle.olr_refs.proofs.Common.{subst, arith, append_assoc, both_ways, map-append, reverse-append}
 use Rattle.olr_refs.proofs.Common.{list_any-IsPermutation, Map, has_line, dm, has, dm_of, last, limit, dm_of-append}
 use Rattle.olr_refs.proofs.Common.{far_end, Along, Against, ResolvedLine, IsResolved, record_of, records_of, ids}
-use Rattle.olr_refs.proofs.Common.{AreRecords}
-use Rattle.olr_refs.proofs.Common.{LiesBeyond, IsRun, same_start_run, same_end_run, last_push, reverse-reverse, ◌≢◌}
-use Rattle.olr_refs.proofs.Common.{is_some, ⊤, ne_eqb, or_from, or_parts, list_any-append, IsPermutation-reverse}
-use Rattle.olr_refs.proofs.Common.{MayPrecede, MayFollow, StartRun, EndRun, has_here, has_first, has_last, near_end}
-use Rattle.olr_refs.proofs.Common.{outermost, in_order, LeadsOn, IsLongest, IsTrue, append-nil}
+use Rattle.olr_refs.proofs.Common.{AreRecords, LiesBeyond, IsRun, same_start_run, same_end_run, last_push}
+use Rattle.olr_refs.proofs.Common.{reverse-reverse, ◌≢◌, is_some, ⊤, ne_eqb, or_from, or_parts, list_any-append}
+use Rattle.olr_refs.proofs.Common.{IsPermutation-reverse, MayPrecede, MayFollow, StartRun, EndRun, has_here}
+use Rattle.olr_refs.proofs.Common.{has_first, has_last, near_end, outermost, in_order, LeadsOn, IsLongest, IsTrue}
+use Rattle.olr_refs.proofs.Common.{append-nil, Direction, joined}
 use Rattle.olr_spec.proofs.RunMoves.{EndRun-push}
 use Rattle.olr_spec.proofs.DecideLemmas.{last_of_list}
-use Rattle.olr_route.specs.declared.distances.Direction.{Direction}
-use Rattle.olr_refs.specs.Runs.{joined}
 
 -- ---- the line beyond a line
 

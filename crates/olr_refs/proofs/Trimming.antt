@@ -1,15 +1,14 @@
 -- Which LRPs remain, by the distances of all positions.
 use Rattle.olr_refs.proofs.Common.{common_steps, inl, inr, ◌≡◌, ◌<◌, ◌≤◌, ◌-◌, ◌+◌, ℕ, zero, suc, Bool, true, false}
-use Rattle.olr_refs.proofs.Common.{cond, List, [], ◌∷◌, length, take, drop, refl, sym, ap, ◌∙◌, subst, arith, cases_lt}
-use Rattle.olr_refs.proofs.Common.{cases_eq, le-leb, nat_tests, take-map, take_all, slice_index, slice_range, Map}
-use Rattle.olr_refs.proofs.Common.{dm_of, CandidateWith, last_position, leg, legs, dm_between, reference_with}
-use Rattle.olr_refs.proofs.Common.{reference_by_with, AreDistances, later, distance_at, whole_distance, nat_le}
-use Rattle.olr_refs.proofs.Common.{length-take, length-drop, lt-leb, get_or-take, get_or-drop, AllPairs-from_increasing}
-use Rattle.olr_refs.proofs.Common.{filter, dm_along, from_front, to_back, last_where, first_where, first_kept}
-use Rattle.olr_refs.proofs.Common.{last_kept, kept_points, LinkedWith, follow_linked_with, between, kept_linked_with}
-use Rattle.olr_refs.proofs.Common.{from_front-add, AreAlong, ArePoints, AreKept, AreLinked, AreTrimmed, IsFirstKept}
-use Rattle.olr_refs.proofs.Common.{IsLastKept}
-use Rattle.olr_spec.specs.Margins.{Margin}
+use Rattle.olr_refs.proofs.Common.{cond, List, [], ◌∷◌, length, take, drop, refl, sym, ap, ◌∙◌, subst, arith}
+use Rattle.olr_refs.proofs.Common.{cases_lt, cases_eq, le-leb, nat_tests, take-map, take_all, slice_index}
+use Rattle.olr_refs.proofs.Common.{slice_range, Map, dm_of, CandidateWith, last_position, leg, legs, dm_between}
+use Rattle.olr_refs.proofs.Common.{reference_with, reference_by_with, AreDistances, later, distance_at}
+use Rattle.olr_refs.proofs.Common.{whole_distance, nat_le, length-take, length-drop, lt-leb, get_or-take, get_or-drop}
+use Rattle.olr_refs.proofs.Common.{AllPairs-from_increasing, filter, dm_along, from_front, to_back, last_where}
+use Rattle.olr_refs.proofs.Common.{first_where, first_kept, last_kept, kept_points, LinkedWith, follow_linked_with}
+use Rattle.olr_refs.proofs.Common.{between, kept_linked_with, from_front-add, AreAlong, ArePoints, AreKept, AreLinked}
+use Rattle.olr_refs.proofs.Common.{AreTrimmed, IsFirstKept, IsLastKept, Margin}
 use Rattle.olr_spec.proofs.KeptLemmas.{dm_along-legs, whole}
 use Rattle.olr_refs.proofs.Stretches.{distances_rise}
 
@@ -156,8 +155,7 @@ module _ (g : Margin) (M : Map) (ls ds ps : List ℕ) (d : AreDistances M ls ds)
 
   range_is : (a b : ℕ) → a ≤ b → b < length ps → filter (between (slice_index ps a) (slice_index ps b)) ps
       ≡ slice_range ps a (b + 1)
-  range_is a b h below =
-      range_passes (between (slice_index ps a) (slice_index ps b)) ps a (b + 1 - a) (omega arith)
+  range_is a b h below = range_passes (between (slice_index ps a) (slice_index ps b)) ps a (b + 1 - a) (omega arith)
       (λ k lt. grind (arith, nat_tests, linked_less g M ls ps linked k a))
       (λ k ge lt. grind (arith, nat_tests, not_above a k, not_above k b))
       (λ k ge lt. grind (arith, nat_tests, linked_less g M ls ps linked b k))

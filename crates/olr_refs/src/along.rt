@@ -64,6 +64,7 @@ impl<M: MapRead> ResolvedPath<'_, M> {
     }
 
     /// The node at position `k`, and its slot.
+    #[tactic(auto, using(olr_spec::proofs::ListLemmas::last_index))]
     pub(crate) fn node_and_slot(&self, k: usize) -> (NodeId, u32)
         requires some { 0 < length self.now.lines.now }
         requires within { k ≤ length self.now.lines.now }

@@ -91,23 +91,25 @@ fn note_reached<M: MapRead>(
     seen.note_all(&nodes)
 }
 
-/// The coverage query from position `i`, by one search, where two lines or more follow line `i`; positions up to `far`
-/// are near enough. If `seen` is `Some`, adds the nodes that the query reaches.
-fn search_after<M: MapRead>(
+/// The coverage query from position `i`, where two lines or more follow line `i`. If it is not known, it is found by one
+/// search; then, if `seen` is `Some`, adds the nodes that it reaches.
+fn query_after<M: MapRead>(
     alloc: Global,
     resolved: &ResolvedPath<M>,
-    reuse: &Reuse,
     i: usize,
-    far: usize,
+    reuse: &Reuse,
     search: &mut Dijkstra,
     seen: &mut Option<Footprint>,
 ) -> Result<Found, AllocError>
     requires some { i + 2 < length resolved.now.lines.now }
     requires reuse { IsReuse resolved.now.margin (M.map resolved.now.map.now) resolved.now.lines.now reuse.now }
-    requires far { IsFar (M.map resolved.now.map.now) resolved.now.lines.now i far }
     ensures { IfOk result (λ f. IsAnswered resolved.now.margin (M.map resolved.now.map.now) resolved.now.lines.now reuse.now i f seen.old
         seen.new) }
 {
+    let far = last_within_limit(resolved, i);
+    if let Some(found) = known_after(resolved, reuse, i, far) {
+        return Ok(found);
+    }
     let from = resolved.end(i);
     let tested = covered_to(resolved, i, far, search)?;
     let query = CoverageQuery {
@@ -128,28 +130,6 @@ fn search_after<M: MapRead>(
         own,
         work,
     })
-}
-
-/// The coverage query from position `i`, where two lines or more follow line `i`. If it is not known, it is searched;
-/// then, if `seen` is `Some`, adds the nodes that it reaches.
-fn query_after<M: MapRead>(
-    alloc: Global,
-    resolved: &ResolvedPath<M>,
-    reuse: &Reuse,
-    i: usize,
-    search: &mut Dijkstra,
-    seen: &mut Option<Footprint>,
-) -> Result<Found, AllocError>
-    requires some { i + 2 < length resolved.now.lines.now }
-    requires reuse { IsReuse resolved.now.margin (M.map resolved.now.map.now) resolved.now.lines.now reuse.now }
-    ensures { IfOk result (λ f. IsAnswered resolved.now.margin (M.map resolved.now.map.now) resolved.now.lines.now reuse.now i f seen.old
-        seen.new) }
-{
-    let far = last_within_limit(resolved, i);
-    match known_after(resolved, reuse, i, far) {
-        Some(found) => Ok(found),
-        None => search_after(alloc, resolved, reuse, i, far, search, seen),
-    }
 }
 
 /// How far the positions after `i` are covered and near enough. If two lines or more follow line `i`, appends the
@@ -173,7 +153,7 @@ fn reach_of<M: MapRead>(
     if resolved.lines.len() - i <= 2 {
         return Ok(last_within_limit(resolved, i));
     }
-    let found = query_after(alloc, resolved, reuse, i, search, seen)?;
+    let found = query_after(alloc, resolved, i, reuse, search, seen)?;
     queries.all.push(found.query)?;
     if let Some(own) = found.own {
         queries.own.push(own)?;

@@ -60,7 +60,7 @@ pub fn encode<M: MapRead>(
     ensures searches { IfOk result (λ e. e.work.searches ≡ saturated_count (length e.queries.items)) }
 {
     let mut seen = None;
-    encode_noting(alloc, map, path, margin, &[], search, &mut seen)
+    encode_noting(alloc, map, path, &[], margin, search, &mut seen)
 }
 
 /// The encoding of a path on a map, as `encode` returns it, but without searches for the coverage queries in `known`.
@@ -81,7 +81,7 @@ pub fn encode_again<M: MapRead>(
     ensures path { IsTrue (is_path path.now.lines) }
 {
     let mut seen = None;
-    encode_noting(alloc, map, path, margin, known, search, &mut seen)
+    encode_noting(alloc, map, path, known, margin, search, &mut seen)
 }
 
 /// The encoding of a path on a map, as `encode_again` returns it. If `seen` is `Some`, adds the nodes that the coverage
@@ -90,12 +90,13 @@ pub fn encode_again<M: MapRead>(
 ///
 /// If an allocation fails, `seen` may have some of these nodes, and the search must be started again before its next
 /// use.
+#[tactic(auto, using(crate::proofs::Referring::whole_joined, crate::proofs::Referring::whole_short))]
 pub fn encode_noting<M: MapRead>(
     alloc: Global,
     map: &M,
     path: &Path,
-    margin: Margin,
     known: &[KnownQuery],
+    margin: Margin,
     search: &mut Dijkstra,
     seen: &mut Option<Footprint>,
 ) -> Result<Encoding, AllocError>

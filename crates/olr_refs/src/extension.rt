@@ -1,10 +1,10 @@
 //! Paths whose ends are extended to valid nodes.
 ghost use Rattle.std.specs.Prelude.{◌≡◌, ◌⊎◌, ◌↔◌, ℕ, List, IsTrue, IfOk, OnOk, OnErr, None, Contains};
+ghost use Rattle.olr_refs.specs.Extends.{ExtendedPath, Extends};
 ghost use Rattle.olr_spec.specs.Map.{Map};
 ghost use Rattle.olr_spec.specs.Encoding.{first_unknown};
 ghost use Rattle.olr_spec.specs.Extension.{is_path};
 ghost use Rattle.olr_spec.specs.Queries.{NodeOf};
-ghost use Rattle.olr_refs.specs.Extends.{ExtendedPath, Extends};
 ghost use Rattle.olr_refs.specs.ResolvedLines.{records_of};
 
 use crate::degree_two_runs::longest_run;
@@ -47,6 +47,7 @@ impl Model for Extended {
 /// both tried runs to the footprint, and no others. If an allocation fails, the footprint is unchanged.
 ///
 /// `own` are the path's own lines as the map has them.
+#[tactic(auto, using(crate::proofs::Extending::own_some, crate::proofs::Extending::own_first, crate::proofs::Extending::front_some, crate::proofs::Extending::front_last, crate::proofs::Extending::front_records, crate::proofs::Resolving::are_records))]
 pub fn extend<M: MapRead>(
     alloc: Global,
     map: &M,

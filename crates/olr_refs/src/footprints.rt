@@ -46,16 +46,16 @@ pub fn refer<M: MapRead>(
     ensures answer { IfOk result (λ r. Encodes (M.map map.now) path.now (answer_of r.0)) }
     ensures joins { IfOk result (λ r. JoinsOf no_margin (M.map map.now) path.now r.0) }
     ensures recovered { IfOk result (λ r. RecoveredOf no_margin (M.map map.now) path.now r.0) }
+    ensures encodings { OnOk result (work.new.encodings ≡ raised_count work.old.encodings 1) }
+    ensures err_work { OnErr result (work.new ≡ work.old) }
     ensures footprint { IfOk result (λ r. (v : ℕ) → Contains r.1 v ↔ Foot (M.map map.now) path.now v) }
     ensures local { IfOk result (λ r. (other : Map) → IsMap other
         → Agree (M.map map.now) other path.now.lines (Contains r.1) → Encodes other path.now (answer_of r.0)) }
-    ensures encodings { OnOk result (work.new.encodings ≡ raised_count work.old.encodings 1) }
     ensures searches { OnOk result ((n : ℕ) × SearchesOf no_margin (M.map map.now) path.now n
         × (work.new.searches ≡ raised_count work.old.searches n)) }
     ensures settled_rises { OnOk result (work.old.settled < 2 ^ 64 → work.old.settled ≤ work.new.settled) }
     ensures settled { IfOk result (λ r. (n : ℕ) × SearchesOf no_margin (M.map map.now) path.now n
         × (work.new.settled ≤ work.old.settled + n * length r.1)) }
-    ensures err_work { OnErr result (work.new ≡ work.old) }
 {
     refer_with(alloc, map, path, Margin::none(), work)
 }
@@ -87,7 +87,7 @@ pub fn refer_with<M: MapRead>(
     let mut seen = Some(Footprint::new(alloc));
     let (answer, traversed, done) = {
         let mut search = Dijkstra::new(alloc);
-        let encoding = encode_noting(alloc, map, path, margin, &[], &mut search, &mut seen)?;
+        let encoding = encode_noting(alloc, map, path, &[], margin, &mut search, &mut seen)?;
         (encoding.answer, encoding.traversed, encoding.work)
     };
     let footprint = with_seen(traversed, seen)?;

@@ -15,6 +15,15 @@ use olr_model::MapRead;
 use olr_route::{Dijkstra, Direction, GREATEST_LIMIT, ResolvedLine};
 use std::alloc::AllocError;
 
+/// The start value of a search that finds how far lines are covered. With a margin it is not settled where the first of
+/// them begins before that line counts longer.
+fn begun_at(margin: Margin) -> u32
+    ensures value { result ≡ begun_at margin }
+    ensures margin { IsTrue (is_margin margin) }
+{
+    if margin.routes() == 0 { 0 } else { 1 }
+}
+
 /// How far the lines after a position are the unique shortest path, and how far that was tested.
 #[derive(Clone, Copy)]
 pub struct Tested {
@@ -24,15 +33,6 @@ pub struct Tested {
     pub last: usize,
     /// The length that the lines as far as there count, in decimetres.
     pub within: u32,
-}
-
-/// The start value of a search that finds how far lines are covered. With a margin it is not settled where the first of
-/// them begins before that line counts longer.
-fn begun_at(margin: Margin) -> u32
-    ensures value { result ≡ begun_at margin }
-    ensures margin { IsTrue (is_margin margin) }
-{
-    if margin.routes() == 0 { 0 } else { 1 }
 }
 
 /// Line `k` with the length that it counts.

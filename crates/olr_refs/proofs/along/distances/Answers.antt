@@ -9,5 +9,5 @@ loop-record-preserved c =
 
 pub returns : goal.returns
 returns c = λ M slot ls e.
-    let long = records_length M slot ls c.args.records.now e in
+    let long = records_length M slot ls _ e in
     subst (λ k. DistancesTo M ls k c.loop-record.distances.items) (omega arith) (c.loop-record.invariant.are M slot ls e).0

@@ -4,8 +4,7 @@ use Rattle.olr_refs.proofs.Noting.{led_end, no_next_end}
 use Rattle.olr_refs.proofs.chosen.points.Goals as goal
 
 pub loop-last-preserved : goal.loop-last-preserved
-loop-last-preserved g c =
-    gone_more c.args.resolved.now.margin (g.M.MapRead.map c.args.resolved.now.map.now) c.args.resolved.now.lines.now c.args.reuse.now
+loop-last-preserved g c = gone_more _ _ _ _
     c.loop-last.positions.items c.push-in-Some.new.self.items c.loop-last.last c.in-Some.next _ _ _ _ _
     c.loop-last.invariant c.in_ok-reach.ensures.asks c.in-Some.ensures c.in_ok-push-in-Some.ensures.items
 
@@ -14,13 +13,13 @@ returns-in-None g c =
     let M = g.M.MapRead.map c.args.resolved.now.map.now in
     let ls = c.args.resolved.now.lines.now in
     let s = c.loop-last.invariant in
-    let led = led_end c.args.resolved.now.margin M ls s.points c.loop-last.last s.led c.in-None.ensures in
+    let led = led_end _ M ls s.points c.loop-last.last s.led c.in-None.ensures in
     record {
       choice = (s.points, led.0, ((λ e. omega arith), sym led.1));
       asks = (
         s.points,
         led.0,
-        ended c.args.resolved.now.margin M ls c.args.reuse.now c.loop-last.positions.items c.loop-last.last _ _ _ _ _ s c.in_ok-reach.ensures.asks,
+        ended _ M ls _ c.loop-last.positions.items c.loop-last.last _ _ _ _ _ s c.in_ok-reach.ensures.asks,
       );
     }
 
@@ -29,13 +28,13 @@ returns g c =
     let M = g.M.MapRead.map c.args.resolved.now.map.now in
     let ls = c.args.resolved.now.lines.now in
     let s = c.loop-last.invariant in
-    let led = led_end c.args.resolved.now.margin M ls s.points c.loop-last.last s.led (no_next_end c.args.resolved.now.margin M ls c.loop-last.last (omega arith)) in
+    let led = led_end _ M ls s.points c.loop-last.last s.led (no_next_end _ M ls c.loop-last.last (omega arith)) in
     let end : c.loop-last.last ≡ length ls = let w = s.within in omega arith in
     record {
       choice = (s.points, led.0, (led.1 ∙ end, s.positions ∙ s.first));
       asks = (
         s.points,
         led.0,
-        ended_there c.args.resolved.now.margin M ls c.args.reuse.now c.loop-last.positions.items c.loop-last.last _ _ _ s (omega arith),
+        ended_there _ M ls _ c.loop-last.positions.items c.loop-last.last _ _ _ s (omega arith),
       );
     }

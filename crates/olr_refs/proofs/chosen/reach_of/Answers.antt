@@ -6,12 +6,9 @@ use Rattle.olr_refs.proofs.chosen.reach_of.Goals as goal
 
 pub returns-then-resolved-i-le2 : goal.returns-then-resolved-i-le2
 returns-then-resolved-i-le2 g c = record {
-  reach = reach_near_end c.args.resolved.now.margin (g.M.MapRead.map c.args.resolved.now.map.now)
-      (g.met.M.MapRead.sound c.args.resolved.now.map.now) c.args.resolved.now.lines.now c.args.i
+  reach = reach_near_end _ _ (g.met.M.MapRead.sound c.args.resolved.now.map.now) _ _
       c.last_within_limit.result c.args.resolved.now.joined c.last_within_limit.ensures c.requires.some (omega arith);
-  asks = λ before begun x.
-      asks_none c.args.resolved.now.margin (g.M.MapRead.map c.args.resolved.now.map.now) c.args.resolved.now.lines.now c.args.reuse.now before
-      c.args.i c.args.queries.now begun _ (omega arith) x;
+  asks = λ before begun x. asks_none _ _ _ _ before _ _ begun _ (omega arith) x;
 }
 
 pub returns-clause-asks : goal.returns-clause-asks
@@ -19,5 +16,5 @@ returns-clause-asks g c = λ before begun x.
     let found = c.in_ok-found.found in
     let own : c.match-found.queries.own.items ≡ c.args.queries.now.own.items ++ option_to_list found.own =
     elim c.match-found.branch [ in-Some+in_ok-push-2 w ↦ grind arith | in_default w ↦ grind (arith, append-nil) ] in
-    asks_more c.args.resolved.now.margin (g.M.MapRead.map c.args.resolved.now.map.now) c.args.resolved.now.lines.now c.args.reuse.now before c.args.i
-    c.args.queries.now _ found begun _ _ (omega arith) x c.in_ok-found.ensures (grind arith) own (grind arith)
+    asks_more _ _ _ _ before _
+    _ _ found begun _ _ (omega arith) x c.in_ok-found.ensures (grind arith) own (grind arith)

@@ -1,6 +1,5 @@
 use Rattle.olr_refs.proofs.Common.{◌≡◌, ◌≢◌, ℕ, sym, ◌∙◌, subst, arith, IsTrue, has_line, near_end, far_end}
-use Rattle.std.proofs.lemmas.Grind.{get_or_default_zero}
-use Rattle.olr_route.proofs.WayLemmas.{has_end, entry_is}
+use Rattle.olr_refs.proofs.Common.{get_or_default_zero, has_end, entry_is}
 use Rattle.olr_refs.proofs.degree_two_runs.first_apart.Goals as goal
 
 pub returns-then-end-other : goal.returns-then-end-other
@@ -12,5 +11,5 @@ returns-then-end-other c = λ M slot d v lines ends.
 
 pub returns : goal.returns
 returns c = λ M slot d v lines ends x known near.
-    let k = has_end M slot d v x c.args.ends.now ends known near in
+    let k = has_end M slot d v x _ ends known near in
     sym k.there ∙ c.loop-index.invariant k.index (omega arith)

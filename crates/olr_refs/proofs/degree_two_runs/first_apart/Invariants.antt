@@ -1,5 +1,4 @@
-use Rattle.olr_refs.proofs.Common.{◌≡◌, ◌<◌, ℕ, get_or}
-use Rattle.olr_route.proofs.WayLemmas.{no_end}
+use Rattle.olr_refs.proofs.Common.{◌≡◌, ◌<◌, ℕ, get_or, no_end}
 use Rattle.olr_refs.proofs.degree_two_runs.first_apart.Given as goal
 
 -- the lines so far lead to the other slot

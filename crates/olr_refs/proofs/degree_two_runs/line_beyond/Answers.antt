@@ -1,9 +1,6 @@
 use Rattle.olr_refs.proofs.Common.{◌≡◌, ◌≢◌, ℕ, Map, Option, Some, None, MatchOption, IsTrue, has_node, has_line, ap}
 use Rattle.olr_refs.proofs.Common.{sym, ◌∙◌, subst, arith, both_ways, passing, near_end, far_end, LeadsOn, length}
-use Rattle.olr_refs.proofs.Common.{IsMap}
-use Rattle.olr_route.specs.Distances.{lines_at, ends_at}
-use Rattle.olr_route.specs.declared.distances.Direction.{Direction}
-use Rattle.olr_route.proofs.WayLemmas.{far_node, near_node, as_many}
+use Rattle.olr_refs.proofs.Common.{IsMap, lines_at, ends_at, Direction, far_node, near_node, as_many}
 use Rattle.olr_refs.proofs.degree_two_runs.line_beyond.Given.{Over}
 use Rattle.olr_refs.proofs.degree_two_runs.line_beyond.Goals.{After-lines_from-leaving}
 use Rattle.olr_refs.proofs.degree_two_runs.line_beyond.Goals as goal
@@ -12,7 +9,7 @@ pub passing_at-requires-clause-there : goal.passing_at-requires-clause-there
 passing_at-requires-clause-there g c =
     let M = g.M.MapRead.map c.args.map.now in
     let ends = c.ends_of-near.ensures M (g.M.MapRead.node_slot c.args.map.now) c.requires.is in
-    subst (λ (v : ℕ). IsTrue (has_node M v)) (sym ends.1) (far_node (g.M.MapRead.map c.args.map.now) (g.met.M.MapRead.sound c.args.map.now) c.args.direction c.args.line.id c.requires.known)
+    subst (λ (v : ℕ). IsTrue (has_node M v)) (sym ends.1) (far_node _ (g.met.M.MapRead.sound c.args.map.now) _ _ c.requires.known)
 
 pub passing_at-requires-clause-at : goal.passing_at-requires-clause-at
 passing_at-requires-clause-at g c =
@@ -31,7 +28,7 @@ pub lines_from-leaving-requires : goal.lines_from-leaving-requires
 lines_from-leaving-requires g c =
     let ends =
     c.ends_of-near.ensures (g.M.MapRead.map c.args.map.now) (g.M.MapRead.node_slot c.args.map.now) c.requires.is in
-    (_, far_node (g.M.MapRead.map c.args.map.now) (g.met.M.MapRead.sound c.args.map.now) c.args.direction c.args.line.id c.requires.known, sym ends.2)
+    (_, far_node _ (g.met.M.MapRead.sound c.args.map.now) _ _ c.requires.known, sym ends.2)
 
 -- the lines that are entered there
 module _ (g : Over) (c : After-lines_from-leaving g) where

@@ -1,20 +1,11 @@
-use Rattle.olr_refs.proofs.Common.{◌≡◌, length, arith, refl, ap, path_fault, None, Some}
-use Rattle.olr_answers.specs.Answers.{refusal_of}
+use Rattle.olr_refs.proofs.Common.{◌≡◌, length, arith, refl, ap, path_fault, None, Some, refusal_of, Reuse}
 use Rattle.olr_refs.proofs.Noting.{noted_none}
-use Rattle.olr_refs.specs.declared.reuse.Reuse.{Reuse}
-use Rattle.olr_refs.proofs.Referring.{whole_joined, whole_short, encoding_of, joins_of, own_of, traversed_of}
+use Rattle.olr_refs.proofs.Referring.{encoding_of, joins_of, own_of, traversed_of}
 use Rattle.olr_refs.proofs.Asking.{queries_whole, known_whole, reuse_of, settled_few}
 use Rattle.olr_refs.proofs.encoding.encode_noting.Goals as goal
 
-pub encode_along-requires-clause-joined : goal.encode_along-requires-clause-joined
-encode_along-requires-clause-joined g c = grind (arith, whole_joined)
-
-pub encode_along-requires-clause-short : goal.encode_along-requires-clause-short
-encode_along-requires-clause-short g c = grind (arith, whole_short)
-
 pub encode_along-requires-clause-reuse : goal.encode_along-requires-clause-reuse
-encode_along-requires-clause-reuse g c =
-    reuse_of c.args.margin (g.M.MapRead.map c.args.map.now) c.args.path.now _ _ _ _ c.in_ok-extended.ensures.ok c.own_lines.ensures.path _
+encode_along-requires-clause-reuse g c = reuse_of _ _ _ _ _ _ _ c.in_ok-extended.ensures.ok c.own_lines.ensures.path _
     (grind arith) (grind arith) c.requires
 
 pub returns-clause-searched : goal.returns-clause-searched
@@ -34,17 +25,17 @@ returns-clause-encoding g c =
     let r : Reuse = record { known = c.args.known; lead = c.extended.inside.lead; own = length c.lines.result.now } in
     let leads : r.lead ≡ c.in_ok-extended.extended.lead = grind arith in
     let owns : r.own ≡ length P.lines = grind arith in
-    let encoding = encoding_of c.args.margin M P _ _ _ _ _ _ x answered in
+    let encoding = encoding_of _ M P _ _ _ _ _ _ x answered in
     record {
       answer = rw sound encoding;
-      joins = joins_of c.args.margin M m P _ sound encoding;
-      own = own_of c.args.margin M P _ _ _ _ _ _ x answered;
+      joins = joins_of _ M m P _ sound encoding;
+      own = own_of _ M P _ _ _ _ _ _ x answered;
       traversed = λ v. rw sound (traversed_of M m P _ _ _ _ c.own_lines.ensures.path sound c.new-traversed.ensures x v);
-      queries = queries_whole c.args.margin M P _ _ _ _ x sound r leads owns _ _ _ asks;
-      known = known_whole c.args.margin M P _ _ _ _ x sound r leads owns _ _ _ asks;
+      queries = queries_whole _ M P _ _ _ _ x sound r leads owns _ _ _ asks;
+      known = known_whole _ M P _ _ _ _ x sound r leads owns _ _ _ asks;
       encodings = refl;
       searches = asks.2.cost.searches;
-      settled = settled_few c.args.margin M P _ _ _ _ x sound r leads owns _ _ _ asks m c.own_lines.ensures.path;
+      settled = settled_few _ M P _ _ _ _ x sound r leads owns _ _ _ asks m c.own_lines.ensures.path;
     }
 
 pub returns-in-Err-clause-encoding : goal.returns-in-Err-clause-encoding

@@ -24,6 +24,6 @@ returns-clause-ok c =
     three_lists M ls b a c.push_ends.new.nodes.items c.push_ends-2.new.nodes.items c.push_ends-3.new.nodes.items
     (rw c.new-nodes.ensures.items at (c.in_ok-push_ends.ensures M slot ls is)) (c.in_ok-push_ends-2.ensures M slot b b_is)
     (c.in_ok-push_ends-3.ensures M slot a a_is) in
-    grown_by c.args.footprint.now c.note_all.new.self once (λ v. NodeOf M ls v ⊎ (NodeOf M b v ⊎ NodeOf M a v))
+    grown_by _ c.note_all.new.self once (λ v. NodeOf M ls v ⊎ (NodeOf M b v ⊎ NodeOf M a v))
     (λ v. (λ h. (ends v).0 ((left v).0 ((members v).0 h)), λ h. (members v).1 ((left v).1 ((ends v).1 h)))) noted)
     (rw c.deref.ensures.value at c.note_all.ensures.ok)

@@ -13,9 +13,9 @@ loop-record-preserved c = λ M slot ls e.
     ∙ ap (λ (r : ResolvedLine). (c.loop-record.nodes.items ++ r.from ∷ []) ++ r.to ∷ []) here in
     subst (λ (ns : List ℕ). HasEnds M c.args.nodes.now.items (take (c.loop-record.record-index + 1) ls) ns) (sym pushed)
     (ends_more M ls c.loop-record.record-index (slice_index ls c.loop-record.record-index) (omega arith) refl
-    c.args.nodes.now.items c.loop-record.nodes.items (c.loop-record.invariant M slot ls e))
+    _ c.loop-record.nodes.items (c.loop-record.invariant M slot ls e))
 
 pub returns : goal.returns
 returns c = λ M slot ls e.
     let long = records_length M slot ls _ e in
-    all_ends M c.args.nodes.now.items ls _ c.loop-record.record-index (omega arith) (c.loop-record.invariant M slot ls e)
+    all_ends M _ ls _ c.loop-record.record-index (omega arith) (c.loop-record.invariant M slot ls e)

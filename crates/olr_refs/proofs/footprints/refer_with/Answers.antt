@@ -1,4 +1,4 @@
-use Rattle.olr_refs.proofs.Common.{◌≡◌, refl, arith, ap, answer_of, Work, raised_count}
+use Rattle.olr_refs.proofs.Common.{answer_of, ◌≡◌, refl, arith, ap, Work, raised_count}
 use Rattle.olr_refs.proofs.Referring.{recovered_of, searches_queried}
 use Rattle.olr_spec.proofs.LocalLemmas.{local_answer_with}
 use Rattle.olr_refs.proofs.Noting.{noted_foot}

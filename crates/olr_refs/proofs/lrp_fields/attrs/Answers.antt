@@ -1,5 +1,4 @@
-use Rattle.olr_refs.proofs.Common.{rules, arith, ap, ◌∙◌}
-use Rattle.olr_spec.specs.Margins.{allowed}
+use Rattle.olr_refs.proofs.Common.{rules, arith, ap, ◌∙◌, allowed}
 use Rattle.olr_refs.proofs.LegLemmas.{leg_read, attrs_read}
 use Rattle.olr_refs.proofs.lrp_fields.attrs.Goals as goal
 

@@ -1,10 +1,7 @@
 use Rattle.olr_refs.proofs.Common.{◌≡◌, ◌+◌, ℕ, List, [], ◌∷◌, ◌++◌, take, sym, ap, ◌∙◌, arith, Middle, legs}
-use Rattle.olr_refs.proofs.Common.{middle_points_of, common_steps}
+use Rattle.olr_refs.proofs.Common.{middle_points_of}
 use Rattle.olr_refs.proofs.PointLemmas.{middle_more}
 use Rattle.olr_refs.proofs.lrp_fields.middle_points.Goals as goal
-
-pub returns : goal.returns
-returns g c = grind (arith, common_steps)
 
 pub loop-k-preserved : goal.loop-k-preserved
 loop-k-preserved g c =

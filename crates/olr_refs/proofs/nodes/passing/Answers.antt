@@ -1,9 +1,5 @@
-use Rattle.olr_refs.proofs.Common.{◌≡◌, ℕ, List, [], ◌∷◌, Map, IsTrue, has_node, refl, arith, subst, read_at}
-use Rattle.olr_refs.proofs.Common.{Along, Against}
-use Rattle.olr_spec.specs.Map.{IsMap}
-use Rattle.olr_route.specs.Distances.{lines_at}
-use Rattle.olr_route.specs.declared.distances.Direction.{Direction}
-use Rattle.olr_route.proofs.WayLemmas.{near_node}
+use Rattle.olr_refs.proofs.Common.{◌≡◌, ℕ, List, [], ◌∷◌, Map, IsTrue, has_node, refl, arith, subst, read_at, Along}
+use Rattle.olr_refs.proofs.Common.{Against, IsMap, lines_at, Direction, near_node}
 use Rattle.olr_refs.proofs.nodes.passing.Goals as goal
 
 -- no line is entered at a node that is not on the map

@@ -15,8 +15,7 @@ returns-then-routes-eq0-clause-search g c =
     c.settle_to.ensures.search
 
 pub returns-else-routes-eq0-clause-search : goal.returns-else-routes-eq0-clause-search
-returns-else-routes-eq0-clause-search g c =
-    on_ok_weaker c.settle_counting.result
+returns-else-routes-eq0-clause-search g c = on_ok_weaker c.settle_counting.result
     (λ on xs from may. on c.args.resolved.now.margin xs from (elim may.0 [
       | inl none ↦ absurd (c.if-routes-eq0.false (c.routes.ensures.value ∙ none))
       | inr count ↦ count

@@ -1,10 +1,7 @@
-use Rattle.olr_refs.proofs.Common.{arith, common_steps, take_more, map-append, ◌<◌, ◌≡◌, ◌-◌, length}
+use Rattle.olr_refs.proofs.Common.{arith, ◌<◌, ◌≡◌, ◌-◌, length}
 use Rattle.olr_refs.proofs.OwnLines.{own_by}
 use Rattle.olr_refs.proofs.Trimming.{linked_end}
 use Rattle.olr_refs.proofs.reference.own_lines.Goals as goal
-
-pub loop-k-preserved : goal.loop-k-preserved
-loop-k-preserved g c = grind (arith, common_steps, take_more, map-append)
 
 pub line_at-requires : goal.line_at-requires
 line_at-requires g c =
@@ -15,13 +12,13 @@ line_at-requires g c =
 
 pub overflow_sub-kept : goal.overflow_sub-kept
 overflow_sub-kept g c =
-    let end = linked_end c.args.resolved.now.margin (g.M.MapRead.map c.args.resolved.now.map.now) c.args.resolved.now.lines.now c.args.kept.now
+    let end = linked_end _ _ _ _
     c.requires.linked c.requires.two in
     omega (arith, end.after)
 
 pub line_at-requires-2 : goal.line_at-requires-2
 line_at-requires-2 g c =
-    let end = linked_end c.args.resolved.now.margin (g.M.MapRead.map c.args.resolved.now.map.now) c.args.resolved.now.lines.now c.args.kept.now
+    let end = linked_end _ _ _ _
     c.requires.linked c.requires.two in
     omega (arith, end.after, end.upto)
 

@@ -1,5 +1,4 @@
-use Rattle.olr_refs.proofs.Common.{◌≡◌, arith, refl, rules, get_or, Some, KnownQuery, answers_always}
-use Rattle.olr_refs.specs.declared.reuse.Found.{Found}
+use Rattle.olr_refs.proofs.Common.{◌≡◌, arith, refl, rules, get_or, Some, KnownQuery, answers_always, Found}
 use Rattle.olr_refs.proofs.Reusing.{found_at, answered_known}
 use Rattle.olr_refs.proofs.reuse.known_after.Goals as goal
 
@@ -9,11 +8,11 @@ returns g c =
     let by_key = found.ensures.position (λ e. e.first) (answers_always _ _ _ (λ f a r g called. search rules)) in
     let known : KnownQuery = get_or c.args.reuse.now.known.now c.in_ok-k.k c.index-reuse-k.result in
     let at =
-    found_at c.args.reuse.now.known.now c.in_ok-first.first found.result by_key found.ensures.bound c.in_ok-k.k
+    found_at _ c.in_ok-first.first found.result by_key found.ensures.bound c.in_ok-k.k
     c.in_ok-k.ensures.value c.index-reuse-k.result in
     let result : Found =
     record { reach = c.reach_by.result; query = c.known.inside.query; own = Some known; work = c.none.result } in
     let query : c.known.inside.query ≡ known.query = grind arith in
-    answered_known c.args.resolved.now.margin (g.M.MapRead.map c.args.resolved.now.map.now) (g.met.M.MapRead.sound c.args.resolved.now.map.now) c.args.resolved.now.lines.now c.args.reuse.now
-    c.requires.reuse c.args.resolved.now.joined c.args.i c.args.far c.requires.some c.requires.far known at.0
+    answered_known _ _ (g.met.M.MapRead.sound c.args.resolved.now.map.now) _ _
+    c.requires.reuse c.args.resolved.now.joined _ _ c.requires.some c.requires.far known at.0
     (omega arith) (c.ends_here.ensures.0 c.if-not-ends_here.false) result c.reach_by.ensures query refl c.none.ensures

@@ -1,5 +1,4 @@
-use Rattle.olr_refs.proofs.Common.{ap, ResolvedLine}
-use Rattle.olr_route.proofs.ReadLemmas.{resolved_as}
+use Rattle.olr_refs.proofs.Common.{ap, ResolvedLine, resolved_as}
 use Rattle.olr_refs.proofs.Joined.{known_at, start_known, end_known}
 use Rattle.olr_refs.proofs.Resolving.{record_at}
 use Rattle.olr_refs.proofs.along.ResolvedPath.resolved_line.Goals as goal
@@ -9,8 +8,8 @@ returns g c =
     let M = g.M.MapRead.map c.args.self.now.map.now in
     let m = g.met.M.MapRead.sound c.args.self.now.map.now in
     let slot = g.M.MapRead.node_slot c.args.self.now.map.now in
-    let known = known_at M c.args.self.now.lines.now c.args.k c.args.self.now.joined c.requires in
-    let is = record_at M slot _ _ c.args.k _ c.args.self.now.resolved c.requires in
+    let known = known_at M _ _ c.args.self.now.joined c.requires in
+    let is = record_at M slot _ _ _ _ c.args.self.now.resolved c.requires in
     record {
       value = is;
       resolved = resolved_as M slot _ _ known is;
