@@ -1,24 +1,15 @@
 -- What is closed and met, as bounds become less and as maps are edited, and where bounds come from.
-use Rattle.std.proofs.Common.{◌≡◌, ℕ, ◌+◌, ◌<◌, ◌≤◌, ◌⊎◌, List, [], ◌∷◌, ◌++◌, Option, Some, None, IsTrue, refl, sym}
-use Rattle.std.proofs.Common.{ap, ◌∙◌, ◌↔◌, subst, inl, inr, arith, is_some}
-use Rattle.std.proofs.lemmas.Bool.{cases_Bool, eqb-true}
+use Rattle.olr_renewal.proofs.Common.{◌≡◌, ℕ, ◌+◌, ◌<◌, ◌≤◌, ◌⊎◌, List, [], ◌∷◌, ◌++◌, Option, Some, None, IsTrue}
+use Rattle.olr_renewal.proofs.Common.{refl, sym, ap, ◌∙◌, ◌↔◌, subst, inl, inr, arith, is_some, min, cases_Bool}
+use Rattle.olr_renewal.proofs.Common.{eqb-true, Map, IsMap, SameLine, has, has_node, start, end, dm, IsRoute, dm_of}
+use Rattle.olr_renewal.proofs.Common.{GREATEST_LIMIT, Near, IsRoute-append, dm_of-append, route_start, AreBounds}
+use Rattle.olr_renewal.proofs.Common.{Against, IsSource, IsRight, label_of, frontier_len, IsQueued, IsAlike, Moves}
+use Rattle.olr_renewal.proofs.Common.{CoversSlots, alike_labels, source_of, bound_at, AreClosed, AreMet, AreRight}
+use Rattle.olr_renewal.proofs.Common.{IsDue, AreUnderWay, IsUnderWay, IsEdit, IsFar, IsLed, AreLed, IsFollowed}
+use Rattle.olr_renewal.proofs.Common.{DistanceBounds}
 use Rattle.std.proofs.lemmas.List.Folds.{list_any-append}
-use Rattle.std.specs.Prelude.{min}
-use Rattle.olr_spec.specs.Map.{Map, IsMap, SameLine, has, has_node, start, end, dm}
-use Rattle.olr_spec.specs.Routes.{IsRoute, dm_of}
-use Rattle.olr_route.specs.declared.frontier.TheConstants.{GREATEST_LIMIT}
-use Rattle.olr_spec.specs.Detours.{Near}
-use Rattle.olr_spec.proofs.RouteLemmas.{IsRoute-append, dm_of-append, route_start}
 use Rattle.olr_spec.proofs.AgreeLemmas.{turned_round, by_leaving, same_known, same_start, same_end, same_dm}
-use Rattle.olr_route.specs.Bounds.{AreBounds}
-use Rattle.olr_route.specs.Frontiers.{label_of, frontier_len, IsQueued, IsAlike, Moves}
-use Rattle.olr_route.specs.Searches.{CoversSlots}
-use Rattle.olr_route.specs.declared.distances.Direction.TheVariants.{Against}
 use Rattle.olr_route.specs.declared.frontier.Frontier.{Frontier}
-use Rattle.olr_route.proofs.SearchLemmas.{alike_labels}
-use Rattle.olr_renewal.specs.Bounds.{source_of, bound_at, IsSource, AreClosed, AreMet, AreRight, IsRight, IsDue}
-use Rattle.olr_renewal.specs.Bounds.{AreUnderWay, IsUnderWay, IsEdit, IsFar, IsLed, AreLed, IsFollowed}
-use Rattle.olr_renewal.specs.declared.distance_bounds.DistanceBounds.{DistanceBounds}
 
 -- ---- the open nodes
 

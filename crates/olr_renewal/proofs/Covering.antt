@@ -1,23 +1,21 @@
 -- The positions that are found have all affected paths, and the paths between them are unchanged.
-use Rattle.olr_renewal.proofs.Common.{All, inl, inr, ◌≡◌, ◌≢◌, ℕ, ◌+◌, ◌<◌, ◌≤◌, ◌==◌, ◌||◌, ◌⊎◌, false, List, [], ◌∷◌}
-use Rattle.olr_renewal.proofs.Common.{◌++◌, length, get_or, slice_get, Option, Some, None, IsTrue, refl, sym, ap, ◌∙◌}
-use Rattle.olr_renewal.proofs.Common.{subst, append_assoc, arith, min, cases_Bool, nat_tests, All-contains}
+use Rattle.olr_renewal.proofs.Common.{take, all_more}
+use Rattle.olr_renewal.proofs.Common.{All, inl, inr, ◌≡◌, ◌≢◌, ℕ, ◌+◌, ◌<◌, ◌≤◌, ◌==◌, ◌||◌, ◌⊎◌, false, List, []}
+use Rattle.olr_renewal.proofs.Common.{◌∷◌, ◌++◌, length, get_or, slice_get, Option, Some, None, IsTrue, refl, sym, ap}
+use Rattle.olr_renewal.proofs.Common.{◌∙◌, subst, append_assoc, arith, min, cases_Bool, nat_tests, All-contains}
 use Rattle.olr_renewal.proofs.Common.{slice_get_within, Map, IsMap, has, holds, Index, Item, Includes, Finds, Covers}
-use Rattle.olr_renewal.proofs.Common.{FindsChanged, option_map, Rc, has_node, CoverageQuery, GREATEST_LIMIT, AreLengths}
-use Rattle.olr_renewal.proofs.Common.{label_at, Against, made_of, items, QueryTouched, nodes_of, lines_of}
+use Rattle.olr_renewal.proofs.Common.{FindsChanged, option_map, Rc, has_node, CoverageQuery, GREATEST_LIMIT}
+use Rattle.olr_renewal.proofs.Common.{AreLengths, label_at, Against, made_of, items, QueryTouched, nodes_of, lines_of}
 use Rattle.olr_renewal.proofs.Common.{IsSearchedFor, ChangeSet, AreFar, LackQueries, BeginsIn, Begins, Finder}
 use Rattle.olr_renewal.proofs.Common.{Published, NamedPath, PathList, Path, Changes, RemovesNone, change_at}
 use Rattle.olr_renewal.proofs.Common.{under_change, under_changes, NamesDiffer, same_name, all_named, or_left, ToSkip}
-use Rattle.olr_renewal.proofs.Common.{CoversSearched, AreFound, String, Global, Made, take, path_ids_of}
-use Rattle.olr_route.specs.declared.distances.Dijkstra.{Dijkstra}
+use Rattle.olr_renewal.proofs.Common.{CoversSearched, AreFound, String, Global, Made, path_ids_of, Dijkstra, Entries}
+use Rattle.olr_renewal.proofs.Common.{First, item_of, items_of, same_flip, in_from, begins_there, changed}
+use Rattle.olr_renewal.proofs.Common.{overlaid_from, first_only}
 use Rattle.std.proofs.Math.Bool.{or-false}
-use Rattle.olr_paths.proofs.NamedEntries.{Entries, First, item_of, items_of, same_flip}
-use Rattle.olr_paths.proofs.Alls.{all_more, in_from}
 use Rattle.olr_renewal.proofs.Distances.{near_absent}
 use Rattle.olr_renewal.proofs.SearchedLemmas.{searched_at}
-use Rattle.olr_paths.proofs.OriginLemmas.{begins_there}
 use Rattle.olr_paths.proofs.NotedPositions.{back, noted_as}
-use Rattle.olr_paths.proofs.Changed.{changed, overlaid_from, first_only}
 
 -- ---- lists of numbers
 
@@ -144,15 +142,13 @@ module _ (N : Map) (t : ChangeSet) (l : PathList) (off_held : l.held ≡ false) 
               let low = s.found h.0 h.1 there h.2 in
               let on = reached s.from s.lengths v there (omega arith) k (lower k e at p some off) held in
               let never : ⊥ = cc (on, off) in never
-          | inr lacks ↦
-              missed k e at p some off f.by_query_origin (nodes_of t) from v
+          | inr lacks ↦ missed k e at p some off f.by_query_origin (nodes_of t) from v
               ((near_absent N n (nodes_of t) v (min h.0.within GREATEST_LIMIT)
               (λ there. let never : ⊥ = cc (there, lacks) in never)).1 h.2) held
         ]
 
     pub covers_by : CoversSearched N slot t near (items l) found
-    covers_by k i at off one =
-        stays_by k i at off (λ e p there some made.
+    covers_by k i at off one = stays_by k i at off (λ e p there some made.
         never_query k e there p some off (subst (λ (o : Option Made). IsSearchedFor N slot t near (BeginsIn o)) made one))
 
 -- ---- for a list under changes

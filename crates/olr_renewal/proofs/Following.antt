@@ -1,8 +1,9 @@
 -- A list follows itself, since no name occurs twice.
 use Rattle.olr_renewal.proofs.Common.{if◌then◌else◌, option_map, answer_in, not_named, all_named, named_of, is_some}
-use Rattle.olr_renewal.proofs.Common.{refl, map, without_answer, Follows, Option, Answer, false, List, Made, Item, ◌∷◌}
-use Rattle.olr_renewal.proofs.Common.{inr, ◌≡◌, ◌∙◌, inl, ap, []}
-use Rattle.olr_paths.proofs.Common.{bytes_decides, NamesDiffer, path_named, flipped, made_in, Bool}
+use Rattle.olr_renewal.proofs.Common.{refl, map, without_answer, Follows, Option, Answer, false, List, Made, Item}
+use Rattle.olr_renewal.proofs.Common.{◌∷◌, inr, ◌≡◌, ◌∙◌, inl, ap, [], NamesDiffer, path_named, flipped, made_in}
+use Rattle.olr_renewal.proofs.Common.{Bool}
+use lib.Pointwise.{bytes_decides}
 
 abbrev pub answer_made : Option Made → Option Answer
 answer_made o = option_map (λ m. m.answer) o

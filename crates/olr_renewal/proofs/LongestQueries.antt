@@ -1,28 +1,19 @@
 -- With a margin a coverage query is at most as long as the farthest one may be.
-use Rattle.olr_renewal.proofs.Common.{CoverageQuery, IsTrue, List, Map, MatchOption, None, Option, Path, QueriesOfWith}
-use Rattle.olr_renewal.proofs.Common.{Some, [], ap, arith, cases_Bool, extended_path, false, inl, inr, length}
-use Rattle.olr_renewal.proofs.Common.{query_from_with, refl, sym, ℕ, ◌+◌, ◌∷◌, ◌<◌, ◌≡◌, ◌≤◌, ◌⊎◌, subst, has, Margin}
-use Rattle.olr_renewal.proofs.Common.{is_margin, and_parts}
-use Rattle.std.proofs.Common.{◌*◌, ◌==◌, Bool, mul-le-mul_left}
-use Rattle.std.specs.Prelude.{if◌then◌else◌}
-use Rattle.std.proofs.lemmas.Bool.{eqb-true}
-use Rattle.std.proofs.lemmas.Bool.Decides.{nat_tests}
-use Rattle.olr_paths.proofs.Common.{Contains, dm_of, limit}
-use Rattle.olr_paths.specs.Origins.{farthest}
+use Rattle.olr_renewal.proofs.Common.{CoverageQuery, IsTrue, List, Map, MatchOption, None, Option, Path}
+use Rattle.olr_renewal.proofs.Common.{QueriesOfWith, Some, [], ap, arith, cases_Bool, extended_path, false, inl, inr}
+use Rattle.olr_renewal.proofs.Common.{length, query_from_with, refl, sym, ℕ, ◌+◌, ◌∷◌, ◌<◌, ◌≡◌, ◌≤◌, ◌⊎◌, subst, has}
+use Rattle.olr_renewal.proofs.Common.{Margin, is_margin, and_parts, ◌*◌, ◌==◌, Bool, mul-le-mul_left, Contains}
+use Rattle.olr_renewal.proofs.Common.{if◌then◌else◌, eqb-true, nat_tests, farthest, dm_of-append, path_fault, Refusal}
+use Rattle.olr_renewal.proofs.Common.{has_line, dm, counted, counted_dm, counted_dm_of, QueriesOfExtendedWith}
+use Rattle.olr_renewal.proofs.Common.{query_to_with, IsQueryWith, Needed, dm_of, limit}
 use Rattle.olr_spec.proofs.CountedLemmas.{get_counted, counted_zero, counted_other, counted_own}
 use Rattle.olr_spec.proofs.JoinLemmas.{empty_stretch}
 use Rattle.olr_spec.proofs.QueryLemmas.{stretch_parts}
-use Rattle.olr_spec.proofs.RouteLemmas.{dm_of-append}
-use Rattle.olr_spec.specs.Encoding.{path_fault, Refusal}
-use Rattle.olr_spec.specs.Map.{has_line, dm}
-use Rattle.olr_spec.specs.Margins.{counted, counted_dm, counted_dm_of}
 use Rattle.olr_spec.specs.Points.{stretch}
-use Rattle.olr_spec.specs.Queries.{QueriesOfExtendedWith, query_to_with, IsQueryWith, Needed}
 
 -- a line that isn't on the map counts nothing
 counted_absent : (g : Margin) (M : Map) (xs : List ℕ) (y : ℕ) → has_line M y ≡ false → dm (counted g M xs) y ≡ dm M y
-counted_absent g M xs y off =
-    grind (arith, get_counted g M xs y, cases_Bool (has xs y), cases_Bool (g.routes == 0))
+counted_absent g M xs y off = grind (arith, get_counted g M xs y, cases_Bool (has xs y), cases_Bool (g.routes == 0))
 
 module _ (g : Margin) (most : IsTrue (is_margin g)) where
   routes_most : g.routes ≤ 1000

@@ -1,11 +1,8 @@
 -- The names of the affected paths, as far as a list was passed.
-use Rattle.olr_renewal.proofs.Common.{inl, inr, ◌≡◌, ℕ, ◌+◌, List, [], ◌∷◌, ◌++◌, take, slice_get, Some, refl, sym, ap}
-use Rattle.olr_renewal.proofs.Common.{◌∙◌, map-append, Map, Margin, IsMap, ChangedLine, Item, IsAffected, IsBefore}
-use Rattle.olr_commands.specs.Counts.{Picks}
-use Rattle.olr_paths.proofs.Common.{take_more_at}
-use Rattle.olr_renewal.specs.Actions.{ToSkip, ToName}
+use Rattle.olr_renewal.proofs.Common.{inl, inr, ◌≡◌, ℕ, ◌+◌, List, [], ◌∷◌, ◌++◌, take, slice_get, Some, refl, sym}
+use Rattle.olr_renewal.proofs.Common.{ap, ◌∙◌, map-append, Map, Margin, IsMap, ChangedLine, Item, IsAffected}
+use Rattle.olr_renewal.proofs.Common.{IsBefore, Picks, ToSkip, ToName, AffectedNames, take_more_at}
 use Rattle.olr_renewal.proofs.RetainedLemmas.{touched_by, named_affected}
-use Rattle.olr_renewal.specs.Changes.{AffectedNames}
 
 module _ {A : Type 0} (P : A → Type 0) where
   picks_taken : (xs ys : List A) (x : A) → Picks P xs ys → P x → Picks P (xs ++ x ∷ []) (ys ++ x ∷ [])

@@ -1,8 +1,8 @@
 -- From one candidate to the next in a list: each position between is passed by a step of its own.
-use Rattle.olr_paths.proofs.Common.{AllPairs-from_increasing, IsStrictlyIncreasing, ascends}
 use Rattle.olr_renewal.proofs.Common.{inl, inr, ◌≡◌, ◌⊎◌, ℕ, zero, suc, ◌+◌, ◌-◌, ◌<◌, ◌≤◌, false, List, [], ◌∷◌}
-use Rattle.olr_renewal.proofs.Common.{length, slice_get_within, get_or, slice_get, Some, None, refl, subst, arith, has}
-use Rattle.olr_renewal.proofs.Common.{cases_Bool, at_index, Item}
+use Rattle.olr_renewal.proofs.Common.{length, slice_get_within, get_or, slice_get, Some, None, refl, subst, arith}
+use Rattle.olr_renewal.proofs.Common.{has, cases_Bool, at_index, Item, IsStrictlyIncreasing, ascends}
+use Rattle.std.proofs.lemmas.List.Kept.{AllPairs-from_increasing}
 
 -- the positions below next are done: those of the candidates before index k, and of no others
 pub record Passed (found : List ℕ) (long k next : ℕ) : Type 0 where

@@ -1,22 +1,17 @@
 -- A list, as far as it was renewed: SoFar says it of the first paths, with the count of encodings.
 use Rattle.olr_renewal.proofs.Common.{Answer, ChangedLine, Entry, Follows, IsAffected, IsBefore, IsEncodingOf, IsMap}
-use Rattle.olr_renewal.proofs.Common.{Item, List, Made, Map, Margin, Named, NamedPath, None, Option, Renewal, Reported}
-use Rattle.olr_renewal.proofs.Common.{Some, [], after_renewal, all_named, all_put, answer_in, ap, arith, changed_of}
-use Rattle.olr_renewal.proofs.Common.{entry, entry_of, inl, inr, length, lines_of, map, map-append, named_of}
-use Rattle.olr_renewal.proofs.Common.{nodes_of, option_map, puts_of, refl, slice_get, slice_get_within, sym, false, has}
-use Rattle.olr_renewal.proofs.Common.{take_all, take, ℕ, ◌++◌, ◌+◌, ◌∙◌, ◌∷◌, ◌≡◌, ◌≤◌, ◌⊎◌, Covers}
-use Rattle.olr_commands.specs.Counts.{CountIs}
-use Rattle.olr_paths.proofs.Alls.{at_position}
-use Rattle.olr_paths.proofs.Common.{append_assoc, take_more_at, append-nil}
+use Rattle.olr_renewal.proofs.Common.{Item, List, Made, Map, Margin, Named, NamedPath, None, Option, Renewal}
+use Rattle.olr_renewal.proofs.Common.{Reported, Some, [], after_renewal, all_named, all_put, answer_in, ap, arith}
+use Rattle.olr_renewal.proofs.Common.{changed_of, entry, entry_of, inl, inr, length, lines_of, map, map-append}
+use Rattle.olr_renewal.proofs.Common.{named_of, nodes_of, option_map, puts_of, refl, slice_get, slice_get_within, sym}
+use Rattle.olr_renewal.proofs.Common.{false, has, take_all, take, ℕ, ◌++◌, ◌+◌, ◌∙◌, ◌∷◌, ◌≡◌, ◌≤◌, ◌⊎◌, Covers}
+use Rattle.olr_renewal.proofs.Common.{CountIs, at_position, IsActionFor, ToSkip, Action, Skip, Retain, Encode}
+use Rattle.olr_renewal.proofs.Common.{ChangeSet, with_made, AreRemade, IsRemade, ReportsIfOther, encodings_of}
+use Rattle.olr_renewal.proofs.Common.{entries_of, IsRenewal, IsStep, WasBefore, made_at, append_assoc, append-nil}
+use Rattle.olr_renewal.proofs.Common.{take_more_at}
 use Rattle.olr_paths.proofs.NotedPositions.{all_put-push, put_behind}
-use Rattle.olr_renewal.specs.Actions.{IsActionFor, ToSkip}
-use Rattle.olr_renewal.specs.declared.actions.Action.{Action}
-use Rattle.olr_renewal.specs.declared.actions.Action.TheVariants.{Skip, Retain, Encode}
-use Rattle.olr_renewal.specs.declared.change_set.ChangeSet.{ChangeSet}
 use Rattle.olr_renewal.proofs.RetainedLemmas.{stays_retained, named_affected, stays_unless, touched_by, affected_by}
 use Rattle.olr_renewal.proofs.Passing.{Walked, walked_all}
-use Rattle.olr_renewal.specs.Changes.{with_made, AreRemade, IsRemade}
-use Rattle.olr_renewal.specs.Reencoded.{ReportsIfOther, encodings_of, entries_of, IsRenewal, IsStep, WasBefore, made_at}
 use Rattle.olr_route.specs.Counts.{no_work, raised_count}
 
 AreRemade-push : (g : Margin) (N : Map) (is js : List Item) (i j : Item) → AreRemade g N is js → IsRemade g N i j →
@@ -124,8 +119,7 @@ module _ {g : Margin} {N : Map} (n : IsMap N) {T X : List ℕ} {C : List Changed
   -- a path that is not affected
   pub so_far_left : {r : Renewal} → SoFar g N T X C before is (take position is) r → ToSkip N T X i.made i.path →
       SoFar g N T X C before is (take (position + 1) is) r
-  so_far_left {r} h f =
-      retained r r f.0 0 f.1 h refl refl
+  so_far_left {r} h f = retained r r f.0 0 f.1 h refl refl
       (λ L q. (stays_unless n q position i at f.1 f.2, inr ((λ o. f.2 (touched_by n q position i at f.1 o)), refl)))
       (omega arith)
 
@@ -133,8 +127,7 @@ module _ {g : Margin} {N : Map} (n : IsMap N) {T X : List ℕ} {C : List Changed
       IsActionFor N T X C i.made i.path a → IsStep g N before i position a r s →
       SoFar g N T X C before is (take (position + 1) is) s
   so_far_step Skip {r} {s} h f same = rw same (so_far_left h f)
-  so_far_step Retain {r} {s} h f step =
-      retained r s f.0 1 f.1 h step.0 step.1
+  so_far_step Retain {r} {s} h f step = retained r s f.0 1 f.1 h step.0 step.1
       (λ L q. (stays_retained n q position i at f.1 f.3, inl (affected_by n q position i at f.1 f.2, (0, refl, refl))))
       step.2
   so_far_step (Encode ks) {r} {s} h f step =

@@ -1,24 +1,16 @@
 -- Results that are right on a map are right on the next one, if no change can affect them.
 use Rattle.olr_renewal.proofs.Common.{AreEncodingsIfAny, AreKnownWith, By_line, By_name, By_node, ChangedLine}
-use Rattle.olr_renewal.proofs.Common.{Contains-get_or, CoverageQuery, IsAffected, IsBefore, IsEncodingOf, IsMap, IsTrue}
-use Rattle.olr_renewal.proofs.Common.{Item, List, Made, Map, Margin, Option, Path, Some, arith, cases_Bool, false}
-use Rattle.olr_renewal.proofs.Common.{get_or, has, inl, inr, refl, None, is_margin, is_path, min, slice_get, subst, ℕ}
-use Rattle.olr_renewal.proofs.Common.{All, ◌≡◌, ◌≤◌}
-use Rattle.olr_paths.proofs.Alls.{at_position}
-use Rattle.olr_paths.proofs.Common.{AllByRecursion, Contains, IfSome, LineTouched, Near, QueryTouched, BeginsIn}
-use Rattle.olr_paths.proofs.Common.{GREATEST_LIMIT, TraversedTouched, true, ◌∷◌, []}
-use Rattle.olr_paths.specs.Origins.{farthest, AreShort}
-use Rattle.olr_renewal.specs.Actions.{ToName, Retains, IsActionFor}
-use Rattle.olr_renewal.specs.declared.actions.Action.{Action}
-use Rattle.olr_renewal.specs.declared.actions.Action.TheVariants.{Skip, Retain, Encode}
-use Rattle.olr_renewal.specs.Reencoded.{IsGiven}
-use Rattle.olr_paths.specs.Items.{known_in}
-use Rattle.olr_paths.specs.Changes.{Touches}
+use Rattle.olr_renewal.proofs.Common.{CoverageQuery, IsAffected, IsBefore, IsEncodingOf, IsMap, IsTrue, Item, List}
+use Rattle.olr_renewal.proofs.Common.{Made, Map, Margin, Option, Path, Some, arith, cases_Bool, false, get_or, has}
+use Rattle.olr_renewal.proofs.Common.{inl, inr, refl, None, is_margin, is_path, min, slice_get, subst, ℕ, All, ◌≡◌}
+use Rattle.olr_renewal.proofs.Common.{◌≤◌, at_position, farthest, AreShort, BeginsIn, ToName, Retains, IsActionFor}
+use Rattle.olr_renewal.proofs.Common.{Action, Skip, Retain, Encode, IsGiven, known_in, Touches, LineTouched}
+use Rattle.olr_renewal.proofs.Common.{QueryTouched, TraversedTouched, known_kept, TraversedOf, IsClear}
+use Rattle.olr_renewal.proofs.Common.{AllByRecursion, Contains, IfSome, true, ◌∷◌, [], Near, GREATEST_LIMIT}
+use Rattle.olr_renewal.proofs.Common.{Contains-get_or}
 use Rattle.olr_renewal.proofs.LongestQueries.{within_farthest, farthest_most}
-use Rattle.olr_spec.proofs.KnownLemmas.{known_kept}
 use Rattle.olr_spec.proofs.StayLemmas.{untouched_retained_with}
 use Rattle.olr_spec.proofs.TestedLemmas.{foot_affected_with}
-use Rattle.olr_spec.specs.Queries.{TraversedOf, IsClear}
 
 -- no coverage query is longer than the greatest limit
 near_wider : {L : Map} {T : List ℕ} {s : ℕ} (d e : ℕ) → d ≤ e → Near L T s d → Near L T s e
@@ -33,8 +25,7 @@ module _ {g : Margin} {M N : Map} (n : IsMap N) {T X : List ℕ} {C : List Chang
   P = i.path
 
   path : IsTrue (is_path P.lines)
-  path =
-      at_position (AllByRecursion (λ j. IsTrue (is_path j.path.lines))) (λ j. IsTrue (is_path j.path.lines))
+  path = at_position (AllByRecursion (λ j. IsTrue (is_path j.path.lines))) (λ j. IsTrue (is_path j.path.lines))
       (λ x xs h. h) is k i q.paths at
 
   lines_off : ¬ LineTouched X P → (x : ℕ) → has X x ≡ true → has P.lines x ≡ false
@@ -42,8 +33,7 @@ module _ {g : Margin} {M N : Map} (n : IsMap N) {T X : List ℕ} {C : List Chang
 
   module _ {m : Made} (some : i.made ≡ Some m) where
     made : IsEncodingOf g M P m
-    made =
-        subst (λ (o : Option Made). IfSome o (IsEncodingOf g M P)) some
+    made = subst (λ (o : Option Made). IfSome o (IsEncodingOf g M P)) some
         (at_position (AreEncodingsIfAny g M) (λ j. IfSome j.made (IsEncodingOf g M j.path)) (λ x xs h. h) is k i q.made at)
 
     within : (l : CoverageQuery) → Contains m.queries l → l.within ≤ GREATEST_LIMIT
@@ -121,8 +111,7 @@ module _ {g : Margin} {M N : Map} (n : IsMap N) {T X : List ℕ} {C : List Chang
   pub given_known : (a : Action) → IsActionFor N T X C i.made P a → IsGiven N g P.lines a
   given_known Skip f = tt
   given_known Retain f = tt
-  given_known (Encode ks) f =
-      f.1 g M P.lines q.difference.there q.difference.here (known_right i.made refl)
+  given_known (Encode ks) f = f.1 g M P.lines q.difference.there q.difference.here (known_right i.made refl)
 
   pub named_affected : ToName N T X i.made i.path → IsAffected g M T X i
   named_affected (inl none) = By_name none

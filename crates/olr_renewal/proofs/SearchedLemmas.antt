@@ -2,12 +2,8 @@
 use Rattle.olr_renewal.proofs.Common.{ℕ, ◌≤◌, min, IsTrue, arith, Map, IsMap, has_node, GREATEST_LIMIT, IsUnder}
 use Rattle.olr_renewal.proofs.Common.{Against, IsRight, IsSource, ◌≡◌, List, [], slice_get, Some, label_at, Near}
 use Rattle.olr_renewal.proofs.Common.{CoverageQuery, AreLengths, Item, nodes_of, sources, IsExactAt, IsSearchedFor}
-use Rattle.olr_renewal.proofs.Common.{Begins, BeginsIn, ChangeSet}
-use Rattle.olr_route.specs.Searches.{IsSearch}
-use Rattle.olr_route.specs.declared.distances.Dijkstra.{Dijkstra}
-use Rattle.olr_renewal.specs.declared.distance_bounds.DistanceBounds.{DistanceBounds}
+use Rattle.olr_renewal.proofs.Common.{Begins, BeginsIn, ChangeSet, Dijkstra, begins_there, IsSearch, DistanceBounds}
 use Rattle.olr_renewal.proofs.Distances.{near_labelled, near_found}
-use Rattle.olr_paths.proofs.OriginLemmas.{begins_there}
 
 -- no source is beyond bounds that are right
 pub source_under : (M : Map) (slot : ℕ → ℕ) (f : DistanceBounds) (v w d : ℕ) → IsTrue f.known → IsRight M slot f →

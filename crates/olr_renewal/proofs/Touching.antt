@@ -1,7 +1,6 @@
 -- Whether edits affect a path, by two tests: of its nodes and lines, and of its coverage queries.
-use Rattle.olr_renewal.proofs.Common.{◌≡◌, ◌⊎◌, ◌↔◌, ℕ, Bool, List, IsTrue, false, true≢false, inl, inr, sym, ◌∙◌, Map}
-use Rattle.olr_renewal.proofs.Common.{Path, Made, TraversedTouched, LineTouched, QueryTouched}
-use Rattle.olr_paths.specs.Changes.{Touches}
+use Rattle.olr_renewal.proofs.Common.{◌≡◌, ◌⊎◌, ◌↔◌, ℕ, Bool, List, IsTrue, false, true≢false, inl, inr, sym, ◌∙◌}
+use Rattle.olr_renewal.proofs.Common.{Map, Path, Made, TraversedTouched, LineTouched, QueryTouched, Touches}
 
 module _ (N : Map) (T X : List ℕ) (m : Made) (P : Path) where
   pub untouched : {a b : Bool} → IsTrue a ↔ (TraversedTouched T m ⊎ LineTouched X P) → IsTrue b ↔ QueryTouched N T m.queries →

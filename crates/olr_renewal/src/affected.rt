@@ -21,7 +21,7 @@ use crate::distance_bounds::DistanceBounds;
 use crate::sources::begin_at;
 use crate::update::MapUpdate;
 use olr_answers::{CoverageQuery, Margin, Path};
-use olr_model::{Footprint, LineId, MapRead, NodeId};
+use olr_model::{Footprint, LineId, MapRead};
 use olr_paths::{OverlaidList, PathList, Published};
 use olr_route::{Dijkstra, Direction, GREATEST_LIMIT, LEG_LIMIT};
 use std::alloc::AllocError;
@@ -132,25 +132,14 @@ fn is_near<M: MapRead>(update: &MapUpdate<'_, M>, near: &Dijkstra, query: Covera
     }
 }
 
-/// Whether one of the nodes is in a footprint: each is looked up.
-fn is_any_in(footprint: &Footprint, nodes: &[NodeId]) -> bool
-    ensures { IsTrue result ↔ ((v : ℕ) × IsTrue (has nodes.now v) × Contains footprint.now v) }
-{
-    for node in nodes {
-        if footprint.has(*node) {
-            return true;
-        }
-    }
-    false
-}
-
 /// Whether one of the traversed nodes was touched: each node of the shorter list is looked up.
+#[tactic(auto, using(olr_spec::proofs::SameNumbers::has_from, olr_spec::proofs::SameNumbers::in_from))]
 fn is_traversed_touched(touched: &ChangeSet, traversed: &Footprint) -> bool
     ensures { IsTrue result ↔ ((v : ℕ) × IsTrue (has (nodes_of touched.now) v) × Contains traversed.now v) }
 {
     let nodes = traversed.as_slice();
     if touched.nodes.len() < nodes.len() {
-        return is_any_in(traversed, &touched.nodes);
+        return touched.nodes.iter().any(|node| traversed.has(*node));
     }
     nodes.iter().any(|node| touched.has_node(*node))
 }

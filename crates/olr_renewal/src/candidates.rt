@@ -103,9 +103,9 @@ fn put_found_in<M: MapRead>(
 /// Appends the positions of the paths that have an index entry for a node in one of these slots.
 fn put_found_at<M: MapRead>(
     map: &M,
+    slots: &[u32],
     path_ids: &[u64],
     index: &Index,
-    slots: &[u32],
     found: &mut Vec<usize>,
 ) -> Result<(), AllocError>
     requires { IsStrictlyIncreasing path_ids.now }
@@ -168,9 +168,9 @@ fn put_touched<M: MapRead>(
     put_found(ids, &list.finder.lines, touched.lines(), found)?;
     put_found_at(
         map,
+        near.labelled_slots(),
         ids,
         &list.finder.by_query_origin,
-        near.labelled_slots(),
         found,
     )?;
     Ok(())

@@ -1,5 +1,7 @@
-use Rattle.olr_renewal.proofs.Common.{inl, inr, sym, ◌∙◌, ap, option_map, made_of, true≢false, nodes_of, lines_of}
-use Rattle.olr_renewal.proofs.Common.{subst, Option, Made, BeginsIn, IsSearchedFor}
+use Rattle.olr_renewal.proofs.Common.{lines_of}
+use Rattle.olr_renewal.proofs.Common.{nodes_of}
+use Rattle.olr_renewal.proofs.Common.{inl, inr, sym, ◌∙◌, ap, option_map, made_of, true≢false, subst, Option, Made}
+use Rattle.olr_renewal.proofs.Common.{BeginsIn, IsSearchedFor}
 use Rattle.olr_renewal.proofs.Touching.{untouched, touched_itself}
 use Rattle.olr_renewal.proofs.actions.decide.Goals as goal
 

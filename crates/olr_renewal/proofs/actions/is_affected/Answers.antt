@@ -1,5 +1,6 @@
-use Rattle.olr_renewal.proofs.Common.{inr, ap, option_map, made_of, nodes_of, lines_of, subst, Option, Made, BeginsIn}
-use Rattle.olr_renewal.proofs.Common.{IsSearchedFor}
+use Rattle.olr_renewal.proofs.Common.{lines_of}
+use Rattle.olr_renewal.proofs.Common.{nodes_of}
+use Rattle.olr_renewal.proofs.Common.{inr, ap, option_map, made_of, subst, Option, Made, BeginsIn, IsSearchedFor}
 use Rattle.olr_renewal.proofs.Touching.{untouched}
 use Rattle.olr_renewal.proofs.actions.is_affected.Goals as goal
 

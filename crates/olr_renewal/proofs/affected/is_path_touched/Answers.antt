@@ -1,10 +1,9 @@
-use Rattle.olr_renewal.proofs.Common.{inl, inr, sym, ◌∙◌, true≢false, lines_of}
-use Rattle.olr_paths.proofs.Alls.{shared}
+use Rattle.olr_renewal.proofs.Common.{inl, inr, sym, ◌∙◌, true≢false, shared}
 use Rattle.olr_renewal.proofs.affected.is_path_touched.Goals as goal
 
 pub returns-else-is_traversed_touched : goal.returns-else-is_traversed_touched
 returns-else-is_traversed_touched c =
-    let both = shared (lines_of c.args.touched.now) c.lines.result.now in
+    let both = shared _ c.lines.result.now in
     rw c.is_line_touched.ensures (
       (λ yes. inr (rw c.lines.ensures.value at (both.0 yes))),
       (λ h. elim h [

@@ -1,6 +1,6 @@
 use Rattle.olr_renewal.proofs.Common.{Map, All, Contains, sym, subst, ◌∙◌, ◌≡◌, arith, min, true≢false, false≢true}
-use Rattle.olr_renewal.proofs.Common.{ChangeSet, take_all, All-contains, GREATEST_LIMIT, Near, CoverageQuery, nodes_of}
-use Rattle.olr_paths.proofs.Alls.{all_more}
+use Rattle.olr_renewal.proofs.Common.{ChangeSet, take_all, All-contains, GREATEST_LIMIT, Near, CoverageQuery}
+use Rattle.olr_renewal.proofs.Common.{nodes_of, all_more}
 use Rattle.olr_renewal.proofs.SearchedLemmas.{searched_less}
 use Rattle.olr_renewal.proofs.affected.is_query_touched.Goals as goal
 
@@ -11,7 +11,7 @@ pub is_near-requires : goal.is_near-requires
 is_near-requires g c =
     let item : CoverageQuery = c.query-item.result in
     let on : Contains c.args.queries.now item = (c.loop-query.query-index, c.loop-query-test.true, sym c.query-item.is) in
-    searched_less (g.M.MapRead.map c.args.update.now.map.now) (g.M.MapRead.node_slot c.args.update.now.map.now) c.args.update.now.touched.now c.args.near.now
+    searched_less _ _ _ _
     (Contains c.args.queries.now) (λ l. l ≡ item) (λ l is. subst (Contains c.args.queries.now) (sym is) on) c.requires
 
 pub loop-query-preserved : goal.loop-query-preserved
@@ -24,8 +24,8 @@ pub returns : goal.returns
 returns g c =
     let P = Far (g.M.MapRead.map c.args.update.now.map.now) c.args.update.now.touched.now in
     let all : All P c.args.queries.now =
-    subst (All P) (take_all c.loop-query.query-index c.args.queries.now (omega (arith, c.loop-query-test.false)))
+    subst (All P) (take_all c.loop-query.query-index _ (omega (arith, c.loop-query-test.false)))
     c.loop-query.invariant in (
       (λ no. absurd (false≢true no)),
-      (λ h. absurd (All-contains P c.args.queries.now h.0 all h.1 h.2)),
+      (λ h. absurd (All-contains P _ h.0 all h.1 h.2)),
     )

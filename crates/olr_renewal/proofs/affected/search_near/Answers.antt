@@ -14,7 +14,7 @@ returns-then-is_known g c =
           let f = c.args.bounds.now in
           let known : IsTrue f.known = sym c.is_known.ensures ∙ c.if-is_known.true in
           c.in_ok-settle_under.ensures.settled Against from begun (rw c.bounds.ensures (right known).closed) v d there
-          (rw c.bounds.ensures (source_under N (g.M.MapRead.node_slot c.args.update.now.map.now) f v w d known right source there le))
+          (rw c.bounds.ensures (source_under N _ f v w d known right source there le))
           way;
     }
 

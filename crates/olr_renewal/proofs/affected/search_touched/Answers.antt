@@ -1,15 +1,16 @@
-use Rattle.olr_renewal.proofs.Common.{nodes_of, shown_items, Begins}
+use Rattle.olr_renewal.proofs.Common.{shown_items, Begins}
 use Rattle.olr_renewal.proofs.SearchedLemmas.{searched_from_none, searched_from_touched}
 use Rattle.olr_renewal.proofs.BoundLemmas.{edit_same}
-use Rattle.olr_renewal.proofs.affected.search_touched.Goals.{then-is_far-via-then-is_far, then-is_far-via-else-is_far+then-is_without_queries}
+use Rattle.olr_renewal.proofs.affected.search_touched.Goals.{then-is_far-via-then-is_far}
+use Rattle.olr_renewal.proofs.affected.search_touched.Goals.{then-is_far-via-else-is_far+then-is_without_queries}
 use Rattle.olr_renewal.proofs.affected.search_touched.Goals as goal
 
 pub returns-then-is_far : goal.returns-then-is_far
 returns-then-is_far g c =
     let N = g.M.MapRead.map c.args.update.now.map.now in
     let slot = g.M.MapRead.node_slot c.args.update.now.map.now in
-    let same = edit_same (nodes_of c.args.update.now.touched.now) N slot (g.met.M.MapRead.sound c.args.update.now.map.now) in
-    searched_from_none N slot c.args.update.now.touched.now c.begin.new.self (Begins (shown_items c.args.overlaid))
+    let same = edit_same _ N slot (g.met.M.MapRead.sound c.args.update.now.map.now) in
+    searched_from_none N slot _ c.begin.new.self (Begins (shown_items c.args.overlaid))
     c.in_ok-begin.ensures.search (elim c.then-is_far.branch [
       | then-is_far-via-then-is_far w ↦ λ l b.
           (rw c.nodes.ensures at c.is_far.ensures.far) w.if-is_far.true N slot l.from l.within same c.requires.bounds.right
@@ -20,7 +21,7 @@ returns-then-is_far g c =
 pub returns : goal.returns
 returns g c =
     let e = c.in_ok-search_near.ensures in
-    searched_from_touched (g.M.MapRead.map c.args.update.now.map.now) (g.M.MapRead.node_slot c.args.update.now.map.now)
-    c.args.update.now.touched.now c.search_near.new.near (g.met.M.MapRead.sound c.args.update.now.map.now)
+    searched_from_touched _ _
+    _ c.search_near.new.near (g.met.M.MapRead.sound c.args.update.now.map.now)
     (Begins (shown_items c.args.overlaid)) e.lengths
     (λ l b. e.returned c.requires.bounds.right l.from l.within (c.requires.bounds.sources l b) (c.requires.short l b))

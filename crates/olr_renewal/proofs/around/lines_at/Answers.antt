@@ -1,5 +1,4 @@
-use Rattle.olr_renewal.proofs.Common.{◌≡◌, ℕ, List, ◌++◌, ap, ◌∙◌}
-use Rattle.olr_spec.specs.Map.{lines_in, lines_out}
+use Rattle.olr_renewal.proofs.Common.{◌≡◌, ℕ, List, ◌++◌, ap, ◌∙◌, lines_in, lines_out}
 use Rattle.olr_renewal.proofs.AroundLemmas.{around_more}
 use Rattle.olr_renewal.proofs.around.lines_at.Goals as goal
 
@@ -13,5 +12,5 @@ loop-node-preserved g c =
     ∙ ap (λ (xs : List ℕ). c.extend_from_slice.new.self.items ++ xs) c.out_lines.ensures
     ∙ ap (λ (xs : List ℕ). xs ++ lines_out M v)
     (c.in_ok-extend_from_slice.ensures.items ∙ ap (λ (xs : List ℕ). before ++ xs) c.in_lines.ensures) in
-    λ x. rw grown (around_more M c.args.nodes.now c.loop-node.node-index v c.loop-node-test.true c.node-item.is before x
+    λ x. rw grown (around_more M _ c.loop-node.node-index v c.loop-node-test.true c.node-item.is before x
     (c.loop-node.invariant x))

@@ -1,5 +1,4 @@
-use Rattle.olr_renewal.proofs.Common.{ℕ, take, has, IsTrue, ◌↔◌}
-use Rattle.olr_renewal.specs.ChangeSets.{IsLineAround}
+use Rattle.olr_renewal.proofs.Common.{ℕ, take, has, IsTrue, ◌↔◌, IsLineAround}
 use Rattle.olr_renewal.proofs.around.lines_at.Given as goal
 
 -- the lines around the nodes so far

@@ -4,6 +4,5 @@ pub returns-then-is_settled-clause-far : goal.returns-then-is_settled-clause-far
 returns-then-is_settled-clause-far g c = λ yes. rw c.nodes.ensures at c.is_far.ensures.far yes
 
 pub returns-then-is_settled-clause-right : goal.returns-then-is_settled-clause-right
-returns-then-is_settled-clause-right g c = λ yes N slot edit under.
-    c.is_settled.ensures c.if-is_settled.true N slot
+returns-then-is_settled-clause-right g c = λ yes N slot edit under. c.is_settled.ensures c.if-is_settled.true N slot
     ((rw c.nodes.ensures at c.is_far.ensures.spared yes) N slot edit under)

@@ -1,8 +1,6 @@
 use Rattle.olr_renewal.proofs.Common.{◌≡◌, ◌∙◌, sym, length, arith, length-map, items, overlay_changes, shown_items}
-use Rattle.olr_renewal.proofs.Common.{nodes_of, lines_of}
-use Rattle.std.proofs.lemmas.List.Filters.{dedup_is}
+use Rattle.olr_renewal.proofs.Common.{nodes_of, lines_of, item_of, dedup_is}
 use Rattle.olr_renewal.proofs.AroundLemmas.{once_ascends, once_has}
-use Rattle.olr_paths.proofs.NamedEntries.{item_of}
 use Rattle.olr_renewal.proofs.Covering.{covers_more, covers_overlaid, covers_grown, changed_grown}
 use Rattle.olr_renewal.proofs.candidates.positions.Goals as goal
 
@@ -27,8 +25,7 @@ returns g c =
     let once = dedup_is _ _ _ c.dedup.ensures.filtered in
     record {
       ascending = once_ascends sorted _ c.sort_unstable.ensures.sorted once;
-      covers =
-          covers_more N (nodes_of t) (lines_of t) (shown_items l) two c.dedup.new.self.items
+      covers = covers_more N (nodes_of t) (lines_of t) (shown_items l) two c.dedup.new.self.items
           (λ v. (once_has two sorted c.dedup.new.self.items c.sort_unstable.ensures.permutation once v).1)
           (covers_overlaid cs is ys l.none_removed N slot t s two
           (covers_grown N slot t s is one two grown c.in_ok-put_listed.ensures.asked)

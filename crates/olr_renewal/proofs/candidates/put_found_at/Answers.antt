@@ -1,6 +1,5 @@
-use Rattle.olr_renewal.proofs.Common.{◌≡◌, ℕ, IsTrue, get_or, sym, ◌∙◌, arith, has_node, Finds}
-use borrow.Author.Count.{below_more}
-use Rattle.std.proofs.lemmas.List.{get_or_default}
+use Rattle.olr_renewal.proofs.Common.{◌≡◌, ℕ, IsTrue, get_or, sym, ◌∙◌, arith, has_node, Finds, get_or_default}
+use Rattle.olr_renewal.proofs.Common.{below_more}
 use Rattle.olr_renewal.proofs.Covering.{finds_none}
 use Rattle.olr_renewal.proofs.candidates.put_found_at.Goals as goal
 
@@ -21,7 +20,7 @@ loop-slot-preserved g c =
 pub returns-clause-put : goal.returns-clause-put
 returns-clause-put g c = λ v known on.
     c.loop-slot.invariant.put on.0 (omega (arith, on.1, c.loop-slot-test.false)) v known
-    (sym on.2 ∙ get_or_default c.args.slots.now on.0 _ 0 on.1)
+    (sym on.2 ∙ get_or_default _ on.0 _ 0 on.1)
 
 pub returns-then-is_empty-clause-put : goal.returns-then-is_empty-clause-put
 returns-then-is_empty-clause-put g c = λ v known on.

@@ -16,9 +16,9 @@ returns g c =
     let one = rw (same, c.nodes-nodes.ensures) at c.in_ok-put_found.ensures.put in
     let two = rw (same, c.nodes-nodes.ensures) at c.in_ok-put_found-2.ensures.put in
     let three = rw (same, c.lines.ensures) at c.in_ok-put_found-3.ensures.put in
-    covers_by (g.M.MapRead.map c.args.map.now) t l c.requires.encoded c.requires.indexed four
+    covers_by _ t l c.requires.encoded c.requires.indexed four
     (λ i d lt k low on. grown4 k (grown3 k (grown2 k (one i d lt k low on))))
-    (λ i d lt k low on. grown4 k (three i d lt k low on)) (g.met.M.MapRead.sound c.args.map.now) slot c.args.near.now
+    (λ i d lt k low on. grown4 k (three i d lt k low on)) (g.met.M.MapRead.sound c.args.map.now) slot _
     (λ i d lt k low on. grown4 k (grown3 k (two i d lt k low on)))
     (λ begun lengths v known small. (rw same at c.in_ok-put_found_at.ensures.put) v known
     (c.labelled_slots.ensures.labelled (g.M.MapRead.map c.args.map.now) slot Against begun v lengths known small))

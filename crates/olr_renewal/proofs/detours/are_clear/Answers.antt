@@ -1,6 +1,4 @@
-use Rattle.olr_renewal.proofs.Common.{subst, arith, take_all, CoverageQuery, changed_of}
-use Rattle.olr_paths.proofs.Alls.{all_more}
-use Rattle.olr_spec.specs.Queries.{IsClear}
+use Rattle.olr_renewal.proofs.Common.{subst, arith, take_all, CoverageQuery, changed_of, all_more, IsClear}
 use Rattle.olr_renewal.proofs.detours.are_clear.Goals as goal
 
 pub loop-query-preserved : goal.loop-query-preserved

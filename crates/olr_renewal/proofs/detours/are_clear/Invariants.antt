@@ -1,5 +1,4 @@
-use Rattle.olr_renewal.proofs.Common.{All, take, AreDetours, changed_of}
-use Rattle.olr_spec.specs.Queries.{IsClear}
+use Rattle.olr_renewal.proofs.Common.{All, take, AreDetours, changed_of, IsClear}
 use Rattle.olr_renewal.proofs.detours.are_clear.Given as goal
 
 -- the coverage queries so far are clear

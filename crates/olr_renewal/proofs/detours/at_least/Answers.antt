@@ -1,6 +1,5 @@
-use Rattle.olr_renewal.proofs.Common.{inl, inr, ◌≡◌, ℕ, Option, Some, None, arith, cases_lt, sym, ◌∙◌}
-use Rattle.olr_route.proofs.SearchLemmas.{is_distance}
-use Rattle.olr_route.specs.Bounds.{label_at}
+use Rattle.olr_renewal.proofs.Common.{inl, inr, ◌≡◌, ℕ, Option, Some, None, arith, cases_lt, sym, ◌∙◌, label_at}
+use Rattle.olr_renewal.proofs.Common.{is_distance}
 use Rattle.olr_renewal.proofs.detours.at_least.Goals as goal
 
 pub returns-in-Some : goal.returns-in-Some

@@ -1,5 +1,5 @@
+use Rattle.olr_renewal.proofs.Common.{on_ok_weaker}
 use Rattle.std.proofs.lemmas.Simd.{map-map}
-use Rattle.std.proofs.lemmas.Result.{on_ok_weaker}
 use Rattle.olr_renewal.proofs.detours.begin_detours.Goals as goal
 
 pub returns : goal.returns

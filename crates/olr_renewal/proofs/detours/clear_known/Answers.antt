@@ -1,7 +1,6 @@
-use Rattle.olr_renewal.proofs.Common.{◌≡◌, List, ◌∷◌, [], ◌++◌, ap, sym, subst, ◌∙◌, Global, KnownQuery, CoverageQuery}
-use Rattle.olr_renewal.proofs.Common.{Vec, changed_of, All-nil, All-push}
-use Rattle.olr_spec.proofs.KnownLemmas.{known_stays}
-use Rattle.olr_spec.specs.Queries.{IsClear, IsKnownWith}
+use Rattle.olr_renewal.proofs.Common.{◌≡◌, List, ◌∷◌, [], ◌++◌, ap, sym, subst, ◌∙◌, Global, KnownQuery}
+use Rattle.olr_renewal.proofs.Common.{CoverageQuery, Vec, changed_of, All-nil, All-push, known_stays, IsClear}
+use Rattle.olr_renewal.proofs.Common.{IsKnownWith}
 use Rattle.olr_renewal.proofs.detours.clear_known.Goals.{then-branch+in_ok-push, else-branch}
 use Rattle.olr_renewal.proofs.detours.clear_known.Goals as goal
 

@@ -1,5 +1,4 @@
-use Rattle.olr_renewal.proofs.Common.{AreDetours, changed_of}
-use Rattle.olr_paths.specs.Changes.{StayKnown}
+use Rattle.olr_renewal.proofs.Common.{AreDetours, changed_of, StayKnown}
 use Rattle.olr_renewal.proofs.detours.clear_known.Given as goal
 
 -- the clear ones so far stay right

@@ -1,15 +1,10 @@
-use Rattle.std.proofs.Common.{◌≤◌, ◌+◌, ◌-◌, ℕ, [], ◌∷◌, get_or, inl, inr, refl, sym, ap, ◌∙◌, subst, arith}
-use borrow.Author.Count.{below_more}
-use Rattle.olr_spec.specs.Map.{end}
-use Rattle.olr_route.specs.Frontiers.{label_of, IsQueued}
-use Rattle.olr_route.specs.declared.distances.Direction.TheVariants.{Along}
-use Rattle.olr_route.proofs.SearchLemmas.{moves_then, put_cases, put_le, put_moves}
+use Rattle.olr_renewal.proofs.Common.{◌≤◌, ◌+◌, ◌-◌, ℕ, [], ◌∷◌, get_or, inl, inr, refl, sym, ap, ◌∙◌, subst, arith}
+use Rattle.olr_renewal.proofs.Common.{end, Along, GREATEST_LIMIT, below_more, label_of, IsQueued, moves_then}
+use Rattle.olr_renewal.proofs.Common.{put_cases, put_le, put_moves, IsLed}
 use Rattle.olr_route.proofs.WayLemmas.{no_end, end_is, has_end, far_node}
-use Rattle.olr_renewal.specs.Bounds.{IsLed}
 use Rattle.olr_renewal.proofs.BoundLemmas.{node_there, moves_none}
 use Rattle.olr_renewal.proofs.distance_bounds.follow.Goals.{then-end-room+in_ok-relax, else-end-room}
 use Rattle.olr_renewal.proofs.distance_bounds.follow.Goals as goal
-use Rattle.olr_route.specs.declared.frontier.TheConstants.{GREATEST_LIMIT}
 
 pub ends_from-end-items-requires : goal.ends_from-end-items-requires
 ends_from-end-items-requires g c =
@@ -54,7 +49,7 @@ loop-end-preserved g c =
           c.loop-end-test.true in
           rw w.bounds-is (record {
             own = inv.own;
-            moves = moves_then c.args.bounds.now f h inv.moves (put_moves f h end'.slot (d + end'.len) k);
+            moves = moves_then _ f h inv.moves (put_moves f h end'.slot (d + end'.len) k);
             followed = below_more (λ j. (get_or items j no_end).len ≤ GREATEST_LIMIT - d →
                 label_of h (get_or items j no_end).slot ≤ d + (get_or items j no_end).len) n
                 (λ j low short.

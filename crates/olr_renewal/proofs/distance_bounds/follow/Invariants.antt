@@ -1,8 +1,6 @@
-use Rattle.std.proofs.Common.{◌≡◌, ◌<◌, ◌≤◌, ◌+◌, ℕ, Option, IsTrue, get_or}
-use Rattle.olr_spec.specs.Map.{has_node}
-use Rattle.olr_route.specs.Frontiers.{Moves, label_of}
+use Rattle.olr_renewal.proofs.Common.{◌≡◌, ◌<◌, ◌≤◌, ◌+◌, ℕ, Option, IsTrue, get_or, has_node, Moves, label_of}
+use Rattle.olr_renewal.proofs.Common.{AreLed}
 use Rattle.olr_route.proofs.WayLemmas.{no_end}
-use Rattle.olr_renewal.specs.Bounds.{AreLed}
 use Rattle.olr_renewal.proofs.distance_bounds.follow.Given as goal
 
 abbrev pub invariant-loop-end : goal.invariant-loop-end

@@ -1,11 +1,10 @@
-use Rattle.olr_renewal.proofs.Common.{items, overlay_changes}
-use Rattle.olr_paths.proofs.Changed.{none_removed_by}
+use Rattle.olr_renewal.proofs.Common.{items, none_removed_by}
 use Rattle.olr_renewal.proofs.RetainedLemmas.{are_short}
 use Rattle.olr_renewal.proofs.naming.affected_names.Goals as goal
 
 pub invariant_of-overlaid : goal.invariant_of-overlaid
 invariant_of-overlaid g c = record {
-  none_removed = none_removed_by (overlay_changes c.new-overlay.result) (items c.new-overlay.result.added) c.new-overlay.ensures;
+  none_removed = none_removed_by _ _ c.new-overlay.ensures;
 }
 
 pub find_candidates-requires : goal.find_candidates-requires

@@ -1,6 +1,5 @@
-use Rattle.olr_renewal.proofs.Common.{[], refl, inl, inr, ℕ, List, Item, length, take_all, arith, map, shown_items, shown_item}
-use Rattle.olr_renewal.proofs.Common.{ap, get_or}
-use Rattle.std.specs.Prelude.{String, string_bytes}
+use Rattle.olr_renewal.proofs.Common.{[], refl, inl, inr, ℕ, List, Item, length, take_all, arith, map, shown_items}
+use Rattle.olr_renewal.proofs.Common.{shown_item, ap, get_or, string_bytes, String}
 use Rattle.std.specs.declared.alloc.Global.{Global}
 use Rattle.olr_renewal.proofs.SearchedLemmas.{searched_at}
 use Rattle.olr_renewal.proofs.Passing.{walked_none, walked_past, walked_one, walked_to, walked_all}
@@ -8,8 +7,7 @@ use Rattle.olr_renewal.proofs.NamedPrefix.{names_left, names_taken}
 use Rattle.olr_renewal.proofs.naming.names_by.Goals as goal
 
 pub push_if_affected-requires : goal.push_if_affected-requires
-push_if_affected-requires g c =
-    searched_at _ _ _ _ (shown_items c.args.overlaid) _ (shown_item c.in-Some.shown) c.in-Some.ensures.shown
+push_if_affected-requires g c = searched_at _ _ _ _ _ _ _ c.in-Some.ensures.shown
     (c.requires.candidates.searched (omega (arith, c.loop-position-test.true)))
 
 pub loop-position-init : goal.loop-position-init

@@ -1,7 +1,5 @@
-use Rattle.olr_renewal.proofs.Common.{shown_items, take, map}
-use Rattle.std.specs.Prelude.{string_bytes}
+use Rattle.olr_renewal.proofs.Common.{shown_items, take, map, string_bytes, AreAffectedNames}
 use Rattle.olr_renewal.proofs.Passing.{Walked}
-use Rattle.olr_renewal.specs.Reencoded.{AreAffectedNames}
 use Rattle.olr_renewal.proofs.naming.names_by.Given as goal
 
 -- the names are those of the affected paths before the next position

@@ -1,5 +1,4 @@
-use Rattle.olr_renewal.proofs.Common.{IfOk-weaker, Item, List, Map, Renewal, items}
-use Rattle.olr_renewal.specs.Reencoded.{AreRenewed, IsRenewed, IsStored}
+use Rattle.olr_renewal.proofs.Common.{IfOk-weaker, Item, List, Map, Renewal, items, AreRenewed, IsRenewed, IsStored}
 use Rattle.olr_renewal.specs.declared.renewal.Renewed.{Renewed}
 use Rattle.olr_renewal.specs.declared.update.MapUpdate.{MapUpdate}
 use Rattle.olr_renewal.proofs.reencode.renew_over.Goals as goal
@@ -16,23 +15,19 @@ stored map u before is js r s h t = record {
 
 -- if a path is removed: of the list under the changes
 pub replace-requires-clause-names : goal.replace-requires-clause-names
-replace-requires-clause-names g c =
-    rw (rw c.in-Some.is at c.in_ok-renewal.ensures.copied) c.requires.names
+replace-requires-clause-names g c = rw (rw c.in-Some.is at c.in_ok-renewal.ensures.copied) c.requires.names
 
 pub replace-requires-clause-reported : goal.replace-requires-clause-reported
-replace-requires-clause-reported g c =
-    rw (rw c.in-Some.is at c.in_ok-renewal.ensures.copied)
+replace-requires-clause-reported g c = rw (rw c.in-Some.is at c.in_ok-renewal.ensures.copied)
     (items c.args.list.now, c.in_ok-renewal.ensures.renewed.reported)
 
 pub returns-in-Some-clause-renewed : goal.returns-in-Some-clause-renewed
-returns-in-Some-clause-renewed g c =
-    IfOk-weaker c.replace.result _ _
+returns-in-Some-clause-renewed g c = IfOk-weaker c.replace.result _ _
     (λ s t. stored g.M.MapRead.map c.args.update.now _ _ _ _ s c.in_ok-renewal.ensures.renewed t)
     (rw (rw c.in-Some.is at c.in_ok-renewal.ensures.copied) at c.replace.ensures.stored)
 
 pub returns-in-Some-clause-queries : goal.returns-in-Some-clause-queries
-returns-in-Some-clause-queries g c =
-    IfOk-weaker c.replace.result _ _ (λ s t. t.queries)
+returns-in-Some-clause-queries g c = IfOk-weaker c.replace.result _ _ (λ s t. t.queries)
     (rw (rw c.in-Some.is at c.in_ok-renewal.ensures.copied) at c.replace.ensures.stored)
 
 pub store-requires-clause-none_removed : goal.store-requires-clause-none_removed

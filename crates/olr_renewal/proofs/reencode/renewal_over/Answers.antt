@@ -1,5 +1,4 @@
-use Rattle.olr_renewal.proofs.Common.{◌∙◌, items, overlay_changes}
-use Rattle.olr_paths.proofs.Changed.{none_removed_by}
+use Rattle.olr_renewal.proofs.Common.{◌∙◌, items, overlay_changes, none_removed_by}
 use Rattle.olr_renewal.proofs.reencode.renewal_over.Goals as goal
 
 -- if a path is removed: for the list under the changes

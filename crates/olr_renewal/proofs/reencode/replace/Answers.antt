@@ -1,10 +1,8 @@
-use Rattle.olr_renewal.proofs.Common.{items, overlay_changes}
-use Rattle.olr_paths.proofs.Changed.{none_removed_by}
+use Rattle.olr_renewal.proofs.Common.{items, none_removed_by}
 use Rattle.olr_renewal.proofs.reencode.replace.Goals as goal
 
 pub store-requires-clause-none_removed : goal.store-requires-clause-none_removed
-store-requires-clause-none_removed g c =
-    none_removed_by (overlay_changes c.new-none.result) (items c.new-none.result.added) c.new-none.ensures
+store-requires-clause-none_removed g c = none_removed_by _ _ c.new-none.ensures
 
 pub store-requires-clause-names : goal.store-requires-clause-names
 store-requires-clause-names g c = rw (c.new-none.ensures (items c.args.copy)) c.requires.names

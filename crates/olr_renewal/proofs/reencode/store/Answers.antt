@@ -1,13 +1,9 @@
-use Rattle.olr_renewal.proofs.Common.{overlay_changes, after_renewal, AreEncoded, RemovesNone, items, Reported, Renewal}
-use Rattle.olr_renewal.proofs.Common.{all_put, puts_of, Begins, Entry, subst, refl, List, ◌++◌, Item, ◌∷◌, inr, sym}
-use Rattle.olr_renewal.proofs.Common.{◌≡◌, ◌∙◌, inl, [], to_renew, false, made_at}
-use Rattle.std.proofs.Common.{Bool, true}
-use Rattle.olr_paths.proofs.Common.{Put}
-use Rattle.olr_paths.proofs.Changed.{put_on_overlaid, put_on_without, grown_differ}
-use Rattle.olr_paths.proofs.OriginLemmas.{begins_all_put}
-use Rattle.olr_paths.specs.Overlaid.{under_overlay}
+use Rattle.olr_renewal.proofs.Common.{overlay_changes, after_renewal, AreEncoded, RemovesNone, items, Reported}
+use Rattle.olr_renewal.proofs.Common.{Renewal, all_put, puts_of, Begins, Entry, subst, refl, List, ◌++◌, Item, ◌∷◌}
+use Rattle.olr_renewal.proofs.Common.{inr, sym, ◌≡◌, ◌∙◌, inl, [], to_renew, false, made_at, Bool, true}
+use Rattle.olr_renewal.proofs.Common.{put_on_overlaid, put_on_without, grown_differ, begins_all_put, under_overlay}
+use Rattle.olr_renewal.proofs.Common.{entries_of, Put}
 use Rattle.olr_paths.specs.declared.overlay.Overlay.{Overlay}
-use Rattle.olr_renewal.specs.Reencoded.{entries_of}
 use Rattle.olr_renewal.proofs.reencode.store.Goals as goal
 
 -- if each path is reported, each was encoded
@@ -58,7 +54,7 @@ returns-clause-stored g c =
       work = refl;
       queries = λ l h. elim (begins_all_put
           (to_renew c.args.update.now.sets_margin (under_overlay (items c.args.list.now) c.args.overlay.now))
-          (puts_of c.args.renewal.fresh.items) l (subst (λ (is : List Item). Begins is l) same h)) [
+          _ l (subst (λ (is : List Item). Begins is l) same h)) [
             | inl a ↦ inl a
             | inr b ↦ inr ((rw c.deref.ensures.value at c.in_ok-queries.ensures) l b)
           ];

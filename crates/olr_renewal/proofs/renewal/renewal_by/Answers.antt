@@ -1,4 +1,5 @@
-use Rattle.olr_renewal.proofs.Common.{get_or, arith, shown_items, shown_item, ℕ}
+use Rattle.olr_renewal.proofs.Common.{shown_item}
+use Rattle.olr_renewal.proofs.Common.{get_or, arith, ℕ}
 use Rattle.olr_renewal.proofs.RetainedLemmas.{given_known}
 use Rattle.olr_renewal.proofs.SearchedLemmas.{searched_at}
 use Rattle.olr_renewal.proofs.Passing.{walked_none, walked_past, walked_one, walked_to}
@@ -6,16 +7,14 @@ use Rattle.olr_renewal.proofs.RenewedPrefix.{so_far_none, so_far_step, unaffecte
 use Rattle.olr_renewal.proofs.renewal.renewal_by.Goals as goal
 
 pub decide-requires-clause-searched : goal.decide-requires-clause-searched
-decide-requires-clause-searched g c =
-    searched_at _ _ _ _ (shown_items c.args.overlaid) _ (shown_item c.in-Some.shown) c.in-Some.ensures.shown
+decide-requires-clause-searched g c = searched_at _ _ _ _ _ _ _ c.in-Some.ensures.shown
     (c.requires.candidates.searched (omega (arith, c.loop-position-test.true)))
 
 pub decide-requires-clause-detours : goal.decide-requires-clause-detours
 decide-requires-clause-detours g c = c.loop-position.invariant.1 (omega (arith, c.loop-position-test.true))
 
 pub advance-requires : goal.advance-requires
-advance-requires g c =
-    given_known (g.met.M.MapRead.sound c.args.update.now.map.now) c.requires.before.1 _ (shown_item c.in-Some.shown)
+advance-requires g c = given_known (g.met.M.MapRead.sound c.args.update.now.map.now) c.requires.before.1 _ _
     c.in-Some.ensures.shown c.in_ok-action.action c.in_ok-action.ensures.action
 
 pub loop-position-init : goal.loop-position-init
@@ -47,7 +46,6 @@ loop-position-preserved g c =
     )
 
 pub returns : goal.returns
-returns g c =
-    all_renewed (g.met.M.MapRead.sound c.args.update.now.map.now) c.args.update.now.touched.now c.args.positions.now
+returns g c = all_renewed (g.met.M.MapRead.sound c.args.update.now.map.now) _ _
     c.requires.follows c.requires.candidates.covers c.loop-position.renewal c.requires.before c.loop-position.position-index
     (omega (arith, c.loop-position-test.false)) c.loop-position.invariant.0

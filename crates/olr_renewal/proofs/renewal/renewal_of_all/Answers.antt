@@ -1,9 +1,6 @@
-use Rattle.olr_renewal.proofs.Common.{◌≡◌, Some, Item, List, ap, arith, to_renew, items, length, option_map, shown_item}
-use Rattle.olr_renewal.proofs.Common.{shown_items, inl, refl, slice_get, take_all, without_answer, ◌∙◌, map}
-use Rattle.std.proofs.Common.{true}
-use Rattle.std.proofs.lemmas.List.{length-map}
-use Rattle.std.proofs.lemmas.Option.{slice_get-map}
-use Rattle.olr_renewal.specs.declared.actions.Action.TheVariants.{Encode}
+use Rattle.olr_renewal.proofs.Common.{◌≡◌, Some, Item, List, ap, arith, to_renew, items, length, option_map}
+use Rattle.olr_renewal.proofs.Common.{shown_item, shown_items, inl, refl, slice_get, take_all, without_answer, ◌∙◌}
+use Rattle.olr_renewal.proofs.Common.{map, true, length-map, slice_get-map, Encode}
 use Rattle.olr_renewal.proofs.Following.{follows_without}
 use Rattle.olr_renewal.proofs.Passing.{past_end}
 use Rattle.olr_renewal.proofs.RenewedPrefix.{so_far_none, so_far_step, whole}
@@ -29,7 +26,7 @@ loop-position-preserved g c =
     let position = c.loop-position.position in
     let at : slice_get (map without_answer is) position ≡ Some (without_answer i) =
     slice_get-map without_answer is position ∙ ap (option_map without_answer) (c.at.ensures.shown ∙ ap (option_map shown_item) c.in-Some.is) in
-    λ t. so_far_step (g.met.M.MapRead.sound c.args.update.now.map.now) (follows_without (items c.args.overlaid.before.now) is) position (without_answer i)
+    λ t. so_far_step (g.met.M.MapRead.sound c.args.update.now.map.now) (follows_without _ is) position (without_answer i)
     at (Encode c.new.result) (c.loop-position.invariant t)
     (inl refl, (λ h L ls there here are. rw c.new.ensures.items (λ k d lt. absurd (omega arith))))
     c.in_ok-advance.ensures

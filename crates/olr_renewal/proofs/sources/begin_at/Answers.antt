@@ -1,8 +1,5 @@
-use Rattle.olr_renewal.proofs.Common.{arith, common_steps, take_all}
+use Rattle.olr_renewal.proofs.Common.{arith, take_all}
 use Rattle.olr_renewal.proofs.sources.begin_at.Goals as goal
-
-pub loop-item-preserved : goal.loop-item-preserved
-loop-item-preserved g c = grind (arith, common_steps)
 
 pub returns : goal.returns
 returns g c =

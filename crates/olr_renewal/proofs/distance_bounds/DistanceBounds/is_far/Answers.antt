@@ -1,7 +1,4 @@
-use Rattle.std.proofs.Common.{◌≡◌, ℕ, true, IsTrue, refl, subst, arith}
-use Rattle.olr_spec.specs.Map.{has}
-use Rattle.olr_spec.proofs.ListLemmas.{at_index}
-use Rattle.olr_renewal.specs.Bounds.{IsFar}
+use Rattle.olr_renewal.proofs.Common.{◌≡◌, ℕ, true, IsTrue, refl, subst, arith, has, at_index, IsFar}
 use Rattle.olr_renewal.proofs.BoundLemmas.{far_apart, spared_under_way}
 use Rattle.olr_renewal.proofs.distance_bounds.DistanceBounds.is_far.Given.{Over}
 use Rattle.olr_renewal.proofs.distance_bounds.DistanceBounds.is_far.Goals as goal
@@ -10,7 +7,7 @@ use Rattle.olr_renewal.proofs.distance_bounds.DistanceBounds.is_far.Goals as goa
 all_far : (g : Over) (c : goal.After-loop-node g) (v : ℕ) → IsTrue (has c.args.nodes.now v) →
     IsFar (g.M.MapRead.map c.args.map.now) (g.M.MapRead.node_slot c.args.map.now) c.args.self.now v
 all_far g c v on =
-    let k = at_index c.args.nodes.now v on in
+    let k = at_index _ v on in
     subst (IsFar (g.M.MapRead.map c.args.map.now) (g.M.MapRead.node_slot c.args.map.now) c.args.self.now) k.2
     (c.loop-node.invariant k.0 (omega arith))
 
@@ -22,7 +19,7 @@ returns-clause-exact g c =
 pub returns-clause-far : goal.returns-clause-far
 returns-clause-far g c = λ yes N r s w e right source.
     let known : c.args.self.now.known ≡ true = cc in
-    far_apart _ N _ r c.args.nodes.now c.args.self.now e (all_far g c) known right s w source
+    far_apart _ N _ r _ _ e (all_far g c) known right s w source
 
 pub returns-clause-spared : goal.returns-clause-spared
-returns-clause-spared g c = λ yes N r e. spared_under_way _ N _ r c.args.nodes.now c.args.self.now e (all_far g c)
+returns-clause-spared g c = λ yes N r e. spared_under_way _ N _ r _ _ e (all_far g c)

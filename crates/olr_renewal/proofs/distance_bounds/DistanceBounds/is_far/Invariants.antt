@@ -1,5 +1,4 @@
-use Rattle.std.proofs.Common.{◌<◌, ℕ, get_or}
-use Rattle.olr_renewal.specs.Bounds.{IsFar}
+use Rattle.olr_renewal.proofs.Common.{◌<◌, ℕ, get_or, IsFar}
 use Rattle.olr_renewal.proofs.distance_bounds.DistanceBounds.is_far.Given as goal
 
 abbrev pub invariant-loop-node : goal.invariant-loop-node

@@ -1,7 +1,5 @@
-use Rattle.std.proofs.Common.{List, ℕ, [], ◌∙◌, refl, subst, sym}
-use Rattle.olr_route.specs.Frontiers.{label_of}
+use Rattle.olr_renewal.proofs.Common.{List, ℕ, [], ◌∙◌, refl, subst, sym, label_of, AreLed, source_of}
 use Rattle.olr_route.specs.Notes.{label_in}
-use Rattle.olr_renewal.specs.Bounds.{AreLed, source_of}
 use Rattle.olr_renewal.proofs.BoundLemmas.{settling_looked, settling_on, settling_popped, settled}
 use Rattle.olr_renewal.proofs.distance_bounds.DistanceBounds.settle_open.Goals as goal
 
@@ -11,7 +9,7 @@ loop-node-preserved g c =
     let f = c.loop-node.self in
     let inv = c.loop-node.invariant in
     let e = c.in_ok-look_at.ensures in
-    settling_on (g.M.MapRead.map c.args.map.now) m _ (g.met.M.MapRead.placed c.args.map.now).apart c.args.self.now
+    settling_on _ m _ (g.met.M.MapRead.placed c.args.map.now).apart c.args.self.now
     f.opened.items c.pop.new.self.items f (record f { opened = c.pop.new.self; bounds = c.look_at.new.bounds }) (λ v. refl)
     refl e.moves.len
     (settling_looked _ m _ _ f.opened.items c.pop.new.self.items c.in-Some.node f.bounds c.look_at.new.bounds
@@ -38,7 +36,7 @@ returns-clause-right g c = λ u known.
     let inv = c.loop-next.invariant in
     let e = c.in_default-pop_within.ensures in
     let r =
-    settled (g.M.MapRead.map c.args.map.now) (g.met.M.MapRead.sound c.args.map.now)
-    (g.M.MapRead.node_slot c.args.map.now) (source_of c.args.self.now) c.loop-next.self.bounds c.pop_within.new.self
+    settled _ (g.met.M.MapRead.sound c.args.map.now)
+    _ _ c.loop-next.self.bounds c.pop_within.new.self
     e.alike (λ n q w. e.far n q (e.same n q w)) (inv.settling (u (sym inv.known ∙ known))) in
     record { closed = r.0; sources = λ v d at. r.1 v d (sym (inv.sources v) ∙ at) }

@@ -1,5 +1,4 @@
-use Rattle.std.proofs.Common.{[], vec_len}
-use Rattle.olr_route.specs.Frontiers.{to_do}
+use Rattle.olr_renewal.proofs.Common.{[], vec_len, to_do}
 use Rattle.olr_renewal.proofs.BoundLemmas.{IsSettling}
 use Rattle.olr_renewal.proofs.distance_bounds.DistanceBounds.settle_open.Given as goal
 
