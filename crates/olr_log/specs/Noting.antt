@@ -25,8 +25,8 @@ written_by at bytes (Err e) = written at bytes false (as_number (is_no_room e))
 abbrev pub event_of : Call → Event
 event_of call.Settled = settled 0
 event_of (call.Measured answer) = measured_by answer.now
-event_of (call.Read at bytes answer) = read_by at bytes.now answer.now
-event_of (call.ReadUnder key want at bytes answer) = read_under_by key want at bytes.now answer.now
-event_of (call.Written at bytes answer) = written_by at bytes.now answer.now
+event_of (call.Read p) = read_by p.at p.bytes.now p.answer.now
+event_of (call.ReadUnder key want p) = read_under_by key want p.at p.bytes.now p.answer.now
+event_of (call.Written p) = written_by p.at p.bytes.now p.answer.now
 event_of (call.Resized len answer) = cut len (is_ok answer.now) (as_number (finds_no_room answer.now))
 event_of (call.Synced answer) = flushed (is_ok answer.now) (as_number (finds_no_room answer.now))

@@ -4,7 +4,7 @@
 ghost use Rattle.std.specs.Prelude.{◌≡◌, ◌<◌, ◌≤◌, ◌^◌, [], ◌∷◌, length, IfOk};
 ghost use Rattle.sqlite_disk.specs.Events.{settled};
 
-use crate::noted::{Call, Noted};
+use crate::noted::{Call, Noted, Part};
 use crate::writes::BLOCK;
 use sqlite_disk::Calls;
 use std::os::unix::fs::FileExt;
@@ -89,33 +89,32 @@ impl Calls for HostFile {
 
     fn read_some(&mut self, at: usize, buf: &mut [u8]) -> io::Result<usize> {
         let answer = read(&self.file, at, buf);
-        self.calls.add(&Call::Read {
+        self.calls.add(&Call::Read(Part {
             at,
             bytes: buf,
             answer: &answer,
-        });
+        }));
         answer
     }
 
     fn read_under(&mut self, key: u64, want: u64, at: usize, buf: &mut [u8]) -> io::Result<usize> {
         let answer = read(&self.file, at, buf);
-        self.calls.add(&Call::ReadUnder {
-            key,
-            want,
+        let part = Part {
             at,
             bytes: buf,
             answer: &answer,
-        });
+        };
+        self.calls.add(&Call::ReadUnder { key, want, part });
         answer
     }
 
     fn write_some(&mut self, at: usize, bytes: &[u8]) -> io::Result<usize> {
         let answer = write(&self.file, at, bytes);
-        self.calls.add(&Call::Written {
+        self.calls.add(&Call::Written(Part {
             at,
             bytes,
             answer: &answer,
-        });
+        }));
         answer
     }
 

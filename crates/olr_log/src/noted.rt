@@ -8,32 +8,28 @@ ghost use Rattle.olr_log.specs.Noting.{event_of};
 use std::io;
 use std::marker::{Model, PhantomData};
 
+/// Bytes of a file, and how many of them were read or written.
+#[derive(Clone, Copy)]
+pub struct Part<'a> {
+    pub at: usize,
+    pub bytes: &'a [u8],
+    pub answer: &'a io::Result<usize>,
+}
+
 /// A call of the system on a file, with its answer.
 #[derive(Clone, Copy)]
 pub enum Call<'a> {
     /// It was synced as it was opened.
     Settled,
     Measured(&'a io::Result<usize>),
-    /// So many of these bytes were read.
-    Read {
-        at: usize,
-        bytes: &'a [u8],
-        answer: &'a io::Result<usize>,
-    },
+    Read(Part<'a>),
     /// The same, of bytes that will be tested against a digest under a key.
     ReadUnder {
         key: u64,
         want: u64,
-        at: usize,
-        bytes: &'a [u8],
-        answer: &'a io::Result<usize>,
+        part: Part<'a>,
     },
-    /// So many of these bytes were written.
-    Written {
-        at: usize,
-        bytes: &'a [u8],
-        answer: &'a io::Result<usize>,
-    },
+    Written(Part<'a>),
     Resized {
         len: usize,
         answer: &'a io::Result<()>,
