@@ -1,51 +1,8 @@
 -- A quarter turn of a direction turns its sector, so the sectors of one quarter determine those of the others.
-use Rattle.olr_spec.proofs.Common.{◌≡◌, ℕ, suc, ◌+◌, ◌<◌, ℤ, pos, ◌-ℤ◌, ◌*ℤ◌, ◌<ℤ◌, map, take, drop, get_or, IsTrue}
-use Rattle.olr_spec.proofs.Common.{refl, sym, ap, ◌∙◌, subst, arith, ints, get_or-drop, get_or-take, get_or-map, Vector}
-use Rattle.olr_spec.proofs.Common.{vector, boundary, boundaries, quarter_turn, beyond, lies_between, IsSector, sector}
+use Rattle.olr_spec.proofs.Common.{◌≡◌, ℕ, ◌+◌, ◌<◌, ℤ, pos, ◌<ℤ◌, refl, sym, ap, ◌∙◌, subst, arith, ints, IsSector}
+use Rattle.olr_spec.proofs.Common.{sector}
 use Rattle.std.proofs.Common.{neg_ℤ}
-use Rattle.olr_spec.proofs.SectorLemmas.{one_sector, sector_is, neg_right, neg_left}
-
--- ---- one quarter turn
-
-all_turned : map quarter_turn (take 25 boundaries) ≡ drop 8 boundaries
-all_turned = refl
-
-nowhere : Vector
-nowhere = vector (pos 0) (pos 0)
-
-boundary_turned : (k : ℕ) → k < 25 → boundary (8 + k) ≡ quarter_turn (boundary k)
-unfolding nowhere
-boundary_turned k h =
-    sym (get_or-drop 8 boundaries k nowhere)
-    ∙ ap (λ bs. get_or bs k nowhere) (sym all_turned)
-    ∙ get_or-map quarter_turn (take 25 boundaries) k nowhere nowhere h
-    ∙ ap quarter_turn (get_or-take 25 boundaries k nowhere h)
-
-cross_turned : (be bn ve vn : ℤ) → vn *ℤ neg_ℤ be -ℤ neg_ℤ ve *ℤ bn ≡ ve *ℤ bn -ℤ vn *ℤ be
-cross_turned be bn ve vn = omega (arith, ints, neg_right vn be, neg_left ve bn)
-
-beyond_turned : (b v : Vector) → beyond (quarter_turn b) (quarter_turn v) ≡ beyond b v
-beyond_turned b v = cross_turned b.east b.north v.east v.north
-
-between_turned : (b c v : Vector) → lies_between (quarter_turn b) (quarter_turn c) (quarter_turn v) ≡ lies_between b c v
-between_turned b c v = grind (arith, beyond_turned)
-
--- between the turned boundaries
-between_these : (b c v b' c' : Vector) → b' ≡ quarter_turn b → c' ≡ quarter_turn c → IsTrue (lies_between b c v) →
-    IsTrue (lies_between b' c' (quarter_turn v))
-between_these b c v b' c' p q h = grind (arith, between_turned)
-
--- (e, n) is (a, b) turned by a quarter
-sector_turned : (a b e n : ℤ) (j k : ℕ) → IsSector a b k → e ≡ b → n ≡ neg_ℤ a → k < 24 → j ≡ 8 + k → IsSector e n j
-sector_turned a b e n j k s p q h is =
-    let after : suc (8 + k) ≡ 8 + suc k = omega arith in
-    let whole : IsSector b (neg_ℤ a) (8 + k) = (
-      omega arith,
-      between_these (boundary k) (boundary (suc k)) (vector a b) (boundary (8 + k)) (boundary (suc (8 + k)))
-          (boundary_turned k (omega arith)) (ap boundary after ∙ boundary_turned (suc k) (omega arith)) s.1,
-    ) in
-    subst (IsSector e n) (sym is)
-    (subst (λ m. IsSector e m (8 + k)) (sym q) (subst (λ d. IsSector d (neg_ℤ a) (8 + k)) (sym p) whole))
+use Rattle.olr_spec.proofs.SectorLemmas.{one_sector, sector_is, sector_turned}
 
 -- ---- the sector of a direction
 

@@ -50,12 +50,7 @@ more_counts g M xs rest (y ∷ ys) known =
 pub front_counts : (g : Margin) (M : Map) (xs rest : List ℕ) → Each (λ x. IsTrue (has_line M x)) xs →
     Each (λ x. IsTrue (has_line M x)) rest → counted_dm_of g M xs + dm_of M rest ≤ counted_dm_of g M (xs ++ rest)
 front_counts g M xs rest here there =
-    omega (
-      arith,
-      more_counts g M xs rest xs here,
-      counted_longer g M (xs ++ rest) rest there,
-      dm_of-append (counted g M (xs ++ rest)) xs rest,
-    )
+    omega (arith, more_counts g M xs rest xs here, counted_longer g M (xs ++ rest) rest there, dm_of-append (counted g M (xs ++ rest)) xs rest)
 
 -- where no detour is as short as what a route counts, its part up to a node counts as the unique shortest path on both
 -- maps or on neither
@@ -68,15 +63,10 @@ clear_front g M N C there here s v t xs ys w u clear =
     (counted_longer g M (xs ++ ys) (xs ++ ys) (route_known M s t (xs ++ ys) whole)) in
     let rest = Each-right (SameWay M N) xs ys same in
     let d = counted_dm_of g M xs in
+    let short = front_counts g M xs ys (route_known M s v xs w) (route_known M v t ys u) in
     let clear_part : ¬ Detour N C s v d = λ o. clear (detour_of o.first o.last o.first_listed o.last_listed o.before
     (o.after ++ ys) o.leads (IsRoute-append N o.last.to v t o.after ys o.returns (IsRoute-moves M N v t ys rest u))
-    (omega (
-      arith,
-      o.within,
-      front_counts g M xs ys (route_known M s v xs w) (route_known M v t ys u),
-      dm_of-append N o.after ys,
-      ways_dm_of M N ys rest,
-    ))) in
+    (omega (arith, o.within, short, dm_of-append N o.after ys, ways_dm_of M N ys rest))) in
     unique_same (counted g M xs) (counted g N xs) s v d
     (counted_routes g M N xs s v d (same_there M N C s v d there here clear_part))
     (counted_routes g N M xs s v d (same_here M N C s v d there here clear_part)) xs

@@ -118,19 +118,10 @@ module _ (g : Margin) (M N : Map) (n : IsMap N) (no_other : HasNoOther M N) (a b
       let less : (1000 + a) * 1000 * dm_of K xs < (1000 + a) * 1000 * dm_of K ys = grind (arith, mul-le-mul_left ((1000 + a) * 1000) lt) in
       let common = exchange there here xs ys own_most once in
       let rest = others_most here there xs ys (λ y on off. other_most y (known y on) off) in
+      let of_K = scaled ((1000 + a) * 1000) K in
+      let of_N = scaled ((1000 + g.routes) * 1000) N in
       lt_of_mul-lt-mul_left ((1000 + g.routes) * 1000)
-      (omega (
-        arith,
-        less,
-        common,
-        rest,
-        parts_total here xs ys,
-        parts_total there xs ys,
-        scaled ((1000 + a) * 1000) K xs,
-        scaled ((1000 + a) * 1000) K ys,
-        scaled ((1000 + g.routes) * 1000) N xs,
-        scaled ((1000 + g.routes) * 1000) N ys,
-      ))
+      (omega (arith, less, common, rest, parts_total here xs ys, parts_total there xs ys, of_K xs, of_K ys, of_N xs, of_N ys))
 
   pub unique_there : (s t : ℕ) → LrpRoute K s t xs → LrpRoute N s t xs
   unique_there s t u = record { route = route_there s t xs nearly.known (route_counted g M xs s t xs u.route); others = others }
@@ -150,13 +141,8 @@ module _ (g : Margin) (M N : Map) (n : IsMap N) (no_other : HasNoOther M N) (a b
 -- a route that is the unique shortest one where its own lines count longer is so
 pub counted_unique : CountedIsUnique
 counted_unique g M m s t xs u =
-    unique_there g M M m
-    (record { known = λ x h. h; starts = λ x h. refl; ends = λ x h. refl }) 0 0 (le-leb _ _ (omega (arith, mul-add 1000 1000 g.routes))) xs
-    (record {
-      known = route_known M s t xs (route_counted g M xs s t xs u.route);
-      own = λ x h. omega arith;
-      others = λ y h off. omega arith;
-    }) s t u
+    let known = route_known M s t xs (route_counted g M xs s t xs u.route) in
+    unique_there g M M m (grind arith) 0 0 (le-leb _ _ (omega (arith, mul-add 1000 1000 g.routes))) xs (grind (arith, known)) s t u
 
 -- ---- a part of it
 
@@ -231,17 +217,9 @@ module _ (g : Margin) (M : Map) (m : IsMap M) (s v t : ℕ) (xs rest : List ℕ)
       let to_x : IsRoute Whole s its.0 p.before =
       counted_route g M (xs ++ rest) s its.0 p.before (subst (λ k. IsRoute M s k p.before) (sym mine.2.1 ∙ its.2.1) mine.1) in
       let no_less : dm_of Whole (xs ++ q.0) ≤ dm_of Whole p.before = grind (arith, dec_same p.before (xs ++ q.0), part.others p.before to_x) in
-      omega (
-        arith,
-        no_less,
-        front_same,
-        same_counts p.before known p.none,
-        dm_of-append Whole xs q.0,
-        dm_of-append Front p.before (x ∷ p.after),
-        ap (dm_of Front) p.are,
-        positive M m x mine.2.0,
-        counted_least g M xs x mine.2.0,
-      )
+      let mine_is = ap (dm_of Front) p.are ∙ dm_of-append Front p.before (x ∷ p.after) in
+      let most = counted_least g M xs x mine.2.0 in
+      omega (arith, no_less, front_same, same_counts p.before known p.none, dm_of-append Whole xs q.0, mine_is, positive M m x mine.2.0, most)
 
   pub counted_front : LrpRoute Front s v xs
   counted_front = record { route = counted_route g M xs s v xs w; others = others }

@@ -161,13 +161,11 @@ module _ (g : Margin) (M N : Map) (m : IsMap M) (n : IsMap N) (P : Path) (is : I
           let k : Each (Known N) P.lines = λ x h. sym (same_known M N x (same x h)) ∙ known x h in
           let runs = one_tried N n P nonempty (k (first P.lines) (has_first P.lines nonempty)) (k (last P.lines) (has_last P.lines nonempty))
           p.before p.after o.before o.after p.tried (tried_there o.before o.after o.tried) in
-          record {
-            before = o.before;
-            after = o.after;
-            tried = o.tried;
-            traversed = (traversed_moves o.before o.after o.tried v).1
-                (coe 0 1 (i. Traversed N (extended_path N P (runs.0 i) (runs.1 i)).lines (runs.0 i) (runs.1 i) v) p.traversed);
-          }),
+          search (
+            o.tried,
+            (traversed_moves o.before o.after o.tried v).1
+                (coe 0 1 (i. Traversed N (extended_path N P (runs.0 i) (runs.1 i)).lines (runs.0 i) (runs.1 i) v) p.traversed),
+          ) depth 6),
     )
 
     -- the coverage queries

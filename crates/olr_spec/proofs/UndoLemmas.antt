@@ -1,10 +1,10 @@
 -- One edit restores the map from before an accepted edit, and the empty map is sound.
-use Rattle.olr_spec.proofs.Common.{◌≡◌, ◌≢◌, ℕ, Bool, true, false, cond, ◌||◌, List, ◌∷◌, map, Option, Some}
+use Rattle.olr_spec.proofs.Common.{◌≡◌, ◌≢◌, ℕ, Bool, true, false, ◌||◌, List, ◌∷◌, map, Option, Some}
 use Rattle.olr_spec.proofs.Common.{None, Result, Ok, ap, nat_cmp, ◌==◌, [], arith, eqb-true, filter, cases_eq}
 use Rattle.olr_spec.proofs.Common.{cases_Bool, and_from, or_cases, list_any, nat_cmp_total, FinMap, get, insert, remove}
 use Rattle.olr_spec.proofs.Common.{entries, nat_cmp-IsAntisymmetric, Map, IsMap, Line, has_node, line_at, coord_at}
 use Rattle.olr_spec.proofs.Common.{Edit, Add_node, Move_node, Drop_node, Add_line, Set_line, Drop_line, edited, in_use}
-use Rattle.olr_spec.proofs.Common.{has, get-empty, same_map, unless, EmptyIsSound, EditsUndo}
+use Rattle.olr_spec.proofs.Common.{has, get-empty, same_map, unless, EmptyIsSound, EditsUndo, inl, inr}
 use Rattle.olr_spec.proofs.Facts.{has-lines_where, passes_at, has_here, some_is, none_of, there_not}
 use Rattle.olr_spec.proofs.EditLemmas.{got_other, got_same, left_other, left_same, edit_laws}
 
@@ -32,12 +32,10 @@ unless_false b f r e = ap (λ (t : Bool). unless t f r) e
 pub any_has : (test : Line → Bool) (es : List (ℕ × Line)) → list_any (λ e. test e.1) es ≡ true → (x : ℕ)
     × (has (map (λ e. e.0) (filter (λ e. test e.1) es)) x ≡ true)
 any_has test [] h = absurd cc
-any_has test (e ∷ es) h =
-    elim (test e.1) as (λ t. (t || list_any (λ e. test e.1) es) ≡ true → (x : ℕ)
-    × (has (map (λ e. e.0) (cond t (e ∷ filter (λ e. test e.1) es) (filter (λ e. test e.1) es))) x ≡ true)) [
-      | true ↦ λ g. (e.0, has_here e.0 (map (λ e. e.0) (filter (λ e. test e.1) es)))
-      | false ↦ λ g. any_has test es g
-    ] h
+any_has test (e ∷ es) h = elim (cases_Bool (test e.1)) [
+  | inl t ↦ (e.0, grind (arith, t, has_here))
+  | inr f ↦ let r = any_has test es (grind (arith, h, f)) in (r.0, grind (arith, f, r.1))
+]
 
 pub passed_line : (test : Line → Bool) (o : Option Line) → passes_at test o ≡ true → (l : Line) × (o ≡ Some l) × (test l ≡ true)
 passed_line test o h = grind arith
