@@ -12,20 +12,20 @@ pub use Rattle.olr_spec.specs.Degrees.{before_point, digits_value}
 pub use Rattle.olr_spec.specs.Detours.{AccountsFor, ChangedLine, Detour, Near, IsChangedLine, SameWay, changes_of}
 pub use Rattle.olr_spec.specs.Encoding.{Answer, Encodes, EncodesWith, Encoding, EncodingWith, Points, Refusal, Refused}
 pub use Rattle.olr_spec.specs.Encoding.{answer_by_points, answer_by_points_with, first_break, first_unknown, path_fault}
-pub use Rattle.olr_spec.specs.Encoding.{IsPoint, IsPointWith, No_next_point, Unknown_line}
+pub use Rattle.olr_spec.specs.Encoding.{IsPointWith, No_next_point, Unknown_line}
 pub use Rattle.olr_spec.specs.Extension.{AreJoined, EndRun, LongestEnd, LongestStart, MayFollow, MayPrecede, Path}
 pub use Rattle.olr_spec.specs.Extension.{StartRun, Tried, extended_path, first, from_start, is_path, last, limit}
 pub use Rattle.olr_spec.specs.Extension.{none_twice, passes_between, passing, taken_end, taken_start}
 pub use Rattle.olr_spec.specs.Footprint.{Foot, FootWith, Sees}
 pub use Rattle.olr_spec.specs.Joins.{JoinsLast, JoinsTo, Joined, JoinedWith, Joins}
-pub use Rattle.olr_spec.specs.Laws.{AnswerFits, AnswersRetained, DecodedNear, DecodedPoints, DifferencesAdd, Distances}
+pub use Rattle.olr_spec.specs.Laws.{AnswerFits, AnswersRetained, DifferencesAdd}
 pub use Rattle.olr_spec.specs.Laws.{EditsDiffer, EditsKeep, EditsUndo, EmptyIsLeast, EmptyIsSound, EmptyIsUnique}
 pub use Rattle.olr_spec.specs.Laws.{FootAffected, FootIsQueried, KnownRetained, KnownStays, LinesAscend, LinesIn}
-pub use Rattle.olr_spec.specs.Laws.{LinesOut, NearStays, Nearest, NoDifference, NoFault, NoLongerSuffix, Offsets}
+pub use Rattle.olr_spec.specs.Laws.{LinesOut, NearStays, NoDifference, NoFault, NoLongerSuffix}
 pub use Rattle.olr_spec.specs.Laws.{OneAnswer, OneEndRun, OneLastTested, OneLeast, OneNext, OnePoints, OneQueries}
 pub use Rattle.olr_spec.specs.Laws.{OneSector, OneStartRun, OneUnique, PrefixOfLeast, PrefixOfUnique, Recovered}
 pub use Rattle.olr_spec.specs.Laws.{RoutesJoin, SomeAnswer, SomeLastTested, SomeQueries, SomeReceiver, SomeSector}
-pub use Rattle.olr_spec.specs.Laws.{SomeWeighted, StretchesJoin, TwoKept, UniqueIsLeast, UntouchedRetained}
+pub use Rattle.olr_spec.specs.Laws.{SomeWeighted, TwoKept, UniqueIsLeast, UntouchedRetained}
 pub use Rattle.olr_spec.specs.Map.{Add_line, Add_node, Agree, Drop_line, Drop_node, Edit, IsMap, Line, Map, Move_node}
 pub use Rattle.olr_spec.specs.Map.{SameLine, SameRound, Set_line, coord_at, dm, edited, end, has, has_line, has_node}
 pub use Rattle.olr_spec.specs.Map.{in_use, is_good, line_at, lines_in, lines_out, lines_where, start, touched_nodes}

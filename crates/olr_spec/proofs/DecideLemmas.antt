@@ -1,5 +1,5 @@
 -- Each definition is decidable, so each path has an answer.
-use Rattle.olr_spec.specs.Margins.{no_margin, Margin, counted}
+use Rattle.olr_spec.specs.Margins.{Margin, counted}
 use Rattle.olr_spec.proofs.Common.{◌⊎◌, inl, inr, ◌≡◌, ℕ, zero, suc, ◌+◌, true, false, List, ◌∷◌, ◌++◌, length, ◌<◌}
 use Rattle.olr_spec.proofs.Common.{◌≤◌, None, IsTrue, refl, ap, arith, MatchOption, [], ◌≢◌, cases_lt, cases_eq, dec_le}
 use Rattle.olr_spec.proofs.Common.{Map, IsMap, has_line, end, dm, coord_at, lines_where, has, IsRoute, dm_of}
@@ -208,5 +208,3 @@ some_answer_with g M m P is =
 
 -- ---- without a margin
 
-pub some_answer : SomeAnswer no_margin
-some_answer = some_answer_with no_margin

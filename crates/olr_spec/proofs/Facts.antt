@@ -1,7 +1,7 @@
 -- The lemmas that most proofs of olr_spec cite, passed on from one place. Declares nothing.
 pub use Rattle.olr_spec.proofs.AgreeLemmas.{by_entering, known_record, same_coord, same_dm_of, same_end, same_known}
 pub use Rattle.olr_spec.proofs.AgreeLemmas.{same_passing, same_record, same_start, some_is}
-pub use Rattle.olr_spec.proofs.AnswerLemmas.{all_first, all_last, by_fault, map_None, one_answer, one_answer_with}
+pub use Rattle.olr_spec.proofs.AnswerLemmas.{all_first, all_last, by_fault, map_None, one_answer_with}
 pub use Rattle.olr_spec.proofs.AnswerLemmas.{one_follow, one_next, or_None, path_also, path_at, path_nonempty, same_by}
 pub use Rattle.olr_spec.proofs.AnswerLemmas.{sound_lines}
 pub use Rattle.olr_spec.proofs.JoinLemmas.{LinkedWith, RouteTo, between, between_is, empty_stretch}

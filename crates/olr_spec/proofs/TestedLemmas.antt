@@ -1,5 +1,5 @@
 -- A path has exactly one list of coverage queries, and they determine its footprint.
-use Rattle.olr_spec.specs.Margins.{no_margin, Margin}
+use Rattle.olr_spec.specs.Margins.{Margin}
 use Rattle.olr_spec.proofs.Common.{inl, inr, ◌≡◌, ℕ, zero, suc, ◌+◌, ◌-◌, min, true, List, ◌∷◌, length, ◌<◌, ◌≤◌, None}
 use Rattle.olr_spec.proofs.Common.{IsTrue, Contains, refl, sym, ap, ◌∙◌, subst, arith, MatchOption, ◌⊎◌, T, []}
 use Rattle.olr_spec.proofs.Common.{cases_lt, cases_eq, cases_order, dec_le, AllZip, Map, IsMap, has, dm_of, Path}
@@ -148,5 +148,3 @@ foot_affected_with g M N m T round P is queries o = (
 
 -- ---- without a margin
 
-pub one_last_tested : OneLastTested no_margin
-one_last_tested = one_last_tested_with no_margin

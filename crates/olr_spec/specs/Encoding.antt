@@ -2,7 +2,7 @@
 --     Answer, Refusal      a reference, or the reason why the path is not encodable
 --     path_fault M P      the first of the reasons that the path's own lines give
 --     Encodes M P A, EncodesWith g M P A      A is the answer, with a margin
---     IsPoint M P k v      node v is LRP k of its reference
+--     IsPointWith g M P k v      node v is LRP k of its reference
 use Rattle.std.specs.Prelude.{◌≡◌, ℕ, suc, ◌+◌, List, [], ◌∷◌, length, find, nat_le, ◌==◌, not, slice_get, Option, Some}
 use Rattle.std.specs.Prelude.{None, option_map, MatchOption, if◌then◌else◌}
 use Rattle.std.specs.Option.{option_or}
@@ -73,6 +73,3 @@ Encoding = EncodingWith no_margin
 
 abbrev pub Encodes : Map → Path → Answer → Type 0
 Encodes = EncodesWith no_margin
-
-abbrev pub IsPoint : Map → Path → ℕ → ℕ → Type 0
-IsPoint = IsPointWith no_margin

@@ -16,10 +16,10 @@
 --     queries      a path has one list of coverage queries; if changes affect neither these nor its traversed nodes,
 --         its answer is retained
 use Rattle.std.specs.Prelude.{◌≡◌, ℕ, ◌+◌, ◌*◌, ◌<◌, ◌≤◌, ℤ, pos, List, [], ◌++◌, length, map, Option, Some, None}
-use Rattle.std.specs.Prelude.{is_some, All, Contains, Ok, ◌↔◌, ◌⊎◌, IsTrue, IsFalse}
-use Rattle.std.specs.List.{AllByRecursion, AllZip, concat}
+use Rattle.std.specs.Prelude.{All, Contains, Ok, ◌↔◌, ◌⊎◌, IsTrue, IsFalse}
+use Rattle.std.specs.List.{AllByRecursion}
 use Rattle.std.specs.List.Sorted.{IsStrictlyIncreasing}
-use Rattle.olr_spec.specs.Map.{Map, empty_map, IsMap, Line, has_line, coord_at, lines_in, lines_out, Edit, edited}
+use Rattle.olr_spec.specs.Map.{Map, empty_map, IsMap, Line, has_line, lines_in, lines_out, Edit, edited}
 use Rattle.olr_spec.specs.Map.{touched_nodes, touched_lines, Enters, Leaves, Agree, SameLine, SameRound, has, HasCoord}
 use Rattle.olr_spec.specs.Routes.{IsRoute, dm_of, Least, UniqueShortest}
 use Rattle.olr_spec.specs.Margins.{Margin, counted, IsSoundFor}
@@ -29,14 +29,12 @@ use Rattle.olr_spec.specs.Extension.{Path, is_path, first, last, LongestStart, L
 use Rattle.olr_spec.specs.Points.{stretch, CoveredWith, NextWith, FollowWith, last_position, OfPathWith}
 use Rattle.olr_spec.specs.Bearings.{IsSector, sector}
 use Rattle.olr_spec.specs.Reference.{reference_with, Reference, leg, legs, first_kept, last_kept, kept_points}
-use Rattle.olr_spec.specs.Encoding.{Answer, Points, Encodes, EncodesWith, IsPoint}
+use Rattle.olr_spec.specs.Encoding.{Answer, Points, EncodesWith}
 use Rattle.olr_spec.specs.Bytes.{IsReference, HasBytes, v3_fault}
-use Rattle.olr_spec.specs.Decoded.{decoded, IsNear}
 use Rattle.olr_spec.specs.Joins.{Joins}
-use Rattle.olr_spec.specs.Receiver.{Outgoing, Incoming, Measure, Receiver, Recovers, attributes, candidates}
-use Rattle.olr_spec.specs.Receiver.{last_number, decoded_coord, is_nearest}
-use Rattle.olr_spec.specs.Recovery.{DistinctWith, IsLineAt, IsStretches, IsStretchesWith, IsKeptPart, IsLeft, IsCut}
-use Rattle.olr_spec.specs.Recovery.{IsClose, IsStep, IsWeighted, are_cosines, are_spaced, lon_apart, lat_apart}
+use Rattle.olr_spec.specs.Receiver.{Measure, Receiver, Recovers}
+use Rattle.olr_spec.specs.Recovery.{DistinctWith, IsStretchesWith}
+use Rattle.olr_spec.specs.Recovery.{IsWeighted, are_cosines, lon_apart, lat_apart}
 use Rattle.olr_spec.specs.Footprint.{Sees, FootWith}
 use Rattle.olr_spec.specs.Detours.{ChangedLine, changes_of, AccountsFor, Difference, Detour, Near}
 use Rattle.olr_spec.specs.Queries.{TraversedOf, IsLastTestedWith, CoverageQuery, query_to_with, QueriesOfWith, IsClear}
@@ -202,18 +200,6 @@ RoutesJoinElsewhere g =
     IsNearlyAlong a b M N (stretch ls (first_kept (legs M ls) positive js) (last_kept (legs M ls) negative js))
     → Joins N ls (kept_points (legs M ls) positive negative js)
 
--- each LRP of an answer is decoded near its coordinate on the map
-abbrev pub DecodedNear : Type 0
-DecodedNear =
-    (M : Map) → IsMap M → (P : Path) → IsTrue (is_path P.lines) → (r : Reference) → Encodes M P (Points r)
-    → (k v : ℕ) → IsPoint M P k v → (p : ℤ × ℤ) × (decoded r k ≡ Some p) × IsNear k p (coord_at M v)
-
--- and nothing but these LRPs is decoded
-abbrev pub DecodedPoints : Type 0
-DecodedPoints =
-    (M : Map) → IsMap M → (P : Path) → IsTrue (is_path P.lines) → (r : Reference) → Encodes M P (Points r)
-    → (k : ℕ) → IsTrue (is_some (decoded r k)) → (v : ℕ) × IsPoint M P k v
-
 -- ---- receivers
 
 -- if the path's own line is distinct at each LRP, every receiver recovers the legs between the LRPs, and nothing else
@@ -232,41 +218,9 @@ RecoveredElsewhere g =
     OfPathWith g M P (λ E _ _ js. (r ≡ reference_with g (legs M E.lines) E.pos E.neg js)
     × RecoversLegs g M N E.lines (kept_points (legs M E.lines) E.pos E.neg js))
 
--- together the legs are the lines from the first remaining LRP to the last
-abbrev pub StretchesJoin : Type 0
-StretchesJoin = (M : Map) (P : Path) (ws : List (List ℕ)) → IsStretches M P ws → IsKeptPart M P (concat ws)
-
 -- each measure is that of some receiver
 abbrev pub SomeReceiver : Type 0
 SomeReceiver = (far : Measure) → (R : Receiver) × (R.far ≡ far)
-
--- the length that an offset byte cuts off, decoded as any value of its interval, differs from what remains of the
--- offset by less than a 256th of the first leg, or of the last
-abbrev pub Offsets : Type 0
-Offsets =
-    (M : Map) → IsMap M → (P : Path) → IsTrue (is_path P.lines) → (r : Reference) → Encodes M P (Points r)
-    → (ws : List (List ℕ)) → IsStretches M P ws → (front back : ℕ) → IsLeft M P front back → (q : ℕ) → 0 < q
-    → ((c : ℕ) → IsCut q (first (map (dm_of M) ws)) r.pos c → IsClose q (first (map (dm_of M) ws)) front c)
-    × ((c : ℕ) → IsCut q (last (map (dm_of M) ws)) r.neg c → IsClose q (last (map (dm_of M) ws)) back c)
-
--- and the length of each leg is in the interval of its distance to the next point
-abbrev pub Distances : Type 0
-Distances =
-    (M : Map) → IsMap M → (P : Path) → IsTrue (is_path P.lines) → (r : Reference) → Encodes M P (Points r)
-    → (ws : List (List ℕ)) → IsStretches M P ws → AllZip (λ a w. IsStep a (dm_of M w)) (attributes r) ws
-
--- if the other nodes with candidates are at least three times the bound of DecodedNear away from the node of an LRP,
--- that node is the nearest
-abbrev pub Nearest : Type 0
-Nearest =
-    (M : Map) → IsMap M → (P : Path) → IsTrue (is_path P.lines) → (r : Reference) → Encodes M P (Points r)
-    → (n d scale : ℕ) (far : Measure) → IsWeighted n d scale far M r
-    → ((k x : ℕ) → k < last_number r → IsLineAt M P Outgoing k x →
-    IsTrue (are_spaced n d k Outgoing (leg M x) (candidates M)) →
-    IsTrue (is_nearest far Outgoing (decoded_coord r k) (leg M x) (candidates M)))
-    × ((x : ℕ) → IsLineAt M P Incoming (last_number r) x →
-    IsTrue (are_spaced n d (last_number r) Incoming (leg M x) (candidates M)) →
-    IsTrue (is_nearest far Incoming (decoded_coord r (last_number r)) (leg M x) (candidates M)))
 
 -- the weighted sum of both axes is such a measure, with any cosines that at these coordinates are in range
 abbrev pub SomeWeighted : Type 0

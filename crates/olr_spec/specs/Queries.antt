@@ -11,7 +11,7 @@
 --     KnownQuery, IsKnownWith g M ls e      a coverage query along a path's own lines ls, by its positions in them; that
 --         it is right
 --     AreKnown M ls ks      each of these is
---     KnownOf M ls queries ks      each of these is, and is one of the path's coverage queries
+--     KnownOfWith g M ls queries ks      each of these is, and is one of the path's coverage queries
 --     AreKnownWith g, KnownOfWith g      the same with a margin
 --     IsClear M C l      no detour over the changed lines C is as short
 --     QueriesFromWith g M ls is queries, QueriesOfWith g M P queries      one coverage query for each LRP of the list is,
@@ -130,6 +130,3 @@ IsClear M C l = ¬ Detour M C l.from l.to l.within
 
 abbrev pub AreKnown : Map → List ℕ → List KnownQuery → Type 0
 AreKnown = AreKnownWith no_margin
-
-abbrev pub KnownOf : Map → List ℕ → List CoverageQuery → List KnownQuery → Type 0
-KnownOf = KnownOfWith no_margin

@@ -5,9 +5,9 @@
 --     Distinct far M P r      the path's own line at each LRP is the nearest candidate by the measure far, and has no
 --         twin
 --     IsLineAtWith g, DistinctWith g, ..      the same with a margin
---     stretches ls ks, IsStretches M P ws      the legs: the lines between each two neighbouring LRPs
---     IsKeptPart M P ls      the lines from the first remaining LRP to the last
---     IsLeft M P front back      what remains of the two offsets at these LRPs, in decimetres
+--     stretches ls ks, IsStretchesWith g M P ws      the legs: the lines between each two neighbouring LRPs
+--     IsKeptPartWith g M P ls      the lines from the first remaining LRP to the last
+--     IsLeftWith g M P front back      what remains of the two offsets at these LRPs, in decimetres
 --     IsCut q s o c, IsClose q s a c      c is a value in the interval of an offset byte over the length s; c and a
 --         differ by less than a 256th of it. c is in q-ths of a decimetre
 --     IsStep a len      a length is in the interval of a distance to the next point
@@ -160,12 +160,3 @@ DistinctAt = DistinctAtWith no_margin
 
 abbrev pub Distinct : Measure → Map → Path → Reference → Type 0
 Distinct = DistinctWith no_margin
-
-abbrev pub IsStretches : Map → Path → List (List ℕ) → Type 0
-IsStretches = IsStretchesWith no_margin
-
-abbrev pub IsKeptPart : Map → Path → List ℕ → Type 0
-IsKeptPart = IsKeptPartWith no_margin
-
-abbrev pub IsLeft : Map → Path → ℕ → ℕ → Type 0
-IsLeft = IsLeftWith no_margin
