@@ -22,7 +22,7 @@ use olr_coords::Coord;
 use olr_model::{LineId, MapRead, NodeId};
 use std::alloc::{AllocError, Global};
 
-/// Why a candidate at the node of the path's own line stands in the way.
+/// Why a candidate at the node of the path's own line is an ambiguity.
 #[derive(Clone, Copy)]
 pub(crate) enum Cause {
     /// It is a twin of the own line.
@@ -31,7 +31,7 @@ pub(crate) enum Cause {
     Unclear,
 }
 
-/// Appends the candidates among these that stand in the way for this cause.
+/// Appends the candidates among these that are ambiguities for this cause.
 fn push_lines<M: MapRead>(
     found: &mut Vec<Found>,
     map: &M,
@@ -83,7 +83,7 @@ pub(crate) fn side_at(k: usize, count: usize) -> Side
     }
 }
 
-/// Appends what stands in the way of a path's own line at an LRP.
+/// Appends the ambiguities of a path's own line at an LRP.
 fn push_at<M: MapRead>(
     alloc: Global,
     found: &mut Vec<Found>,
@@ -105,7 +105,7 @@ fn push_at<M: MapRead>(
     Ok(())
 }
 
-/// What stands in the way of reading a reference in only one way, see `obstacles`. The grid may have rivals alone.
+/// The ambiguities of a reference, see `obstacles`. The grid may have rivals alone.
 fn obstacles_by<M: MapRead>(
     alloc: Global,
     map: &M,
@@ -128,7 +128,7 @@ fn obstacles_by<M: MapRead>(
     Ok(found)
 }
 
-/// What stands in the way of reading a reference in only one way, LRP by LRP: at each first twins, then other lines that
+/// The ambiguities of a reference, LRP by LRP: at each first twins, then other lines that
 /// are unclear by their directions, then other nodes, each in ascending order. `own` are the path's own lines at the LRPs,
 /// and `grid` is that of the map.
 pub fn obstacles<M: MapRead>(

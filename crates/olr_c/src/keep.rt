@@ -5,7 +5,7 @@ ghost use Rattle.olr_c.specs.Asked.{Asked, IsNew};
 ghost use Rattle.olr_c.specs.Asked as asked;
 
 use olr_register::Register;
-use olr_run::{Room, RunFault, Status, run_bytes};
+use olr_run::{RunFault, Scratch, Status, run_bytes};
 use std::alloc::Global;
 
 /// A register and its last reply.
@@ -16,7 +16,7 @@ pub struct Keep {
     /// The last reply.
     pub reply: Vec<u8>,
     /// Buffers for records, reused from call to call.
-    room: Room,
+    scratch: Scratch,
 }
 
 impl Keep {
@@ -27,7 +27,7 @@ impl Keep {
         Keep {
             register: Register::new(alloc),
             reply: Vec::new(alloc),
-            room: Room::new(alloc),
+            scratch: Scratch::new(alloc),
         }
     }
 
@@ -43,7 +43,7 @@ impl Keep {
             records,
             &mut self.reply,
             false,
-            &mut self.room,
+            &mut self.scratch,
         );
         code_of(&ended)
     }

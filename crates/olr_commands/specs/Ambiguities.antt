@@ -1,8 +1,8 @@
--- What stands in the way of reading the strings of paths in only one way.
---     NamedObstacle, named name o      a path's name, the number of an LRP, and what stands in the way there
---     obstacles_of M A xs      what stands in the way of an answer, where xs are the path's own lines at its LRPs: nothing
+-- The ambiguities of the strings of paths.
+--     NamedObstacle, named name o      a path's name, the number of an LRP, and an ambiguity there
+--     obstacles_of M A xs      the ambiguities of an answer, where xs are the path's own lines at its LRPs: nothing
 --         if it has no reference
---     Ambiguity g M p es      es is what stands in the way of the named path's string on M, LRP by LRP
+--     Ambiguity g M p es      es are the ambiguities of the named path's string on M, LRP by LRP
 --     Ambiguities g M ps es      the same of all these paths, in order
 --     AskedAmbiguities c name es      of the path of that name; of all paths if there is no name
 use Rattle.std.specs.Prelude.{◌≡◌, ℕ, List, [], ◌∷◌, ◌++◌, map, Option, Some, None}

@@ -32,7 +32,7 @@ pub enum Command {
     Dump,
     /// Asks that a log be replaced by a dump. A register has no log: nothing changes.
     Compact,
-    /// Asks what stands in the way of reading strings in only one way: that of one path, or those of all.
+    /// Asks for the ambiguities of strings: those of one path, or of all.
     Ambiguous(Option<String>),
     /// Asks for the fields of a reference, given as base64 text.
     Explain(Vec<u8>),

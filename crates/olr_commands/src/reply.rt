@@ -22,12 +22,12 @@ pub struct Dump {
     pub text: Vec<u8>,
 }
 
-/// What stands in the way of reading a path's string in only one way.
+/// An ambiguity of a path's string.
 #[derive(Drop)]
 pub struct NamedObstacle {
     /// The path's name.
     pub name: String,
-    /// What stands in the way, and at which LRP.
+    /// The ambiguity, and at which LRP.
     pub found: Found,
 }
 
@@ -46,6 +46,6 @@ pub enum Reply {
     Records(Dump),
     /// The names of paths, in the order of the register.
     Names(Vec<String>),
-    /// What stands in the way of reading strings in only one way, path by path in the order of the register.
+    /// The ambiguities of strings, path by path in the order of the register.
     Obstacles(Vec<NamedObstacle>),
 }

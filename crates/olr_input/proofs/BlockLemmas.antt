@@ -5,11 +5,11 @@ use Rattle.std.proofs.lemmas.List.{append_assoc, take-append-drop, drop-drop, dr
 use Rattle.std.specs.Io.KnownBytes.{Keeps, Consumes, IsAtEnd, prepend_known}
 use Rattle.olr_input.specs.Sessions.{Known}
 
-pub consumes_kept : (a b c : Known) (out : List ℕ) → Keeps a b → Consumes b c out → Consumes a c out
-consumes_kept None b c out h k = tt
-consumes_kept (Some xs) None c out h k = absurd h
-consumes_kept (Some xs) (Some ys) None out h k = k
-consumes_kept (Some xs) (Some ys) (Some zs) out h k = sym h ∙ k
+pub consumes_stored : (a b c : Known) (out : List ℕ) → Keeps a b → Consumes b c out → Consumes a c out
+consumes_stored None b c out h k = tt
+consumes_stored (Some xs) None c out h k = absurd h
+consumes_stored (Some xs) (Some ys) None out h k = k
+consumes_stored (Some xs) (Some ys) (Some zs) out h k = sym h ∙ k
 
 pub nothing_at_hand : (k : Known) (bytes : List ℕ) → prepend_known (take (0 - 0) (drop 0 bytes)) k ≡ k
 nothing_at_hand None bytes = refl

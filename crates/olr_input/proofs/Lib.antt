@@ -4,11 +4,11 @@ pub mod CsvRecords
 pub mod Writing
 pub mod BlockLemmas
 pub mod WholeLines
-pub mod KeptLines
+pub mod StoredLines
 pub mod Parts
 pub mod Passing
 pub mod LoggedEvents
 pub mod WholeTexts
-pub mod Renewing
+pub mod Compacting
 pub mod LineRecords
 pub mod LinesRead

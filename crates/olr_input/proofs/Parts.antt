@@ -1,15 +1,15 @@
--- The lines of a log that aren't kept yet, in three parts.
+-- The lines of a log that aren't stored yet, in three parts.
 use Rattle.std.proofs.Common.{◌≡◌, ◌∙◌, ◌≤◌, ◌<◌, ◌-◌, ◌+◌, ℕ, Bool, true, false, List, [], ◌∷◌, ◌++◌, length, take}
 use Rattle.std.proofs.Common.{drop, refl, sym, ap, ◌⊎◌, inl, inr, arith, length-append, length-drop}
 use Rattle.std.proofs.lemmas.List.{take-append-drop, take_at, drop_at, append-nil, append_assoc, length-take-le}
 use Rattle.std.proofs.Common.{◌≢◌, subst, zero, suc}
 use Rattle.std.proofs.Math.Seq.{drop-nil}
 use Rattle.olr_input.specs.Journals.{is_empty, is_whole, is_whole_from, IsFront}
-use Rattle.olr_input.specs.KeptLines.{AreLines, IsLineFor, Turns, Waiting, has_line, is_firm_from, settled, turned}
+use Rattle.olr_input.specs.StoredLines.{AreLines, IsLineFor, Turns, Waiting, has_line, is_firm_from, concluded, turned}
 use Rattle.std.specs.Prelude.{if◌then◌else◌}
-use Rattle.olr_input.specs.declared.unkept.Effect.{Effect}
-use Rattle.olr_input.specs.declared.unkept.Effect.TheVariants as effect
-use Rattle.olr_input.proofs.KeptLines.{no_line, turns_join, whole_join, front_either}
+use Rattle.olr_input.specs.declared.unstored.Effect.{Effect}
+use Rattle.olr_input.specs.declared.unstored.Effect.TheVariants as effect
+use Rattle.olr_input.proofs.StoredLines.{no_line, turns_join, whole_join, front_either}
 
 pub record Parts (l : List ℕ) (r h : ℕ) (A B N : List ℕ) : Type 0 where
   pub splits : l ≡ A ++ (B ++ N)
@@ -169,7 +169,7 @@ module _ (l : List ℕ) (r h : ℕ) where
             turns_join false to B N (a.batch holds) (some holds)
 
     turns_by : (k : Effect) → e ≡ k → has_line k ≡ true → (o : Bool) → Turns o (turned k o) N
-    turns_by k is kept o = subst (λ (x : Effect). Turns o (turned x o) N) is (a.next.turns (ap has_line is ∙ kept) o)
+    turns_by k is stored o = subst (λ (x : Effect). Turns o (turned x o) N) is (a.next.turns (ap has_line is ∙ stored) o)
 
     pub held_lines : (n : ℕ) → n ≡ length l → (e ≡ effect.Begin) ⊎ ((e ≡ effect.Change) × (r < h)) →
         AreLines l r n effect.Nothing
@@ -218,17 +218,17 @@ module _ (l : List ℕ) (r h : ℕ) where
     not_empty [] some = absurd (some refl)
     not_empty (b ∷ x) some = refl
 
-    as_effect : (k : Effect) → e ≡ k → (x : Waiting) → x ≡ settled k N (pair A B) → x ≡ settled e N (pair A B)
-    as_effect k is x same = same ∙ ap (λ (f : Effect). settled f N (pair A B)) (sym is)
+    as_effect : (k : Effect) → e ≡ k → (x : Waiting) → x ≡ concluded k N (pair A B) → x ≡ concluded e N (pair A B)
+    as_effect k is x same = same ∙ ap (λ (f : Effect). concluded f N (pair A B)) (sym is)
 
     pub opened_waits : (n : ℕ) → n ≡ length l → (e ≡ effect.Begin) ⊎ ((e ≡ effect.Change) × (r < h)) →
-        waits l r n ≡ settled e (drop h l) (waits l r h)
+        waits l r n ≡ concluded e (drop h l) (waits l r h)
     opened_waits n len (inl is) = as_effect effect.Begin is _ (held_waits n len)
     opened_waits n len (inr both) =
         as_effect effect.Change both.0 _ (rw (not_empty B (some_batch both.1)) (held_waits n len))
 
     pub readied_waits : (n : ℕ) → n ≡ length l → (e ≡ effect.Commit) ⊎ ((e ≡ effect.Change) × (h ≤ r)) →
-        waits l n n ≡ settled e (drop h l) (waits l r h)
+        waits l n n ≡ concluded e (drop h l) (waits l r h)
     readied_waits n len (inl is) = as_effect effect.Commit is _ (ready_waits n len)
     readied_waits n len (inr both) =
         let none = none_batch both.1 in

@@ -5,11 +5,11 @@ use Rattle.std.proofs.KnownBytes.{Appends-nil, Appends-trans}
 use Rattle.std.proofs.Math.Seq.{take-add}
 use Rattle.std.proofs.lemmas.List.{append-nil, append_assoc, take-append-drop}
 use Rattle.olr_input.specs.Buffers.{pending, Sends}
-use Rattle.olr_input.specs.Gates.{is_closed, ready, Keeping, None_sent, None_ready, All_kept, Cut_off}
+use Rattle.olr_input.specs.Gates.{is_closed, ready, Storing, None_sent, None_ready, All_stored, Cut_off}
 use Rattle.olr_input.specs.Gates.{SameBatch, Passes, PassesAll, PassesSome, compaction}
 use Rattle.std.specs.Prelude.{IfOk, IfErr, OnErr, Result}
 use Rattle.olr_input.specs.declared.ends.RunFault.{RunFault}
-use Rattle.olr_input.specs.Journals.{MayHaveKept, Only}
+use Rattle.olr_input.specs.Journals.{MayHaveStored, Only}
 use Rattle.olr_input.specs.Sessions.{Known}
 use Rattle.olr_input.specs.declared.buffered.Buffered.{Buffered}
 use Rattle.olr_input.specs.declared.gate.Gate.{Gate}
@@ -24,40 +24,40 @@ still_open false c h e = refl
 both_none : (x y : List ℕ) → x ≡ [] → y ≡ [] → x ++ y ≡ []
 both_none x y e f = (λ i. e i ++ f i)
 
-module _ {J : Type 0} (kept : J → List ℕ) (may_leave : J → List ℕ → Type 0) where
-  keeping_trans : (g h i : Gate J) (x y : List ℕ) → Keeping kept may_leave g h x → Keeping kept may_leave h i y →
-      Keeping kept may_leave g i (x ++ y)
-  keeping_trans g h i x y (None_sent j r s c) (None_sent k q t d) =
+module _ {J : Type 0} (stored : J → List ℕ) (may_leave : J → List ℕ → Type 0) where
+  storing_trans : (g h i : Gate J) (x y : List ℕ) → Storing stored may_leave g h x → Storing stored may_leave h i y →
+      Storing stored may_leave g i (x ++ y)
+  storing_trans g h i x y (None_sent j r s c) (None_sent k q t d) =
       None_sent (k ∙ j) (q ∙ r) (both_none x y s t) (λ closed. d (c closed))
-  keeping_trans g h i x y (None_sent j r s c) (None_ready o k a b) =
+  storing_trans g h i x y (None_sent j r s c) (None_ready o k a b) =
       None_ready (still_open (is_closed g) (is_closed h) c o) (k ∙ j) (sym r ∙ a) b
-  keeping_trans g h i x y (None_sent j r s c) (All_kept o k only b) =
-      All_kept (still_open (is_closed g) (is_closed h) c o) (k ∙ (λ n. kept (j n) ++ r n)) only b
-  keeping_trans g h i x y (None_sent j r s c) (Cut_off o may some t d) =
+  storing_trans g h i x y (None_sent j r s c) (All_stored o k only b) =
+      All_stored (still_open (is_closed g) (is_closed h) c o) (k ∙ (λ n. stored (j n) ++ r n)) only b
+  storing_trans g h i x y (None_sent j r s c) (Cut_off o may some t d) =
       Cut_off (still_open (is_closed g) (is_closed h) c o)
-      (subst (λ (a : J). MayHaveKept kept may_leave a (ready g) i.journal) j
-      (subst (λ (a : List ℕ). MayHaveKept kept may_leave h.journal a i.journal) r may))
+      (subst (λ (a : J). MayHaveStored stored may_leave a (ready g) i.journal) j
+      (subst (λ (a : List ℕ). MayHaveStored stored may_leave h.journal a i.journal) r may))
       (λ none. some (r ∙ none)) (both_none x y s t) d
-  keeping_trans g h i x y (None_ready o j a b) (None_sent k q t d) = None_ready o (k ∙ j) a (q ∙ b)
-  keeping_trans g h i x y (None_ready o j a b) (None_ready p k c d) = None_ready o (k ∙ j) a d
-  keeping_trans g h i x y (None_ready o j a b) (All_kept p k only d) =
-      All_kept o (k ∙ (λ n. kept (j n) ++ (b ∙ sym a) n)) only d
-  keeping_trans g h i x y (None_ready o j a b) (Cut_off p may some t d) = absurd (some b)
-  keeping_trans g h i x y (All_kept o k only b) (None_sent j q t d) =
-      All_kept o (ap kept j ∙ k) (subst (λ (a : J). Only (kept a) (may_leave a)) (sym j) only) (q ∙ b)
-  keeping_trans g h i x y (All_kept o k only b) (None_ready p j c d) =
-      All_kept o (ap kept j ∙ k) (subst (λ (a : J). Only (kept a) (may_leave a)) (sym j) only) d
-  keeping_trans g h i x y (All_kept o k only b) (All_kept p l also d) =
-      All_kept o (l ∙ ap (λ (a : List ℕ). kept h.journal ++ a) b ∙ append-nil (kept h.journal) ∙ k) also d
-  keeping_trans g h i x y (All_kept o k only b) (Cut_off p may some t d) = absurd (some b)
-  keeping_trans g h i x y (Cut_off o may some s c) (None_sent j q t d) =
-      Cut_off o (subst (λ (a : J). MayHaveKept kept may_leave g.journal (ready g) a) (sym j) may) some
+  storing_trans g h i x y (None_ready o j a b) (None_sent k q t d) = None_ready o (k ∙ j) a (q ∙ b)
+  storing_trans g h i x y (None_ready o j a b) (None_ready p k c d) = None_ready o (k ∙ j) a d
+  storing_trans g h i x y (None_ready o j a b) (All_stored p k only d) =
+      All_stored o (k ∙ (λ n. stored (j n) ++ (b ∙ sym a) n)) only d
+  storing_trans g h i x y (None_ready o j a b) (Cut_off p may some t d) = absurd (some b)
+  storing_trans g h i x y (All_stored o k only b) (None_sent j q t d) =
+      All_stored o (ap stored j ∙ k) (subst (λ (a : J). Only (stored a) (may_leave a)) (sym j) only) (q ∙ b)
+  storing_trans g h i x y (All_stored o k only b) (None_ready p j c d) =
+      All_stored o (ap stored j ∙ k) (subst (λ (a : J). Only (stored a) (may_leave a)) (sym j) only) d
+  storing_trans g h i x y (All_stored o k only b) (All_stored p l also d) =
+      All_stored o (l ∙ ap (λ (a : List ℕ). stored h.journal ++ a) b ∙ append-nil (stored h.journal) ∙ k) also d
+  storing_trans g h i x y (All_stored o k only b) (Cut_off p may some t d) = absurd (some b)
+  storing_trans g h i x y (Cut_off o may some s c) (None_sent j q t d) =
+      Cut_off o (subst (λ (a : J). MayHaveStored stored may_leave g.journal (ready g) a) (sym j) may) some
       (both_none x y s t) (d c)
-  keeping_trans g h i x y (Cut_off o may some s c) (None_ready p j a b) =
+  storing_trans g h i x y (Cut_off o may some s c) (None_ready p j a b) =
       absurd (let never : true ≡ false = sym c ∙ p in cc)
-  keeping_trans g h i x y (Cut_off o may some s c) (All_kept p k only b) =
+  storing_trans g h i x y (Cut_off o may some s c) (All_stored p k only b) =
       absurd (let never : true ≡ false = sym c ∙ p in cc)
-  keeping_trans g h i x y (Cut_off o may some s c) (Cut_off p may2 some2 t d) =
+  storing_trans g h i x y (Cut_off o may some s c) (Cut_off p may2 some2 t d) =
       absurd (let never : true ≡ false = sym c ∙ p in cc)
 
   same_trans : (g h i : Gate J) → SameBatch g h → SameBatch h i → SameBatch g i
@@ -69,14 +69,14 @@ module _ {J : Type 0} (kept : J → List ℕ) (may_leave : J → List ℕ → Ty
 
   module _ {W : Type 0} (contents : W → Known) where
     abbrev Through : Gate J → Buffered W → Gate J → Buffered W → List ℕ → Type 0
-    Through g o h p text = Passes kept may_leave contents g o h p text
+    Through g o h p text = Passes stored may_leave contents g o h p text
 
     pub passes_trans : (g h i : Gate J) (o p q : Buffered W) (x y : List ℕ) → Through g o h p x → Through h p i q y →
         Through g o i q (x ++ y)
     passes_trans g h i o p q x y a b =
         record {
           sent = a.sent ++ b.sent;
-          keeping = keeping_trans g h i a.sent b.sent a.keeping b.keeping;
+          storing = storing_trans g h i a.sent b.sent a.storing b.storing;
           others = same_trans g h i a.others b.others;
           due = b.due ∙ a.due;
           device = Appends-trans (contents o.device) (contents p.device) (contents q.device) a.sent b.sent a.device b.device;
@@ -91,7 +91,7 @@ module _ {J : Type 0} (kept : J → List ℕ) (may_leave : J → List ℕ → Ty
     passes_held g o p x d e =
         record {
           sent = [];
-          keeping = None_sent refl refl refl (λ c. c);
+          storing = None_sent refl refl refl (λ c. c);
           others = same_refl g;
           due = refl;
           device = subst (λ (w : W). Appends (contents o.device) (contents w) []) (sym d) (Appends-nil (contents o.device));
@@ -102,13 +102,13 @@ module _ {J : Type 0} (kept : J → List ℕ) (may_leave : J → List ℕ → Ty
     passes_none g o p d e = passes_held g o p [] d (e ∙ sym (append-nil (pending o)))
 
     -- what is held back is sent
-    pub passes_sent : (g h : Gate J) (o p : Buffered W) → ((sent : List ℕ) → Keeping kept may_leave g h sent) →
+    pub passes_sent : (g h : Gate J) (o p : Buffered W) → ((sent : List ℕ) → Storing stored may_leave g h sent) →
         SameBatch g h → compaction h ≡ compaction g → Sends (contents o.device) (pending o) (contents p.device) (pending p)
         → Through g o h p []
     passes_sent g h o p keeps same due s =
         record {
           sent = s.0;
-          keeping = keeps s.0;
+          storing = keeps s.0;
           others = same;
           due = due;
           device = s.1;
@@ -116,12 +116,12 @@ module _ {J : Type 0} (kept : J → List ℕ) (may_leave : J → List ℕ → Ty
         }
 
     -- or can't be
-    pub passes_kept : (g h : Gate J) (o : Buffered W) → Keeping kept may_leave g h [] → SameBatch g h →
+    pub passes_stored : (g h : Gate J) (o : Buffered W) → Storing stored may_leave g h [] → SameBatch g h →
         compaction h ≡ compaction g → Through g o h o []
-    passes_kept g h o keeps same due =
+    passes_stored g h o keeps same due =
         record {
           sent = [];
-          keeping = keeps;
+          storing = keeps;
           others = same;
           due = due;
           device = Appends-nil (contents o.device);
@@ -143,7 +143,7 @@ module _ {J : Type 0} (kept : J → List ℕ) (may_leave : J → List ℕ → Ty
         }
 
     pub passed_front : (g h i : Gate J) (o p q : Buffered W) (text : List ℕ) (n : ℕ) → Passed g o h p text n →
-        n < length text → Through h p i q [] → PassesAll kept may_leave contents g o i q text (Err Write)
+        n < length text → Through h p i q [] → PassesAll stored may_leave contents g o i q text (Err Write)
     passed_front g h i o p q text n a more b = (
       take n text,
       drop n text,
@@ -157,7 +157,7 @@ module _ {J : Type 0} (kept : J → List ℕ) (may_leave : J → List ℕ → Ty
     pub some_after : (g h : Gate J) (o n p q : Buffered W) (k : ℕ) (text : List ℕ) (r : Result ℕ RunFault) →
         n.device ≡ o.device → pending n ≡ pending o ++ take k text → k ≤ 0 → Through g n h p [] → q.device ≡ p.device
         → IfOk r (λ i. i ≤ length text) → IfOk r (λ i. pending q ≡ pending p ++ take i text) → OnErr r (pending q ≡ pending p)
-        → IfErr r (λ e. e ≡ Write) → PassesSome kept may_leave contents g o h q text r
+        → IfErr r (λ e. e ≡ Write) → PassesSome stored may_leave contents g o h q text r
     some_after g h o n p q k text r d e none sent f bound more nothing fault = by_result r bound more nothing fault
       where
         first : Through g o g n []
@@ -166,7 +166,7 @@ module _ {J : Type 0} (kept : J → List ℕ) (may_leave : J → List ℕ → Ty
             ∙ append-nil (pending o))
 
         by_result : (r : Result ℕ RunFault) → IfOk r (λ i. i ≤ length text) → IfOk r (λ i. pending q ≡ pending p ++ take i text) →
-            OnErr r (pending q ≡ pending p) → IfErr r (λ e. e ≡ Write) → PassesSome kept may_leave contents g o h q text r
+            OnErr r (pending q ≡ pending p) → IfErr r (λ e. e ≡ Write) → PassesSome stored may_leave contents g o h q text r
         by_result (Ok i) b m x y =
             (b, passes_trans g g h o n q [] (take i text) first (passes_trans g h h n p q [] (take i text) sent (passes_held h p q (take i text) f m)))
         by_result (Err z) b m x y =

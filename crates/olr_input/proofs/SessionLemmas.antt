@@ -13,7 +13,7 @@ use Rattle.csv.specs.declared.parser.State.TheVariants as st
 use Rattle.std.specs.Bool.{MatchBool}
 use Rattle.std.specs.Prelude.{option_map, IfSome}
 use Rattle.csv.specs.declared.reader.Reader.{Reader}
-use Rattle.olr_input.specs.Sessions.{Known, Answer, Event, Took, Wrote, Renewal, Renewed, History, exchanges, IsPlain}
+use Rattle.olr_input.specs.Sessions.{Known, Answer, Event, Took, Wrote, Replacement, Compacted, History, exchanges, IsPlain}
 use Rattle.olr_input.specs.Sessions.{AreKnown, BeginsWith, StaysPlain, TakesLeft, csv_left, csv_records}
 use Rattle.olr_input.proofs.CsvRecords.{all_records, none_taken, one_taken}
 
@@ -98,15 +98,15 @@ pub history_join : {S : Type 0} (happens : S → Event → S → Type 0) (a b c 
 history_join {S} happens a b c [] fs h k = subst (λ (x : S). History happens x fs c) (sym h) k
 history_join happens a b c (e ∷ es) fs h k = (h.0, h.1, history_join happens h.0 b c es fs h.2 k)
 
-pub exchanges_more : (rs : List (List (List ℕ))) (texts : List Answer) (renewals : List Renewal) (r : List (List ℕ))
-    (text : Answer) (renewal : Renewal) → length texts ≡ length rs → length renewals ≡ length rs →
-    exchanges (rs ++ r ∷ []) (texts ++ text ∷ []) (renewals ++ renewal ∷ [])
-    ≡ exchanges rs texts renewals ++ Took r ∷ Wrote text ∷ Renewed renewal ∷ []
-exchanges_more [] [] [] r text renewal l k = refl
-exchanges_more [] (w ∷ texts) renewals r text renewal l k = absurd (omega arith)
-exchanges_more [] [] (d ∷ renewals) r text renewal l k = absurd (omega arith)
-exchanges_more (x ∷ rs) [] renewals r text renewal l k = absurd (omega arith)
-exchanges_more (x ∷ rs) (w ∷ texts) [] r text renewal l k = absurd (omega arith)
-exchanges_more (x ∷ rs) (w ∷ texts) (d ∷ renewals) r text renewal l k =
-    ap (λ (es : List Event). Took x ∷ Wrote w ∷ Renewed d ∷ es)
-    (exchanges_more rs texts renewals r text renewal (omega arith) (omega arith))
+pub exchanges_more : (rs : List (List (List ℕ))) (texts : List Answer) (replacements : List Replacement) (r : List (List ℕ))
+    (text : Answer) (replacement : Replacement) → length texts ≡ length rs → length replacements ≡ length rs →
+    exchanges (rs ++ r ∷ []) (texts ++ text ∷ []) (replacements ++ replacement ∷ [])
+    ≡ exchanges rs texts replacements ++ Took r ∷ Wrote text ∷ Compacted replacement ∷ []
+exchanges_more [] [] [] r text replacement l k = refl
+exchanges_more [] (w ∷ texts) replacements r text replacement l k = absurd (omega arith)
+exchanges_more [] [] (d ∷ replacements) r text replacement l k = absurd (omega arith)
+exchanges_more (x ∷ rs) [] replacements r text replacement l k = absurd (omega arith)
+exchanges_more (x ∷ rs) (w ∷ texts) [] r text replacement l k = absurd (omega arith)
+exchanges_more (x ∷ rs) (w ∷ texts) (d ∷ replacements) r text replacement l k =
+    ap (λ (es : List Event). Took x ∷ Wrote w ∷ Compacted d ∷ es)
+    (exchanges_more rs texts replacements r text replacement (omega arith) (omega arith))

@@ -1,11 +1,11 @@
--- The gate of a run with a log: what is sent, and what is kept before it.
---     Keeping old new sent      what happened to the log while these bytes were sent
+-- The gate of a run with a log: what is sent, and what is stored before it.
+--     Storing old new sent      what happened to the log while these bytes were sent
 --     Passes g o h p text      a text was written: of what was held back before, and of the text, the first bytes were sent,
 --         and the rest is held back
 --     PassesSome, PassesAll      the first bytes of a text were written; or all of it
 --     Untouched g h      nothing happened to the log, and it is replaced from the same length on
---     SettledBy u accepted v      the record whose line was taken last was accepted or rejected
---     Renews j g records h      these records were given, to be kept in the place of the log
+--     ConcludedBy u accepted v      the record whose line was taken last was accepted or rejected
+--     Compacts j g records h      these records were given, to be stored in the place of the log
 --     PutsOff j g h      they could not be made
 --     TookLine g fields h, LostLine g h      the line of a record was taken, or could not be
 --     compaction g      when the log is replaced by the records of what is accepted
@@ -18,27 +18,27 @@ use Rattle.std.specs.Prelude.{if◌then◌else◌, List, [], ◌++◌, take, len
 use Rattle.std.specs.Prelude.{Result, Ok, Err, ◌⊎◌}
 use Rattle.std.specs.Io.KnownBytes.{Appends}
 use Rattle.olr_input.specs.Buffers.{pending}
-use Rattle.olr_input.specs.Journals.{IsFront, MayHaveKept, Only, is_empty, is_whole}
-use Rattle.olr_input.specs.KeptLines.{effect_of, is_compact, kept_line, settled}
+use Rattle.olr_input.specs.Journals.{IsFront, MayHaveStored, Only, is_empty, is_whole}
+use Rattle.olr_input.specs.StoredLines.{effect_of, is_compact, stored_line, concluded}
 use Rattle.olr_input.specs.Sessions.{Known}
-use Rattle.olr_input.specs.Unkept.{waiting, next_line}
+use Rattle.olr_input.specs.Unstored.{waiting, next_line}
 use Rattle.olr_input.specs.declared.buffered.Buffered.{Buffered}
 use Rattle.olr_input.specs.declared.journal.Journal as journal
 use Rattle.olr_input.specs.declared.ends.RunFault.{RunFault}
 use Rattle.olr_input.specs.declared.ends.RunFault.TheVariants as fault
 use Rattle.olr_input.specs.declared.gate.Gate.{Gate}
-use Rattle.olr_input.specs.declared.unkept.Effect.{Effect}
-use Rattle.olr_input.specs.declared.unkept.Unkept.{Unkept}
+use Rattle.olr_input.specs.declared.unstored.Effect.{Effect}
+use Rattle.olr_input.specs.declared.unstored.Unstored.{Unstored}
 
 -- nothing is sent through a gate whose log has failed
 abbrev pub is_closed : {J : Type 0} → Gate J → Bool
 is_closed g = is_some g.fault
 
 abbrev pub ready : {J : Type 0} → Gate J → List ℕ
-ready g = (waiting g.unkept).ready
+ready g = (waiting g.unstored).ready
 
 abbrev pub batch : {J : Type 0} → Gate J → List ℕ
-batch g = (waiting g.unkept).batch
+batch g = (waiting g.unstored).batch
 
 -- ---- when a log is replaced
 
@@ -47,10 +47,10 @@ batch g = (waiting g.unkept).batch
 pub record Compaction : Type 0 where
   pub is_wanted : Bool
   pub next_from : ℕ
-  pub renewed_from : ℕ
+  pub compacted_from : ℕ
 
 abbrev pub compaction : {J : Type 0} → Gate J → Compaction
-compaction g = record { is_wanted = g.is_wanted; next_from = g.next_from; renewed_from = g.renewed_from }
+compaction g = record { is_wanted = g.is_wanted; next_from = g.next_from; compacted_from = g.compacted_from }
 
 -- the records are asked for if they are wanted, the log has not failed, and no batch is open
 abbrev pub asks : {J : Type 0} → Gate J → Bool
@@ -61,9 +61,9 @@ asks g = g.is_wanted && not (is_closed g) && is_empty (batch g)
 abbrev pub is_due : ℕ → Bool → Effect → Compaction → Bool
 is_due len accepted effect c = c.is_wanted || (accepted && is_compact effect) || nat_le c.next_from len
 
-abbrev pub settled_compaction : ℕ → Bool → Effect → Compaction → Compaction
-settled_compaction len accepted effect c =
-    record { is_wanted = is_due len accepted effect c; next_from = c.next_from; renewed_from = c.renewed_from }
+abbrev pub concluded_compaction : ℕ → Bool → Effect → Compaction → Compaction
+concluded_compaction len accepted effect c =
+    record { is_wanted = is_due len accepted effect c; next_from = c.next_from; compacted_from = c.compacted_from }
 
 -- twice a length, and the least length at least
 abbrev pub twice : ℕ → ℕ → ℕ
@@ -77,37 +77,37 @@ first_from len least = if nat_le least len then twice len least else least
 -- after the records were given, or could not be
 abbrev pub put_off : ℕ → Compaction → Compaction
 put_off len c =
-    record { is_wanted = false; next_from = twice len c.renewed_from; renewed_from = c.renewed_from }
+    record { is_wanted = false; next_from = twice len c.compacted_from; compacted_from = c.compacted_from }
 
 -- ---- what passes
 
 pub record Untouched {J : Type 0} (g h : Gate J) : Type 0 where
   pub journal : h.journal ≡ g.journal
   pub fault : h.fault ≡ g.fault
-  pub length : h.renewed_from ≡ g.renewed_from
+  pub length : h.compacted_from ≡ g.compacted_from
 
--- what was ready is kept before anything is sent
-pub data Keeping {J : Type 0} (kept : J → List ℕ) (may_leave : J → List ℕ → Type 0) (old new : Gate J) (sent : List ℕ) :
+-- what was ready is stored before anything is sent
+pub data Storing {J : Type 0} (stored : J → List ℕ) (may_leave : J → List ℕ → Type 0) (old new : Gate J) (sent : List ℕ) :
     Type 0 where
   None_sent : new.journal ≡ old.journal → ready new ≡ ready old → sent ≡ []
-      → (is_closed old ≡ true → is_closed new ≡ true) → Keeping kept may_leave old new sent
+      → (is_closed old ≡ true → is_closed new ≡ true) → Storing stored may_leave old new sent
   None_ready : is_closed old ≡ false → new.journal ≡ old.journal → ready old ≡ [] → ready new ≡ []
-      → Keeping kept may_leave old new sent
-  All_kept : is_closed old ≡ false → kept new.journal ≡ kept old.journal ++ ready old
-      → Only (kept new.journal) (may_leave new.journal) → ready new ≡ [] → Keeping kept may_leave old new sent
-  Cut_off : is_closed old ≡ false → MayHaveKept kept may_leave old.journal (ready old) new.journal → ready old ≢ []
-      → sent ≡ [] → is_closed new ≡ true → Keeping kept may_leave old new sent
+      → Storing stored may_leave old new sent
+  All_stored : is_closed old ≡ false → stored new.journal ≡ stored old.journal ++ ready old
+      → Only (stored new.journal) (may_leave new.journal) → ready new ≡ [] → Storing stored may_leave old new sent
+  Cut_off : is_closed old ≡ false → MayHaveStored stored may_leave old.journal (ready old) new.journal → ready old ≢ []
+      → sent ≡ [] → is_closed new ≡ true → Storing stored may_leave old new sent
 
 -- the open batch, and the line that was taken last, stay
 pub record SameBatch {J : Type 0} (g h : Gate J) : Type 0 where
   pub batches : batch h ≡ batch g
-  pub line : next_line h.unkept ≡ next_line g.unkept
-  pub effects : h.unkept.effect ≡ g.unkept.effect
+  pub line : next_line h.unstored ≡ next_line g.unstored
+  pub effects : h.unstored.effect ≡ g.unstored.effect
 
-pub record Passes {J W : Type 0} (kept : J → List ℕ) (may_leave : J → List ℕ → Type 0) (contents : W → Known) (g : Gate J)
+pub record Passes {J W : Type 0} (stored : J → List ℕ) (may_leave : J → List ℕ → Type 0) (contents : W → Known) (g : Gate J)
     (o : Buffered W) (h : Gate J) (p : Buffered W) (text : List ℕ) : Type 0 where
   pub sent : List ℕ
-  pub keeping : Keeping kept may_leave g h sent
+  pub storing : Storing stored may_leave g h sent
   pub others : SameBatch g h
   pub due : compaction h ≡ compaction g
   pub device : Appends (contents o.device) (contents p.device) sent
@@ -115,57 +115,57 @@ pub record Passes {J W : Type 0} (kept : J → List ℕ) (may_leave : J → List
 
 abbrev pub PassesSome : {J W : Type 0} → (J → List ℕ) → (J → List ℕ → Type 0) → (W → Known) → Gate J → Buffered W →
     Gate J → Buffered W → List ℕ → Result ℕ RunFault → Type 0
-PassesSome kept may_leave contents g o h p text (Ok n) =
-    (n ≤ length text) × Passes kept may_leave contents g o h p (take n text)
-PassesSome kept may_leave contents g o h p text (Err e) =
-    Passes kept may_leave contents g o h p [] × (e ≡ fault.Write)
+PassesSome stored may_leave contents g o h p text (Ok n) =
+    (n ≤ length text) × Passes stored may_leave contents g o h p (take n text)
+PassesSome stored may_leave contents g o h p text (Err e) =
+    Passes stored may_leave contents g o h p [] × (e ≡ fault.Write)
 
 abbrev pub PassesAll : {J W : Type 0} → (J → List ℕ) → (J → List ℕ → Type 0) → (W → Known) → Gate J → Buffered W →
     Gate J → Buffered W → List ℕ → Result (Unit {0}) RunFault → Type 0
-PassesAll kept may_leave contents g o h p text (Ok done) = Passes kept may_leave contents g o h p text
-PassesAll kept may_leave contents g o h p text (Err e) =
-    (front rest : List ℕ) × (text ≡ front ++ rest) × (rest ≢ []) × Passes kept may_leave contents g o h p front
+PassesAll stored may_leave contents g o h p text (Ok done) = Passes stored may_leave contents g o h p text
+PassesAll stored may_leave contents g o h p text (Err e) =
+    (front rest : List ℕ) × (text ≡ front ++ rest) × (rest ≢ []) × Passes stored may_leave contents g o h p front
     × (e ≡ fault.Write)
 
-pub record SettledBy (u : Unkept) (accepted : Bool) (v : Unkept) : Type 0 where
-  pub waits : waiting v ≡ (if accepted then settled u.effect (next_line u) (waiting u) else waiting u)
+pub record ConcludedBy (u : Unstored) (accepted : Bool) (v : Unstored) : Type 0 where
+  pub waits : waiting v ≡ (if accepted then concluded u.effect (next_line u) (waiting u) else waiting u)
   pub fronts : (front : List ℕ) → IsFront (waiting v).ready front →
       IsFront (waiting u).ready front ⊎ (front ≡ (waiting v).ready)
 
 -- a log that isn't closed was replaced by these records, with all that was ready, where no batch is open; or it was left, since
 -- they aren't whole, or since it refused them
-pub data Renewal {J : Type 0} (j : journal.Ghosts J) (g : Gate J) (records : List ℕ) (h : Gate J) : Type 0 where
-  Replaced : batch g ≡ [] → j.kept h.journal ≡ records → (Only (j.kept g.journal) (j.may_leave g.journal)
-      → Only (j.kept h.journal) (j.may_leave h.journal)) → waiting h.unkept ≡ record { ready = []; batch = [] }
-      → Renewal j g records h
-  Left_as_it_was : (is_whole records ≡ false) ⊎ j.refuses g.journal records h.journal → j.kept h.journal ≡ j.kept g.journal
-      → (Only (j.kept g.journal) (j.may_leave g.journal) → Only (j.kept h.journal) (j.may_leave h.journal))
-      → waiting h.unkept ≡ waiting g.unkept → Renewal j g records h
+pub data Replacement {J : Type 0} (j : journal.Ghosts J) (g : Gate J) (records : List ℕ) (h : Gate J) : Type 0 where
+  Replaced : batch g ≡ [] → j.stored h.journal ≡ records → (Only (j.stored g.journal) (j.may_leave g.journal)
+      → Only (j.stored h.journal) (j.may_leave h.journal)) → waiting h.unstored ≡ record { ready = []; batch = [] }
+      → Replacement j g records h
+  Left_as_it_was : (is_whole records ≡ false) ⊎ j.refuses g.journal records h.journal → j.stored h.journal ≡ j.stored g.journal
+      → (Only (j.stored g.journal) (j.may_leave g.journal) → Only (j.stored h.journal) (j.may_leave h.journal))
+      → waiting h.unstored ≡ waiting g.unstored → Replacement j g records h
 
-pub record Renews {J : Type 0} (j : journal.Ghosts J) (g : Gate J) (records : List ℕ) (h : Gate J) : Type 0 where
+pub record Compacts {J : Type 0} (j : journal.Ghosts J) (g : Gate J) (records : List ℕ) (h : Gate J) : Type 0 where
   pub cut : (c : List ℕ) → j.may_leave h.journal c → j.may_leave g.journal c ⊎ ((c ≡ records) × (is_closed g ≡ false))
-  pub going : is_closed h ≡ false → (is_closed g ≡ false) × Renewal j g records h
-  pub length : h.renewed_from ≡ g.renewed_from
+  pub going : is_closed h ≡ false → (is_closed g ≡ false) × Replacement j g records h
+  pub length : h.compacted_from ≡ g.compacted_from
 
 -- nothing happens to the log before it has twice its length
 pub record PutsOff {J : Type 0} (j : journal.Ghosts J) (g h : Gate J) : Type 0 where
   pub untouched : Untouched g h
-  pub unkept : h.unkept ≡ g.unkept
+  pub unstored : h.unstored ≡ g.unstored
   pub due : compaction h ≡ put_off (j.size g.journal) (compaction g)
 
 -- the line of a record was taken
 pub record TookLine {J : Type 0} (g : Gate J) (fields : List (List ℕ)) (h : Gate J) : Type 0 where
   pub untouched : Untouched g h
   pub due : compaction h ≡ compaction g
-  pub waits : waiting h.unkept ≡ waiting g.unkept
-  pub effect : h.unkept.effect ≡ effect_of fields
-  pub line : next_line h.unkept ≡ kept_line fields
+  pub waits : waiting h.unstored ≡ waiting g.unstored
+  pub effect : h.unstored.effect ≡ effect_of fields
+  pub line : next_line h.unstored ≡ stored_line fields
 
 -- or could not be taken
 pub record LostLine {J : Type 0} (g h : Gate J) : Type 0 where
   pub untouched : Untouched g h
   pub due : compaction h ≡ compaction g
-  pub waits : waiting h.unkept ≡ waiting g.unkept
+  pub waits : waiting h.unstored ≡ waiting g.unstored
 
 -- the line of a record that was read was taken, or there was none
 abbrev pub TakesFound : {J : Type 0} → Gate J → Result Bool RunFault → List (List ℕ) → Gate J → Result Bool RunFault →

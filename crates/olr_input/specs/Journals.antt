@@ -32,8 +32,8 @@ pub record IsFront (text front : List ℕ) : Type 0 where
 abbrev pub Only : List ℕ → (List ℕ → Type 0) → Type 0
 Only text may_leave = (c : List ℕ) → may_leave c → c ≡ text
 
--- a log that was to keep these records may leave what it left before, or beside all that it kept a whole front of them
-abbrev pub MayHaveKept : {J : Type 0} → (J → List ℕ) → (J → List ℕ → Type 0) → J → List ℕ → J → Type 0
-MayHaveKept kept may_leave old records new =
+-- a log that was to store these records may leave what it left before, or beside all that it stored a whole front of them
+abbrev pub MayHaveStored : {J : Type 0} → (J → List ℕ) → (J → List ℕ → Type 0) → J → List ℕ → J → Type 0
+MayHaveStored stored may_leave old records new =
     (c : List ℕ) → may_leave new c → may_leave old c
-    ⊎ ((front : List ℕ) × IsFront records front × (c ≡ kept old ++ front))
+    ⊎ ((front : List ℕ) × IsFront records front × (c ≡ stored old ++ front))

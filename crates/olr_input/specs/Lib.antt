@@ -8,7 +8,7 @@ pub mod Blocks
 pub mod LineRecords
 pub mod Inputs
 pub mod Journals
-pub mod KeptLines
-pub mod Unkept
+pub mod StoredLines
+pub mod Unstored
 pub mod Gates
 pub mod LoggedRuns

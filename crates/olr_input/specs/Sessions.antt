@@ -1,11 +1,11 @@
 -- Sessions: the events at the two ends of a run, in order.
 --     Event      a record was taken, or there was none, or none could be taken, or none was taken since the texts so
 --         far could not be sent; a text was written, or only its first bytes, and not the rest; what was then given to be
---         kept in the place of a log
---     Renewal      no records were asked for; these were, and they were given; or they could not be made, which was said
+--         stored in the place of a log
+--     Replacement      no records were asked for; these were, and they were given; or they could not be made, which was said
 --     History happens a es b      these events, in this order, lead from a to b; happens is the relation of one event
 --     Answer      the text of an answer, and whether it accepts its record
---     exchanges rs answers renewals      each record was taken, and then its answer was written, and then records were
+--     exchanges rs answers replacements      each record was taken, and then its answer was written, and then records were
 --         given, if they were asked for
 --     WritesAll before later bytes r      all of the bytes were written, or only the first of them
 --     TakesLeft old new failed r fields      what a call that takes a record says of the records that were left, and of those that are
@@ -32,10 +32,10 @@ most_pending = 2 ^ 16
 
 -- ---- events
 
-pub data Renewal : Type 0 where
-  Unasked : Renewal
-  Given : (records : List ℕ) → Renewal
-  Lacking : Renewal
+pub data Replacement : Type 0 where
+  Unasked : Replacement
+  Given : (records : List ℕ) → Replacement
+  Lacking : Replacement
 
 abbrev pub Answer : Type 0
 Answer = List ℕ × Bool
@@ -47,18 +47,18 @@ pub data Event : Type 0 where
   Not_sent : Event
   Wrote : (answer : Answer) → Event
   Cut : (front rest : List ℕ) (accepts : Bool) → Event
-  Renewed : (renewal : Renewal) → Event
+  Compacted : (replacement : Replacement) → Event
 
 abbrev pub History : {S : Type 0} → (S → Event → S → Type 0) → S → List Event → S → Type 0
 History happens a [] b = a ≡ b
 History {S} happens a (e ∷ es) b = (m : S) × happens a e m × History happens m es b
 
-abbrev pub exchanges : List (List (List ℕ)) → List Answer → List Renewal → List Event
-exchanges [] answers renewals = []
-exchanges (r ∷ rs) [] renewals = []
+abbrev pub exchanges : List (List (List ℕ)) → List Answer → List Replacement → List Event
+exchanges [] answers replacements = []
+exchanges (r ∷ rs) [] replacements = []
 exchanges (r ∷ rs) (answer ∷ answers) [] = []
-exchanges (r ∷ rs) (answer ∷ answers) (renewal ∷ renewals) =
-    Took r ∷ Wrote answer ∷ Renewed renewal ∷ exchanges rs answers renewals
+exchanges (r ∷ rs) (answer ∷ answers) (replacement ∷ replacements) =
+    Took r ∷ Wrote answer ∷ Compacted replacement ∷ exchanges rs answers replacements
 
 -- ---- calls
 
@@ -127,8 +127,8 @@ PlainHappens left failed old new before later (Not_taken e) = (failed new ≡ tr
 PlainHappens left failed old new before later Not_sent = (new ≡ old) × Keeps before later
 PlainHappens left failed old new before later (Wrote answer) = (new ≡ old) × Appends before later answer.0
 PlainHappens left failed old new before later (Cut front rest accepts) = (new ≡ old) × Appends before later front
-PlainHappens left failed old new before later (Renewed Unasked) = (new ≡ old) × Keeps before later
-PlainHappens left failed old new before later (Renewed renewal) = ⊥
+PlainHappens left failed old new before later (Compacted Unasked) = (new ≡ old) × Keeps before later
+PlainHappens left failed old new before later (Compacted replacement) = ⊥
 
 -- ---- records as csv reads them
 

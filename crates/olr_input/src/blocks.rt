@@ -141,7 +141,7 @@ impl<R: Read + Drop> Read for Blocks<R> {
     ghost remaining = { input_left R.remaining };
 
     /// Reads no block before all of the last one is given.
-    #[tactic(auto, using(crate::proofs::BlockLemmas::consumes_kept))]
+    #[tactic(auto, using(crate::proofs::BlockLemmas::consumes_stored))]
     fn read(&mut self, bytes: &mut [u8]) -> io::Result<usize>
         ensures bound { ReadsAtMost result bytes.new }
         ensures bytes { ReadConsumes (input_left R.remaining self.old) (input_left R.remaining self.new) result bytes.new }

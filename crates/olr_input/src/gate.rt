@@ -2,20 +2,20 @@
 
 ghost use Rattle.std.specs.Prelude.{◌≡◌, ◌≤◌, ◌++◌, ℕ, List, [], take, length, None, Ok, IfOk, IfErr, OnOk, OnErr, IsTrue, false, true};
 ghost use Rattle.csv.specs.Records.{fields_of};
-ghost use Rattle.olr_input.specs.Gates.{Keeping, Passes, PassesSome, PassesAll, Untouched, SameBatch, SettledBy};
-ghost use Rattle.olr_input.specs.Gates.{TakesFound, Renews, PutsOff, is_closed, ready, batch, compaction, asks};
-ghost use Rattle.olr_input.specs.Gates.{first_from, settled_compaction};
+ghost use Rattle.olr_input.specs.Gates.{Storing, Passes, PassesSome, PassesAll, Untouched, SameBatch, ConcludedBy};
+ghost use Rattle.olr_input.specs.Gates.{TakesFound, Compacts, PutsOff, is_closed, ready, batch, compaction, asks};
+ghost use Rattle.olr_input.specs.Gates.{first_from, concluded_compaction};
 ghost use Rattle.olr_input.specs.Gates as gates;
 ghost use Rattle.olr_input.specs.Journals as journals;
-ghost use Rattle.olr_input.specs.declared.unkept.Effect.TheVariants as effect;
-ghost use Rattle.olr_input.specs.KeptLines.{effect_of, kept_line};
-ghost use Rattle.olr_input.specs.Unkept.{waiting, next_line};
+ghost use Rattle.olr_input.specs.declared.unstored.Effect.TheVariants as effect;
+ghost use Rattle.olr_input.specs.StoredLines.{effect_of, stored_line};
+ghost use Rattle.olr_input.specs.Unstored.{waiting, next_line};
 ghost use Rattle.olr_input.specs.Buffers.{pending};
 
 use crate::buffered::Buffered;
 use crate::ends::RunFault;
 use crate::journal::Journal;
-use crate::unkept::Unkept;
+use crate::unstored::Unstored;
 use crate::whole::is_whole;
 use csv::ByteRecord;
 use std::alloc::{AllocError, Global};
@@ -33,15 +33,15 @@ pub enum LogFault {
     Moved,
 }
 
-/// A log with the lines that it doesn't keep yet. The answers of a run are sent through it: none leaves before each change
-/// that was accepted before it is kept, and none at all once the log has failed.
+/// A log with the lines that it doesn't store yet. The answers of a run are sent through it: none leaves before each change
+/// that was accepted before it is stored, and none at all once the log has failed.
 #[derive(Drop)]
 pub struct Gate<J: Drop> {
     journal: J,
-    unkept: Unkept,
+    unstored: Unstored,
     fault: Option<LogFault>,
     /// The least length of a log that is replaced by the records of what is accepted.
-    renewed_from: usize,
+    compacted_from: usize,
     /// The length from which on it is replaced the next time.
     next_from: usize,
     /// It should be replaced as soon as no batch is open.
@@ -51,44 +51,44 @@ pub struct Gate<J: Drop> {
 impl<J: Journal + Drop> Gate<J> {
     /// A gate with this log, before the first record. A log of so many bytes is replaced by the records of what is accepted. One
     /// that has them already was replaced at the start, or could not be: it is replaced once it has twice its length.
-    pub fn new(alloc: Global, journal: J, renewed_from: usize) -> Gate<J>
+    pub fn new(alloc: Global, journal: J, compacted_from: usize) -> Gate<J>
         ensures journal { result.journal ≡ journal }
-        ensures waiting { waiting result.unkept ≡ record { ready = []; batch = [] } }
+        ensures waiting { waiting result.unstored ≡ record { ready = []; batch = [] } }
         ensures open { result.fault ≡ None }
         ensures due { compaction result
-            ≡ record { is_wanted = false; next_from = first_from (J.size journal) renewed_from; renewed_from = renewed_from } }
+            ≡ record { is_wanted = false; next_from = first_from (J.size journal) compacted_from; compacted_from = compacted_from } }
     {
-        let next_from = first_from(journal.len(), renewed_from);
+        let next_from = first_from(journal.len(), compacted_from);
         Gate {
             journal,
-            unkept: Unkept::new(alloc),
+            unstored: Unstored::new(alloc),
             fault: None,
-            renewed_from,
+            compacted_from,
             next_from,
             is_wanted: false,
         }
     }
 
-    /// The log, as far as it was kept.
+    /// The log, as far as it was stored.
     pub fn get_ref(&self) -> &J
         ensures { result.now ≡ self.now.journal }
     {
         &self.journal
     }
 
-    /// The log, as far as it was kept. Lines that it doesn't keep yet are dropped.
+    /// The log, as far as it was stored. Lines that it doesn't store yet are dropped.
     pub fn into_journal(self) -> J
         ensures { result ≡ self.journal }
     {
         let Gate {
             journal,
-            unkept,
+            unstored,
             fault: _,
-            renewed_from: _,
+            compacted_from: _,
             next_from: _,
             is_wanted: _,
         } = self;
-        drop(unkept);
+        drop(unstored);
         journal
     }
 
@@ -102,12 +102,12 @@ impl<J: Journal + Drop> Gate<J> {
     /// Takes the line of a record that will be answered next.
     fn take(&mut self, fields: &ByteRecord) -> Result<(), AllocError>
         ensures untouched { Untouched self.old self.new }
-        ensures waiting { waiting self.new.unkept ≡ waiting self.old.unkept }
-        ensures effect { OnOk result (self.new.unkept.effect ≡ effect_of (fields_of fields.now)) }
-        ensures line { OnOk result (next_line self.new.unkept ≡ kept_line (fields_of fields.now)) }
+        ensures waiting { waiting self.new.unstored ≡ waiting self.old.unstored }
+        ensures effect { OnOk result (self.new.unstored.effect ≡ effect_of (fields_of fields.now)) }
+        ensures line { OnOk result (next_line self.new.unstored ≡ stored_line (fields_of fields.now)) }
         ensures due { compaction self.new ≡ compaction self.old }
     {
-        self.unkept.take(fields)
+        self.unstored.take(fields)
     }
 
     /// The log is not replaced before it has twice its length.
@@ -115,22 +115,22 @@ impl<J: Journal + Drop> Gate<J> {
         ensures { PutsOff J.Journal self.old self.new }
     {
         self.is_wanted = false;
-        self.next_from = twice(self.journal.len(), self.renewed_from);
+        self.next_from = twice(self.journal.len(), self.compacted_from);
     }
 
-    /// Whether the records of all that is accepted are wanted, to be kept in the place of the log.
+    /// Whether the records of all that is accepted are wanted, to be stored in the place of the log.
     pub fn wants_records(&self) -> bool
         ensures { result ≡ asks self.now }
     {
-        self.is_wanted && self.fault.is_none() && !self.unkept.is_in_batch()
+        self.is_wanted && self.fault.is_none() && !self.unstored.is_in_batch()
     }
 
     /// Keeps whole records, which were asked for, in the place of the log. It is left as it was if they aren't whole, or if
     /// they could not be written, which is said. If it isn't known what it holds, the gate is closed.
-    #[tactic(auto, using(crate::proofs::Renewing::renews_on))]
-    pub fn renew(&mut self, records: &[u8])
+    #[tactic(auto, using(crate::proofs::Compacting::compacts_on))]
+    pub fn compact_log(&mut self, records: &[u8])
         requires { asks self.old ≡ true }
-        ensures renews { Renews J.Journal self.old records.now self.new }
+        ensures compacts { Compacts J.Journal self.old records.now self.new }
         ensures due { compaction self.new ≡ gates.put_off (J.size self.new.journal) (compaction self.old) }
     {
         self.replace_if(records);
@@ -146,10 +146,10 @@ impl<J: Journal + Drop> Gate<J> {
     }
 
     /// Keeps records in the place of the log, if it is where it was and they are whole.
-    #[tactic(auto, using(crate::proofs::Renewing::asked, crate::proofs::Renewing::renews_closed, crate::proofs::Renewing::renews_broken))]
+    #[tactic(auto, using(crate::proofs::Compacting::asked, crate::proofs::Compacting::compacts_closed, crate::proofs::Compacting::compacts_broken))]
     fn replace_if(&mut self, records: &[u8])
         requires { asks self.old ≡ true }
-        ensures renews { Renews J.Journal self.old records.now self.new }
+        ensures compacts { Compacts J.Journal self.old records.now self.new }
         ensures due { compaction self.new ≡ compaction self.old }
     {
         if self.is_in_place() && is_whole(records) {
@@ -162,11 +162,11 @@ impl<J: Journal + Drop> Gate<J> {
         requires whole { IsTrue (journals.is_whole records.now) }
         requires open { is_closed self.old ≡ false }
         requires none { batch self.old ≡ [] }
-        ensures renews { Renews J.Journal self.old records.now self.new }
+        ensures compacts { Compacts J.Journal self.old records.now self.new }
         ensures due { compaction self.new ≡ compaction self.old }
     {
         match self.journal.replace(records) {
-            Ok(true) => self.unkept.forget_ready(),
+            Ok(true) => self.unstored.forget_ready(),
             Ok(false) => self.journal.report_unreplaced(true),
             Err(error) => self.fault = Some(LogFault::Unwritten(error)),
         }
@@ -191,26 +191,26 @@ impl<J: Journal + Drop> Gate<J> {
     }
 
     /// The record whose line was taken last is accepted or rejected.
-    pub fn settle(&mut self, accepted: bool)
+    pub fn conclude(&mut self, accepted: bool)
         ensures untouched { Untouched self.old self.new }
-        ensures settled { SettledBy self.old.unkept accepted self.new.unkept }
-        ensures wanted { IsTrue accepted → self.old.unkept.effect ≡ effect.Compact → IsTrue self.new.is_wanted }
+        ensures concluded { ConcludedBy self.old.unstored accepted self.new.unstored }
+        ensures wanted { IsTrue accepted → self.old.unstored.effect ≡ effect.Compact → IsTrue self.new.is_wanted }
         ensures still { IsTrue self.old.is_wanted → IsTrue self.new.is_wanted }
         ensures due { compaction self.new
-            ≡ settled_compaction (J.size self.old.journal) accepted self.old.unkept.effect (compaction self.old) }
+            ≡ concluded_compaction (J.size self.old.journal) accepted self.old.unstored.effect (compaction self.old) }
     {
         self.is_wanted = self.is_due(accepted);
-        self.unkept.settle(accepted);
+        self.unstored.conclude(accepted);
     }
 
     /// Whether the log should be replaced, once the record that was taken last is accepted or rejected.
     fn is_due(&self, accepted: bool) -> bool
-        ensures wanted { IsTrue accepted → self.now.unkept.effect ≡ effect.Compact → IsTrue result }
+        ensures wanted { IsTrue accepted → self.now.unstored.effect ≡ effect.Compact → IsTrue result }
         ensures still { IsTrue self.now.is_wanted → IsTrue result }
-        ensures due { result ≡ gates.is_due (J.size self.now.journal) accepted self.now.unkept.effect (compaction self.now) }
+        ensures due { result ≡ gates.is_due (J.size self.now.journal) accepted self.now.unstored.effect (compaction self.now) }
     {
         self.is_wanted
-            || (accepted && self.unkept.is_compact())
+            || (accepted && self.unstored.is_compact())
             || self.journal.len() >= self.next_from
     }
 
@@ -229,36 +229,36 @@ impl<J: Journal + Drop> Gate<J> {
 
     /// Keeps what is ready, and returns once it is on the disk. Returns false, and closes the gate, if the log failed. Another
     /// process's change is looked for before this one writes, which would hide it, and again before answers leave.
-    fn keep(&mut self) -> bool
-        ensures keeping { (sent : List ℕ) → (result ≡ false → sent ≡ [])
-            → Keeping J.kept J.may_leave self.old self.new sent }
-        ensures kept { result ≡ true → (ready self.new ≡ []) × (is_closed self.new ≡ false) }
+    fn store(&mut self) -> bool
+        ensures storing { (sent : List ℕ) → (result ≡ false → sent ≡ [])
+            → Storing J.stored J.may_leave self.old self.new sent }
+        ensures stored { result ≡ true → (ready self.new ≡ []) × (is_closed self.new ≡ false) }
         ensures others { SameBatch self.old self.new }
         ensures due { compaction self.new ≡ compaction self.old }
     {
         if self.fault.is_some() || !self.is_in_place() {
             return false;
         }
-        if self.unkept.ready().is_empty() {
+        if self.unstored.ready().is_empty() {
             return true;
         }
-        if let Err(error) = self.journal.keep(self.unkept.ready()) {
+        if let Err(error) = self.journal.store(self.unstored.ready()) {
             self.fault = Some(LogFault::Unwritten(error));
             return false;
         }
-        self.unkept.forget_ready();
+        self.unstored.forget_ready();
         self.is_in_place()
     }
 
     /// Keeps what is ready, and then sends what the output holds back. `Write` is the fault if either fails; nothing is
     /// sent once the log has failed.
     pub fn send<W: Write + Drop>(&mut self, output: &mut Buffered<W>) -> Result<(), RunFault>
-        ensures passes { Passes J.kept J.may_leave W.contents self.old output.old self.new output.new [] }
+        ensures passes { Passes J.stored J.may_leave W.contents self.old output.old self.new output.new [] }
         ensures sent { OnOk result (pending output.new ≡ []) }
-        ensures kept { OnOk result ((ready self.new ≡ []) × (is_closed self.new ≡ false)) }
+        ensures stored { OnOk result ((ready self.new ≡ []) × (is_closed self.new ≡ false)) }
         ensures fault { IfErr result (λ e. e ≡ RunFault.Write) }
     {
-        if !self.keep() {
+        if !self.store() {
             return Err(RunFault::Write);
         }
         match output.send_pending() {
@@ -273,7 +273,7 @@ impl<J: Journal + Drop> Gate<J> {
         waits: bool,
         output: &mut Buffered<W>,
     ) -> Result<(), RunFault>
-        ensures passes { Passes J.kept J.may_leave W.contents self.old output.old self.new output.new [] }
+        ensures passes { Passes J.stored J.may_leave W.contents self.old output.old self.new output.new [] }
         ensures fault { IfErr result (λ e. e ≡ RunFault.Write) }
     {
         if !waits {
@@ -288,7 +288,7 @@ impl<J: Journal + Drop> Gate<J> {
         output: &mut Buffered<W>,
         text: &[u8],
     ) -> Result<usize, RunFault>
-        ensures { PassesSome J.kept J.may_leave W.contents self.old output.old self.new output.new text.now result }
+        ensures { PassesSome J.stored J.may_leave W.contents self.old output.old self.new output.new text.now result }
     {
         let taken = hold(output, text)?;
         if taken > 0 {
@@ -304,7 +304,7 @@ impl<J: Journal + Drop> Gate<J> {
         output: &mut Buffered<W>,
         text: &[u8],
     ) -> Result<(), RunFault>
-        ensures { PassesAll J.kept J.may_leave W.contents self.old output.old self.new output.new text.now result }
+        ensures { PassesAll J.stored J.may_leave W.contents self.old output.old self.new output.new text.now result }
     {
         let mut written = 0;
         while written < text.len() {

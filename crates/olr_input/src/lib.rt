@@ -17,7 +17,7 @@ mod machine;
 mod output;
 mod sessions;
 mod sources;
-mod unkept;
+mod unstored;
 mod whole;
 
 pub use buffered::Buffered;
@@ -31,5 +31,5 @@ pub use logged::Logged;
 pub use output::write_all;
 pub use sessions::{Plain, Session};
 pub use sources::{Records, Source};
-pub use unkept::{Effect, Unkept};
+pub use unstored::{Effect, Unstored};
 pub use whole::is_whole;

@@ -205,7 +205,9 @@ impl<R: Read + Drop> LineRecords<R> {
         Ok(if found { Some(true) } else { None })
     }
 
-    /// Takes the next record. Returns false if there is none.
+    /// Takes the next record. Returns false if there is none. Not inlined: it would take room in each call of `next`, whatever
+    /// the input.
+    #[inline(never)]
     fn take(&mut self, row: &mut ByteRecord) -> Result<bool, RunFault>
         requires { HasNoEnd self.old.line.items }
         ensures steps { IfOk result (λ found. Steps R.remaining self.old self.new (Some found) (fields_of row.new)) }

@@ -1,4 +1,4 @@
-//! A session whose accepted changes are kept in a log.
+//! A session whose accepted changes are stored in a log.
 
 ghost use Rattle.std.specs.Prelude.{◌≡◌};
 ghost use Rattle.olr_input.specs.Gates as gates;
@@ -13,7 +13,7 @@ use crate::sources::Source;
 use csv::ByteRecord;
 use std::io::Write;
 
-/// The records of a source, whose accepted changes are kept in a log before their answers are sent.
+/// The records of a source, whose accepted changes are stored in a log before their answers are sent.
 #[derive(Drop)]
 pub struct Logged<S: Drop, J: Drop> {
     source: S,
@@ -60,7 +60,7 @@ impl<S: Source + Drop, W: Write + Drop, J: Journal + Drop> Session<Buffered<W>> 
         text: &[u8],
         accepted: bool,
     ) -> Result<(), RunFault> {
-        self.gate.settle(accepted);
+        self.gate.conclude(accepted);
         self.gate.write(output, text)
     }
 
@@ -68,9 +68,9 @@ impl<S: Source + Drop, W: Write + Drop, J: Journal + Drop> Session<Buffered<W>> 
         self.gate.wants_records()
     }
 
-    fn renew(&mut self, records: &[u8]) {
+    fn compact_log(&mut self, records: &[u8]) {
         if self.gate.wants_records() {
-            self.gate.renew(records);
+            self.gate.compact_log(records);
         }
     }
 

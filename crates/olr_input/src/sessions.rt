@@ -3,7 +3,7 @@
 ghost use Rattle.std.specs.Prelude.{◌≡◌, Bool, ℕ, List, IfErr, false, true};
 ghost use Rattle.std.specs.Io.KnownBytes.{Keeps};
 ghost use Rattle.csv.specs.Records.{fields_of};
-ghost use Rattle.olr_input.specs.Sessions.{Event, Given, Lacking, Renewed, Unasked, TakesNext, Writes, PlainHappens};
+ghost use Rattle.olr_input.specs.Sessions.{Event, Given, Lacking, Compacted, Unasked, TakesNext, Writes, PlainHappens};
 
 use crate::ends::RunFault;
 use crate::output::{flush, write_all};
@@ -29,19 +29,19 @@ pub trait Session<W> {
     fn answer(&mut self, output: &mut W, text: &[u8], accepted: bool) -> Result<(), RunFault>
         ensures { Writes happens (self.old, output.old) text.now accepted (self.new, output.new) result };
 
-    /// Whether the records of all that is accepted so far are asked for, to be kept in the place of a log.
+    /// Whether the records of all that is accepted so far are asked for, to be stored in the place of a log.
     fn wants_records(&self) -> bool
         ensures asked { result ≡ asks self.now }
-        ensures unasked { result ≡ false → (output : W) → happens (self.now, output) (Renewed Unasked) (self.now, output) };
+        ensures unasked { result ≡ false → (output : W) → happens (self.now, output) (Compacted Unasked) (self.now, output) };
 
     /// Keeps these records in the place of a log, if it can. If they were not asked for, nothing changes.
-    fn renew(&mut self, records: &[u8])
-        ensures asked { asks self.old ≡ true → (output : W) → happens (self.old, output) (Renewed (Given records.now)) (self.new, output) }
+    fn compact_log(&mut self, records: &[u8])
+        ensures asked { asks self.old ≡ true → (output : W) → happens (self.old, output) (Compacted (Given records.now)) (self.new, output) }
         ensures unasked { asks self.old ≡ false → self.new ≡ self.old };
 
     /// Says that the records could not be made. If they were not asked for, nothing changes.
     fn lack_records(&mut self)
-        ensures asked { asks self.old ≡ true → (output : W) → happens (self.old, output) (Renewed Lacking) (self.new, output) }
+        ensures asked { asks self.old ≡ true → (output : W) → happens (self.old, output) (Compacted Lacking) (self.new, output) }
         ensures unasked { asks self.old ≡ false → self.new ≡ self.old };
 }
 
@@ -56,7 +56,7 @@ fn flush_before<W: Write>(waits: bool, output: &mut W) -> Result<(), RunFault>
     flush(output)
 }
 
-/// The records of a source, whose answers are written at once and kept nowhere.
+/// The records of a source, whose answers are written at once and stored nowhere.
 #[derive(Drop)]
 pub struct Plain<S: Drop> {
     source: S,
@@ -89,7 +89,7 @@ impl<S: Source + Drop, W: Write> Session<W> for Plain<S> {
         false
     }
 
-    fn renew(&mut self, _records: &[u8]) {}
+    fn compact_log(&mut self, _records: &[u8]) {}
 
     fn lack_records(&mut self) {}
 }

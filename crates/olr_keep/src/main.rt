@@ -35,7 +35,7 @@ struct Logs<'a> {
 }
 
 impl<'a> OpenLog<HostDisk<Unknown>, LogFolder<'a>> for Logs<'a> {
-    ghost may_be = { λ _ _ _ _ kept left. Only kept left };
+    ghost may_be = { λ _ _ _ _ stored left. Only stored left };
 
     ghost refuses = { λ _ _ _ _. ⊤ };
 

@@ -7,7 +7,7 @@ use Rattle.olr_run.proofs.Common.{RunFault}
 use Rattle.olr_commands.specs.State.{Change, Content, IsContent, IsState, State, start_state, step, Abort}
 use Rattle.olr_commands.proofs.HistoryLemmas.{start_sound}
 use Rattle.olr_commands.proofs.StateLemmas.{steps_keep}
-use Rattle.olr_log.specs.Logs.{kept_of, left_of, is_own_of}
+use Rattle.olr_log.specs.Logs.{stored_of, left_of, is_own_of}
 use Rattle.olr_log.specs.declared.log_file.LogFile.{LogFile}
 use Rattle.olr_records.proofs.ReadLemmas.{coords_read}
 use Rattle.olr_run.specs.LogEnds.{BeginsWith, LastsOn}
@@ -110,7 +110,7 @@ record Outcomes (Each : State → List (List Field) → List Outcome → State �
 outcomes_of : (Each Then : State → List (List Field) → List Outcome → State → Type 0) (stop : Bool) (old : Registered)
     (rs : List (List Field)) (before : Known) (new : Registered) (later : Known) (end : Result Status RunFault) →
     ((s : State) (os : List Outcome) (t : State) → Each s rs os t → Then s rs os t)
-    → EndedOn Each Each stop old (Some rs) before new later end → (s : State) → Represents old.kept s →
+    → EndedOn Each Each stop old (Some rs) before new later end → (s : State) → Represents old.state s →
     Outcomes Then s rs before later
 outcomes_of Each Then stop old rs before new later (Ok end) f run s represents =
     let r = run s represents in
@@ -148,8 +148,8 @@ module _ {D F : Type 0} (d : disk.Ghosts D) (f : folder.Ghosts F D) {W : Type 0}
     up_to : UpTo (closed c) rs outcomes later sent
 
   left_by_run : (start last : LogFile D F d f) (o p : Buffered W) (c : Content) (rs : List (List Field)) (os : List Outcome)
-      (t : State) (text : List ℕ) → LastsOn contents start o last p (closed c) rs os t → Leads (kept_of start) c →
-      Only (kept_of start) (left_of start) → pending o ≡ [] → left_of last text → LeftBy c rs o p text
+      (t : State) (text : List ℕ) → LastsOn contents start o last p (closed c) rs os t → Leads (stored_of start) c →
+      Only (stored_of start) (left_of start) → pending o ≡ [] → left_of last text → LeftBy c rs o p text
   left_by_run start last o p c rs os t text lasts leads only none left =
       let l = lasts.1 (record { closed_batch = refl; only = only; leads = leads; none_pending = none }) in
       let s = l.2 text left in
@@ -157,7 +157,7 @@ module _ {D F : Type 0} (d : disk.Ghosts D) (f : folder.Ghosts F D) {W : Type 0}
 
   left_by : (log last : LogFile D F d f) (least : ℕ) (stop : Bool) (rs : List (List Field)) (o p : Buffered W) (code : ℕ)
       (one : FromLog contents log last least stop (Some rs) o p code) → HasBegun one → IsHonest one → (c : Content) →
-      BeginsWith (is_own_of log) (kept_of log) c → Only (kept_of log) (left_of log) → pending o ≡ [] → (text : List ℕ) →
+      BeginsWith (is_own_of log) (stored_of log) c → Only (stored_of log) (left_of log) → pending o ≡ [] → (text : List ℕ) →
       left_of last text → LeftBy c rs o p text
   left_by log last least stop rs o p code (Not_begun same rejected status gone) began honest c says only none text left = absurd began
   left_by log last least stop rs o p code (Begun read start old new begins end run g length after status) began honest c says only none text left =
@@ -169,7 +169,7 @@ module _ {D F : Type 0} (d : disk.Ghosts D) (f : folder.Ghosts F D) {W : Type 0}
 
   answers : (log last : LogFile D F d f) (least : ℕ) (stop : Bool) (qs : List (List Field)) (u v : Buffered W) (code : ℕ)
       (two : FromLog contents log last least stop (Some qs) u v code) → HasBegun two → IsHonest two → (c : Content) →
-      BeginsWith (is_own_of log) (kept_of log) c
+      BeginsWith (is_own_of log) (stored_of log) c
       → Outcomes Claims (closed c) qs (written contents u) (written contents v)
   answers log last least stop qs u v code (Not_begun same rejected status gone) began honest c says = absurd began
   answers log last least stop qs u v code (Begun read start old new begins end run g length after status) began honest c says =
@@ -178,16 +178,16 @@ module _ {D F : Type 0} (d : disk.Ghosts D) (f : folder.Ghosts F D) {W : Type 0}
 
   pub two_runs : TwoRuns d f contents
   two_runs log last least stop rs o p code one began honest c says only none next end most again qs u v status two begun true_too own left =
-      let l = left_by log last least stop rs o p code one began honest c says only none (kept_of next) left in
-      let next_says : BeginsWith (is_own_of next) (kept_of next) l.later =
-      subst (λ (b : Bool). BeginsWith b (kept_of next) l.later) (sym own) l.leads in
+      let l = left_by log last least stop rs o p code one began honest c says only none (stored_of next) left in
+      let next_says : BeginsWith (is_own_of next) (stored_of next) l.later =
+      subst (λ (b : Bool). BeginsWith b (stored_of next) l.later) (sym own) l.leads in
       let a = answers next end most again qs u v status two begun true_too l.later next_says in (
         l.sent,
         l.device,
         a.outcomes,
         a.state,
         next_continues (closed c) a.state rs qs l.outcomes a.outcomes l.later l.sent
-            (begins_sound (is_own_of log) (kept_of log) c says) l.up_to a.each,
+            (begins_sound (is_own_of log) (stored_of log) c says) l.up_to a.each,
         a.wrote,
         a.rest,
         a.written_is,

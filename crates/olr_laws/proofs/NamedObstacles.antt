@@ -1,4 +1,4 @@
--- What stands in the way of strings: the question has exactly one answer, which names each string in whose way something
+-- The ambiguities of strings: the question has exactly one answer, which names each string in whose way something
 -- stands, and nothing else.
 use Rattle.std.proofs.Common.{arith, ◌≡◌, ◌≢◌, inl, inr, ℕ, true, false, List, [], ◌∷◌, ◌++◌, map, not, Some, None, Option, refl}
 use Rattle.std.proofs.Common.{is_some, IsTrue, Contains, sym, ap, ◌∙◌, subst}
@@ -91,7 +91,7 @@ some_asked c i (Some name) h = by_path (path_named c.paths name) refl where
 
 -- ---- what it says
 
--- what stands in the way of a path is in the answer under its name
+-- an ambiguity of a path is in the answer under its name
 in_answer : (g : Margin) (M : Map) (ps : List Named) (es : List NamedObstacle) → Ambiguities g M ps es → (p : Named) → Contains ps p →
     (own : List NamedObstacle) × Ambiguity g M p own × ((e : NamedObstacle) → Contains own e → Contains es e)
 in_answer g M [] es a p c = absurd (let lt = c.1 in omega arith)

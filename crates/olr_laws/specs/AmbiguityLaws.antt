@@ -2,7 +2,7 @@
 --     IsWeightedByLatitude scale far M r      a measure that, from each LRP of r to each node with candidates, is between
 --         the axes' maximum and their sum, with cosines of at least the least one
 --     Unnamed name es      nothing among these is of the path of that name
---     StandsFor g M p e      e stands in the way of the path's string on M, with the margin g
+--     StandsFor g M p e      e is an ambiguity of the path's string on M, with the margin g
 use Rattle.std.specs.Prelude.{◌≡◌, ◌≢◌, ℕ, ◌+◌, ◌*◌, ◌<◌, ◌≤◌, ℤ, List, [], None, Contains, IsTrue, IsFalse}
 use Rattle.olr_spec.specs.Coordinates.{Coord}
 use Rattle.olr_spec.specs.Map.{Map, IsMap, has_line}
@@ -23,7 +23,7 @@ pub record IsWeightedByLatitude (scale : ℕ) (far : Measure) (M : Map) (r : Ref
       Weighted (least_cosine (decoded_coord r k) (coordinate_on s (leg M x))) 1000000 scale far (decoded_coord r k)
       (coordinate_on s (leg M x))
 
--- if nothing stands in the way of the path's own lines, its string is distinct for both kinds of receivers, whatever their
+-- if the path's own lines have no ambiguity, its string is distinct for both kinds of receivers, whatever their
 -- differences and preferences are: for each such measure, and each slack of at most the usual one
 abbrev pub ClearIsDistinct : Margin → Type 0
 ClearIsDistinct g =
@@ -59,7 +59,7 @@ pub record StandsFor (g : Margin) (M : Map) (p : Named) (e : NamedObstacle) : Ty
   pub name : e.name ≡ p.name
   pub stands : Contains (obstacles M reference lines) (e.lrp, e.obstacle)
 
--- each thing in the answer stands in the way of the string of one of the paths
+-- each thing in the answer is an ambiguity of the string of one of the paths
 abbrev pub NamedStands : Type 0
 NamedStands =
     (c : Content) (es : List NamedObstacle) → AskedAmbiguities c None es → (e : NamedObstacle) → Contains es e →

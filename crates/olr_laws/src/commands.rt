@@ -122,7 +122,7 @@ pub fn rows_preview()
     ensures memory_outside { may_lack start_state Preview ≡ false }
 {}
 
-/// What stands in the way of strings, without paths and in a batch.
+/// The ambiguities of strings, without paths and in a batch.
 pub fn rows_ambiguous()
     ensures all { step start_state (Ambiguous None) ≡ Ok start_state }
     ensures one { step (with_a None) (Ambiguous (Some (codes "a"))) ≡ Ok (with_a None) }

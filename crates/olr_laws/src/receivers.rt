@@ -41,7 +41,7 @@ pub fn laws_of_directions()
 {}
 
 /// A string in whose way nothing stands is distinct for both kinds of receivers. So is that of each path which the answer
-/// to the question about all paths doesn't name, and what this names stands in the way. No test of nodes names
+/// to the question about all paths doesn't name, and what this names is an ambiguity. No test of nodes names
 /// fewer for all these receivers.
 pub fn laws_of_ambiguity()
     ensures clear { (g : Margin) → AmbiguityLaws.ClearIsDistinct g }

@@ -6,7 +6,7 @@ use Rattle.olr_log.specs.declared.folder.Folder as folder
 use Rattle.olr_log.specs.declared.log_file.LogFile.{LogFile}
 use Rattle.olr_log.specs.Texts.{text_of}
 use Rattle.olr_log.specs.Outcomes.{LeavesText, MayLeave}
-use Rattle.olr_log.specs.States.{Stands, kept_in, is_broken_in}
+use Rattle.olr_log.specs.States.{Stands, stored_in, is_broken_in}
 use Rattle.olr_log.specs.declared.state.State.{State}
 use Rattle.olr_log.specs.declared.state.State.TheVariants.{Foreign, Opened, Ready, Broken}
 use Rattle.olr_log.proofs.OwnTexts.{text_is, foreign_text}
@@ -23,12 +23,12 @@ module _ {D : Type 0} (d : Ghosts D) where
       let from = crash leaves.file leaves.left in
       subst P leaves.is (known leaves.clean leaves.file (subst (λ (x : List ℕ). step x leaves.file) (durable from.0 from.1) from.2))
 
-  -- the text with which the next run begins is what a log keeps
-  pub text_is_kept : (disk : D) (state : State) → Stands d disk state → is_broken_in state ≡ false → d.is_clean disk ≡ true → text_of (d.seen disk) ≡ kept_in state (d.seen disk)
-  text_is_kept disk (Foreign len) has alive clean = foreign_text (d.seen disk) (has.is clean)
-  text_is_kept disk (Opened n last len) has alive clean = text_is n (d.seen disk) (has.0.is clean).text
-  text_is_kept disk (Ready n len) has alive clean = text_is n (d.seen disk) (has.0.is clean).text
-  text_is_kept disk Broken has alive clean = absurd (cc alive)
+  -- the text with which the next run begins is what a log stores
+  pub text_is_stored : (disk : D) (state : State) → Stands d disk state → is_broken_in state ≡ false → d.is_clean disk ≡ true → text_of (d.seen disk) ≡ stored_in state (d.seen disk)
+  text_is_stored disk (Foreign len) has alive clean = foreign_text (d.seen disk) (has.is clean)
+  text_is_stored disk (Opened n last len) has alive clean = text_is n (d.seen disk) (has.0.is clean).text
+  text_is_stored disk (Ready n len) has alive clean = text_is n (d.seen disk) (has.0.is clean).text
+  text_is_stored disk Broken has alive clean = absurd (cc alive)
 
   all_written : (disk : D) (state : State) → Stands d disk state → is_broken_in state ≡ false → Only (d.seen disk) (d.may_leave disk)
   all_written disk (Foreign len) has alive = has.durable
@@ -37,9 +37,9 @@ module _ {D : Type 0} (d : Ghosts D) where
   all_written disk Broken has alive = absurd (cc alive)
 
   -- and a crash leaves no other
-  pub leaves_kept : (disk : D) (state : State) → Stands d disk state → is_broken_in state ≡ false → Only (kept_in state (d.seen disk)) (Leaves disk)
-  leaves_kept disk state stands alive text leaves =
-      sym leaves.is ∙ ap text_of (all_written disk state stands alive leaves.file leaves.left) ∙ text_is_kept disk state stands alive leaves.clean
+  pub leaves_stored : (disk : D) (state : State) → Stands d disk state → is_broken_in state ≡ false → Only (stored_in state (d.seen disk)) (Leaves disk)
+  leaves_stored disk state stands alive text leaves =
+      sym leaves.is ∙ ap text_of (all_written disk state stands alive leaves.file leaves.left) ∙ text_is_stored disk state stands alive leaves.clean
 
   module _ (may_lead : ℕ → Type 0) (number : ℕ) (disk : D) (rival : Option D) where
     -- the name leads to the file that is at hand
@@ -47,9 +47,9 @@ module _ {D : Type 0} (d : Ghosts D) where
     led_here led text (inl here) = here.1
     led_here led text (inr next) = let never : number + 1 ≡ number = led (number + 1) next.0 in absurd (omega arith)
 
-    pub only_kept : (state : State) → Stands d disk state → is_broken_in state ≡ false → ((n : ℕ) → may_lead n → n ≡ number)
-        → Only (kept_in state (d.seen disk)) (MayLeave d.is_clean d.may_leave may_lead number disk rival)
-    only_kept state stands alive led text left = leaves_kept disk state stands alive text (led_here led text left)
+    pub only_stored : (state : State) → Stands d disk state → is_broken_in state ≡ false → ((n : ℕ) → may_lead n → n ≡ number)
+        → Only (stored_in state (d.seen disk)) (MayLeave d.is_clean d.may_leave may_lead number disk rival)
+    only_stored state stands alive led text left = leaves_stored disk state stands alive text (led_here led text left)
 
     -- where the name leads nowhere new, a crash leaves nothing new
     pub led_less : (before : ℕ → Type 0) → ((n : ℕ) → may_lead n → before n) → (text : List ℕ) → MayLeave d.is_clean d.may_leave may_lead number disk rival text

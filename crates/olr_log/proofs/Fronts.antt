@@ -1,5 +1,5 @@
 -- The longest front that counts.
-use Rattle.olr_input.proofs.KeptLines.{whole_join}
+use Rattle.olr_input.proofs.StoredLines.{whole_join}
 use Rattle.std.proofs.Common.{◌≡◌, ◌⊎◌, inl, inr, ℕ, zero, suc, ◌+◌, ◌-◌, ◌≤◌, ◌<◌, Bool, true, false, List, [], ◌∷◌, ◌++◌, length, take, drop, get_or, refl, sym, ◌∙◌, ap, arith, length-append, append_assoc}
 use Rattle.std.specs.Prelude.{◌==◌, ◌&&◌, not, if◌then◌else◌}
 use Rattle.std.specs.List.{ends_with}

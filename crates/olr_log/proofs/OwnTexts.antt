@@ -40,14 +40,14 @@ module _ (n : ℕ) (t file : List ℕ) (whole : counts t ≡ true) (front : take
   parts : file ≡ 10 ∷ (t ++ rest)
   parts = sym (take-append-drop (n + 1) file) ∙ ap (λ (x : List ℕ). x ++ rest) front
 
-  pub text_kept : text_in n file ≡ t
-  text_kept = text_from n (n + 1) file (10 ∷ t) refl front
+  pub text_stored : text_in n file ≡ t
+  text_stored = text_from n (n + 1) file (10 ∷ t) refl front
 
   has_text : recovered (t ++ rest) ≡ t → HasText n file
   has_text is = record {
     own = ap is_own parts;
     within = within;
-    text = ap (λ (x : List ℕ). recovered (drop 1 x)) parts ∙ is ∙ sym text_kept;
+    text = ap (λ (x : List ℕ). recovered (drop 1 x)) parts ∙ is ∙ sym text_stored;
   }
 
   text_of_own : text_of file ≡ recovered (t ++ rest)
@@ -85,18 +85,18 @@ module _ (n : ℕ) (t file : List ℕ) (whole : counts t ≡ true) (front : take
       let found = recovered_spotted t records s z whole some in
       (found.0, found.1, text_of_own ∙ ap (λ (x : List ℕ). recovered (t ++ x)) is ∙ found.2)
 
--- a file whose text stands before a carriage return, and whose first bytes are kept
-pub kept_stopped : (n : ℕ) (file c : List ℕ) → HasText n file → get_or file (n + 1) 0 ≡ 13 → n + 1 < length file → n + 1 < length c
+-- a file whose text stands before a carriage return, and whose first bytes are unchanged
+pub stored_stopped : (n : ℕ) (file c : List ℕ) → HasText n file → get_or file (n + 1) 0 ≡ 13 → n + 1 < length file → n + 1 < length c
     → ((i : ℕ) → i < n + 1 + 1 → get_or c i 0 ≡ get_or file i 0) → text_of c ≡ text_in n file
-kept_stopped n file c has next some long same =
+stored_stopped n file c has next some long same =
     let t = text_in n file in
     let whole = text_counts n file has in
     let front = first_bytes (n + 1) c file (omega arith) has.within (λ i low. same i (omega arith)) ∙ text_front n file has in
-    text_is n c (stopped n t c whole front (omega arith) long (same (n + 1) (omega arith) ∙ next)) ∙ text_kept n t c whole front (omega arith)
+    text_is n c (stopped n t c whole front (omega arith) long (same (n + 1) (omega arith) ∙ next)) ∙ text_stored n t c whole front (omega arith)
 
 pub keeps_stopped : (n m : ℕ) (file c : List ℕ) → HasText n file → get_or file (n + 1) 0 ≡ 13 → n + 1 < length file → n + 1 < m → KeepsFirst m file c → text_of c ≡ text_in n file
 keeps_stopped n m file c has next some within keeps =
-    kept_stopped n file c has next some (omega (arith, keeps.no_shorter)) (λ i low. keeps.below i (omega arith) (omega arith))
+    stored_stopped n file c has next some (omega (arith, keeps.no_shorter)) (λ i low. keeps.below i (omega arith) (omega arith))
 
 -- padding that is longer
 pub padded_more : (n len more : ℕ) (file new : List ℕ) → IsPadded n file → length file ≡ len → len ≤ more → Torn len (more - len) file new → (len < more → IsBlank len more new)
@@ -156,7 +156,7 @@ first_wiped n file c has mixed =
     let whole = text_counts n file has in
     let front = keeps_take (n + 1) (n + 1) file c (torn_keeps (n + 1) (n + 1) 1 file c (omega arith) torn) (omega arith) has.within ∙ text_front n file has in
     let within : n + 1 ≤ length c = omega (arith, torn.no_shorter, has.within) in
-    let is : HasText n c → text_of c ≡ t = λ own. text_is n c own ∙ text_kept n t c whole front within in
+    let is : HasText n c → text_of c ≡ t = λ own. text_is n c own ∙ text_stored n t c whole front within in
     elim (cases_lt (n + 1) (length file)) [
       | inl more ↦
           let size : length c ≡ length file = omega (arith, torn.no_shorter, torn.no_longer) in
@@ -189,14 +189,14 @@ module _ (n last to : ℕ) (file once : List ℕ) (found : IsFound n last file) 
   once_has = stopped n text once (text_counts n file found.text) once_front (omega (arith, holds.within)) (omega (arith, holds.within)) once_next
 
   pub once_text : text_in n once ≡ text
-  once_text = text_kept n text once (text_counts n file found.text) once_front (omega (arith, holds.within))
+  once_text = text_stored n text once (text_counts n file found.text) once_front (omega (arith, holds.within))
 
   pub wiped : (rest : ℕ) (new : List ℕ) → rest ≡ n + 1 + 1 → Torn rest (to - rest) once new → (rest < to → IsBlank rest to new)
       → IsPadded n new × (text_in n new ≡ text) × (length new ≡ max (length file) to)
   wiped rest new rest_is after blank =
       let whole = text_counts n file found.text in
-      let kept = torn_keeps (n + 1) rest (to - rest) once new (omega arith) after in
-      let all = keeps_take (n + 1) (n + 1) once new kept (omega arith) (omega (arith, holds.within)) ∙ once_front in
+      let stored = torn_keeps (n + 1) rest (to - rest) once new (omega arith) after in
+      let all = keeps_take (n + 1) (n + 1) once new stored (omega arith) (omega (arith, holds.within)) ∙ once_front in
       let byte : (i : ℕ) → n + 1 ≤ i → i < length new → get_or new i 0 ≡ 13 = λ i above below. elim (cases_lt i to) [
         | inl before ↦ elim (cases_lt (n + 1) i) [
           | inl behind ↦ (blank (omega arith)).each i (omega arith) before
@@ -209,7 +209,7 @@ module _ (n last to : ℕ) (file once : List ℕ) (found : IsFound n last file) 
             ∙ returns_from last file found.reach found.rest i (omega (arith, to_is)) (omega (arith, size))
       ] in (
         padded n text new whole all (omega (arith, size, to_is)) (omega (arith, size, to_is)) byte,
-        text_kept n text new whole all (omega (arith, size, to_is)),
+        text_stored n text new whole all (omega (arith, size, to_is)),
         size,
       )
     where
@@ -223,7 +223,7 @@ module _ (n last to : ℕ) (file once : List ℕ) (found : IsFound n last file) 
 module _ (n : ℕ) (file : List ℕ) (is : IsPadded n file) where
   pub cut_text : (c : List ℕ) → Cut (n + 1 + 1) file c → text_of c ≡ text_in n file
   cut_text c cut =
-      kept_stopped n file c is.text (is.returns (n + 1) (omega arith) is.some) is.some (omega (arith, is.some, cut.no_shorter)) (λ i low. cut.below i (omega (arith, is.some)) low)
+      stored_stopped n file c is.text (is.returns (n + 1) (omega arith) is.some) is.some (omega (arith, is.some, cut.no_shorter)) (λ i low. cut.below i (omega (arith, is.some)) low)
 
   module _ (once c : List ℕ) (first : Cut (n + 1 + 1) file once) (size : length once ≡ n + 1 + 1) (second : Cut (n + 1) once c) where
     left : take (n + 1) c ≡ 10 ∷ text_in n file
@@ -235,7 +235,7 @@ module _ (n : ℕ) (file : List ℕ) (is : IsPadded n file) where
     cut_twice_text =
         let whole = text_counts n file is.text in
         let within : n + 1 ≤ length c = omega (arith, second.no_shorter) in
-        text_is n c (short n (text_in n file) c whole left within (omega (arith, second.no_longer))) ∙ text_kept n (text_in n file) c whole left within
+        text_is n c (short n (text_in n file) c whole left within (omega (arith, second.no_longer))) ∙ text_stored n (text_in n file) c whole left within
 
     -- once all of it is cut off, the first line and the text are left
     pub cut_twice_file : length c ≡ n + 1 → c ≡ 10 ∷ text_in n file
@@ -266,6 +266,6 @@ filled text returns none first second third end ends empty holds_1 torn_1 holds_
     let long : length text + 1 < length third = omega (arith, size_3, ends) in
     let byte : (i : ℕ) → length text + 1 ≤ i → i < length third → get_or third i 0 ≡ 13 = λ i above below. blank.each i (omega (arith, ends)) (omega (arith, size_3)) in (
       padded (length text) text third whole front (omega arith) long byte,
-      text_kept (length text) text third whole front (omega arith),
+      text_stored (length text) text third whole front (omega arith),
       size_3,
     )

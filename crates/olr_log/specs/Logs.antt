@@ -1,4 +1,4 @@
--- What a log keeps, and the texts with which the next run may begin.
+-- What a log stores, and the texts with which the next run may begin.
 use Rattle.std.specs.Prelude.{ℕ, ◌+◌, ◌-◌, Bool, Option, List, [], take, drop}
 use Rattle.std.specs.declared.io.Error.{Error}
 use Rattle.sqlite_disk.specs.declared.Disk as disk
@@ -6,7 +6,7 @@ use Rattle.olr_log.specs.declared.folder.Folder as folder
 use Rattle.olr_log.specs.declared.log_file.LogFile.{LogFile}
 use Rattle.olr_log.specs.declared.state.State.{State}
 use Rattle.olr_log.specs.declared.state.State.TheVariants.{Foreign, Opened, Ready, Broken}
-use Rattle.olr_log.specs.States.{kept_in, size_in, is_own_in, is_ready_in, is_broken_in}
+use Rattle.olr_log.specs.States.{stored_in, size_in, is_own_in, is_ready_in, is_broken_in}
 use Rattle.olr_log.specs.Outcomes.{MayLeave}
 
 -- what stands behind the text of an opened log, up to the last byte that isn't a carriage return
@@ -17,8 +17,8 @@ left_over_in (Ready n len) file = []
 left_over_in Broken file = []
 
 module _ {D F : Type 0} {d : disk.Ghosts D} {f : folder.Ghosts F D} where
-  abbrev pub kept_of : LogFile D F d f → List ℕ
-  kept_of log = kept_in log.state (d.seen log.disk)
+  abbrev pub stored_of : LogFile D F d f → List ℕ
+  stored_of log = stored_in log.state (d.seen log.disk)
 
   -- how many bytes the log counts in its text
   abbrev pub size_of : LogFile D F d f → ℕ
@@ -45,7 +45,7 @@ module _ {D F : Type 0} {d : disk.Ghosts D} {f : folder.Ghosts F D} where
   abbrev pub is_ready : LogFile D F d f → Bool
   is_ready log = is_ready_in log.state
 
-  -- a call failed, and nothing more can be kept
+  -- a call failed, and nothing more can be stored
   abbrev pub is_broken_of : LogFile D F d f → Bool
   is_broken_of log = is_broken_in log.state
 

@@ -1,5 +1,5 @@
 -- The states of a log.
---     kept_in state file      the text that it keeps
+--     stored_in state file      the text that it stores
 --     size_in state      how many bytes it counts in its text
 --     Stands d disk state      a disk in this state
 use Rattle.std.specs.Prelude.{◌≡◌, ℕ, ◌+◌, ◌<◌, ◌≤◌, Bool, true, false, List, [], length, IsTrue, ⊤}
@@ -13,11 +13,11 @@ use Rattle.olr_log.specs.declared.state.State.{State}
 use Rattle.olr_log.specs.declared.state.State.TheVariants.{Foreign, Opened, Ready, Broken}
 
 -- of the program's own file the text, and of another file all of it
-abbrev pub kept_in : State → List ℕ → List ℕ
-kept_in (Foreign len) file = file
-kept_in (Opened n last len) file = text_in n file
-kept_in (Ready n len) file = text_in n file
-kept_in Broken file = []
+abbrev pub stored_in : State → List ℕ → List ℕ
+stored_in (Foreign len) file = file
+stored_in (Opened n last len) file = text_in n file
+stored_in (Ready n len) file = text_in n file
+stored_in Broken file = []
 
 abbrev pub size_in : State → ℕ
 size_in (Foreign len) = len

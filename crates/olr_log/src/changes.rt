@@ -26,7 +26,7 @@ pub fn append<D: Disk>(
     requires some { 0 < length returns.now }
     requires returns { returns.now ≡ replicate (length returns.now) 13 }
     ensures stands { IfOk result (λ n. Stands D.Disk disk.new (State.Ready (text_len + length records.now) n)) }
-    ensures kept { OnOk result (text_in (text_len + length records.now) (D.Disk.seen disk.new) ≡ text_in text_len (D.Disk.seen disk.old) ++ records.now) }
+    ensures stored { OnOk result (text_in (text_len + length records.now) (D.Disk.seen disk.new) ≡ text_in text_len (D.Disk.seen disk.old) ++ records.now) }
     ensures cut { (c : List ℕ) → LeavesText D.Disk.is_clean D.Disk.may_leave disk.new c
         → (front : List ℕ) × IsFront records.now front × (c ≡ text_in text_len (D.Disk.seen disk.old) ++ front) }
 {
@@ -50,7 +50,7 @@ pub fn wipe<D: Disk>(
     requires some { 0 < length returns.now }
     requires returns { returns.now ≡ replicate (length returns.now) 13 }
     ensures stands { IfOk result (λ n. Stands D.Disk disk.new (State.Ready text_len n)) }
-    ensures kept { OnOk result (D.Disk.is_clean disk.new ≡ true → text_in text_len (D.Disk.seen disk.new) ≡ text_in text_len (D.Disk.seen disk.old)) }
+    ensures stored { OnOk result (D.Disk.is_clean disk.new ≡ true → text_in text_len (D.Disk.seen disk.new) ≡ text_in text_len (D.Disk.seen disk.old)) }
     ensures cut { Only (text_in text_len (D.Disk.seen disk.old)) (LeavesText D.Disk.is_clean D.Disk.may_leave disk.new) }
 {
     let from = text_len + 1;

@@ -2,9 +2,9 @@
 
 ghost use Rattle.std.specs.Prelude.{◌≡◌, ◌⊎◌, ◌+◌, ◌<◌, ℕ, List, ◌++◌, length, replicate, true, false, if◌then◌else◌, IsTrue, IfOk, OnOk, OnErr, IsErr, IsNone, IsSome, Option};
 ghost use Rattle.sqlite_disk.specs.Disk.{Only};
-ghost use Rattle.olr_input.specs.Journals.{MayHaveKept, is_whole};
+ghost use Rattle.olr_input.specs.Journals.{MayHaveStored, is_whole};
 ghost use Rattle.olr_log.specs.Files.{text_in};
-ghost use Rattle.olr_log.specs.States.{Stands, Stands-prop, is_broken_in, kept_in, size_in};
+ghost use Rattle.olr_log.specs.States.{Stands, Stands-prop, is_broken_in, stored_in, size_in};
 ghost use Rattle.olr_log.specs.Outcomes.{MayLeave, LeavesText};
 
 use crate::changes::append;
@@ -57,7 +57,7 @@ fn write_in_place<D: Disk + Drop, F: Folder<D>>(
     requires some { 0 < length returns.now }
     requires returns { returns.now ≡ replicate (length returns.now) 13 }
     ensures stands { IfOk result (λ made. Stands D.Disk made.disk (State.Ready (length records.now) made.len)) }
-    ensures kept { IfOk result (λ made. text_in (length records.now) (D.Disk.seen made.disk) ≡ records.now) }
+    ensures stored { IfOk result (λ made. text_in (length records.now) (D.Disk.seen made.disk) ≡ records.now) }
     ensures number { IfOk result (λ made. made.number ≡ old + 1) }
     ensures refused { OnErr result ((n : ℕ) → F.Folder.may_lead folder.new n → F.Folder.may_lead folder.old n) }
     ensures placed { IfOk result (λ made. IsNone made.doubt → (n : ℕ) → F.Folder.may_lead folder.new n → n ≡ old + 1) }
@@ -96,10 +96,10 @@ fn write_in_place<D: Disk + Drop, F: Folder<D>>(
 }
 
 impl<D: Disk + Drop, F: Folder<D>> Journal for LogFile<D, F> {
-    ghost use Rattle.olr_log.specs.Logs.{kept_of, size_of, left_of, refusal_of, is_own_of, is_ready, is_broken_of};
+    ghost use Rattle.olr_log.specs.Logs.{stored_of, size_of, left_of, refusal_of, is_own_of, is_ready, is_broken_of};
     ghost use Rattle.olr_log.specs.Logs.{is_clean};
 
-    ghost kept = { λ j. kept_in j.state (D.Disk.seen j.disk) };
+    ghost stored = { λ j. stored_in j.state (D.Disk.seen j.disk) };
 
     ghost size = { λ j. size_in j.state };
 
@@ -107,12 +107,12 @@ impl<D: Disk + Drop, F: Folder<D>> Journal for LogFile<D, F> {
 
     ghost may_leave = { λ j. MayLeave D.Disk.is_clean D.Disk.may_leave (F.Folder.may_lead j.folder) j.number j.disk j.rival };
 
-    fn keep(&mut self, records: &[u8]) -> io::Result<()>
+    fn store(&mut self, records: &[u8]) -> io::Result<()>
         requires { IsTrue (is_whole records.now) }
-        ensures kept { OnOk result (kept_of self.new ≡ kept_of self.old ++ records.now) }
-        ensures counted { OnOk result (size_of self.new ≡ length (kept_of self.new)) }
-        ensures durable { OnOk result (Only (kept_of self.new) (left_of self.new)) }
-        ensures cut { MayHaveKept kept_of left_of self.old records.now self.new }
+        ensures stored { OnOk result (stored_of self.new ≡ stored_of self.old ++ records.now) }
+        ensures counted { OnOk result (size_of self.new ≡ length (stored_of self.new)) }
+        ensures durable { OnOk result (Only (stored_of self.new) (left_of self.new)) }
+        ensures cut { MayHaveStored stored_of left_of self.old records.now self.new }
         ensures ready { OnOk result (is_ready self.new ≡ true) }
         ensures broken { OnErr result (is_broken_of self.new ≡ true) }
         ensures unready { is_ready self.old ≡ false → IsErr result }
@@ -133,9 +133,9 @@ impl<D: Disk + Drop, F: Folder<D>> Journal for LogFile<D, F> {
 
     fn replace(&mut self, records: &[u8]) -> io::Result<bool>
         requires { IsTrue (is_whole records.now) }
-        ensures kept { IfOk result (λ done. kept_of self.new ≡ if done then records.now else kept_of self.old) }
+        ensures stored { IfOk result (λ done. stored_of self.new ≡ if done then records.now else stored_of self.old) }
         ensures counted { IfOk result (λ done. size_of self.new ≡ if done then length records.now else size_of self.old) }
-        ensures durable { Only (kept_of self.old) (left_of self.old) → OnOk result (Only (kept_of self.new) (left_of self.new)) }
+        ensures durable { Only (stored_of self.old) (left_of self.old) → OnOk result (Only (stored_of self.new) (left_of self.new)) }
         ensures cut { (c : List ℕ) → left_of self.new c → left_of self.old c ⊎ (c ≡ records.now) }
         ensures ready { IfOk result (λ done. done ≡ true → is_ready self.new ≡ true) }
         ensures own { IfOk result (λ done. is_own_of self.new ≡ if done then true else is_own_of self.old) }
@@ -177,8 +177,8 @@ impl<D: Disk + Drop, F: Folder<D>> Journal for LogFile<D, F> {
 
     fn len(&self) -> usize
         ensures counted { result ≡ size_of self.now }
-        ensures ready { is_ready self.now ≡ true → result ≡ length (kept_of self.now) }
-        ensures opened { is_broken_of self.now ≡ false → is_clean self.now ≡ true → result ≡ length (kept_of self.now) }
+        ensures ready { is_ready self.now ≡ true → result ≡ length (stored_of self.now) }
+        ensures opened { is_broken_of self.now ≡ false → is_clean self.now ≡ true → result ≡ length (stored_of self.now) }
     {
         self.state.text_len()
     }

@@ -18,21 +18,21 @@ use std::io;
 use std::io::Write;
 
 impl<D: Disk + Drop, F: Folder<D>> LogFile<D, F> {
-    ghost use Rattle.olr_log.specs.Logs.{kept_of, file_of, folder_of, refusal_of, is_own_of, is_ready, is_broken_of};
+    ghost use Rattle.olr_log.specs.Logs.{stored_of, file_of, folder_of, refusal_of, is_own_of, is_ready, is_broken_of};
     ghost use Rattle.olr_log.specs.Logs.{left_over_of, left_of, is_clean};
 
     /// Syncs the file and finds the end of its text. It changes nothing.
     pub fn open(alloc: Global, disk: D, folder: F) -> io::Result<LogFile<D, F>>
         requires usable { IsTrue (D.Disk.is_usable disk) }
         requires named { (n : ℕ) → F.Folder.may_lead folder n → n ≡ 0 }
-        ensures text { IfOk result (λ log. is_clean log ≡ true → kept_of log ≡ text_of (D.Disk.seen disk)) }
+        ensures text { IfOk result (λ log. is_clean log ≡ true → stored_of log ≡ text_of (D.Disk.seen disk)) }
         ensures own { IfOk result (λ log. is_clean log ≡ true → is_own_of log ≡ is_own (D.Disk.seen disk)) }
         ensures rest { IfOk result (λ log. is_clean log ≡ true → left_over_of log ≡ left_behind (D.Disk.seen disk)) }
         ensures same { IfOk result (λ log. file_of log ≡ D.Disk.seen disk) }
         ensures unready { IfOk result (λ log. is_ready log ≡ false) }
         ensures unbroken { IfOk result (λ log. is_broken_of log ≡ false) }
         ensures folder { IfOk result (λ log. folder_of log ≡ folder) }
-        ensures durable { IfOk result (λ log. Only (kept_of log) (left_of log)) }
+        ensures durable { IfOk result (λ log. Only (stored_of log) (left_of log)) }
     {
         let mut disk = disk;
         let state = examine(alloc, &mut disk)?;
@@ -56,7 +56,7 @@ impl<D: Disk + Drop, F: Folder<D>> LogFile<D, F> {
     }
 
     /// Whether the file begins with the empty line of the program's own files. If not, all of it is its text, and `replace` has
-    /// to give it its own form before anything is kept.
+    /// to give it its own form before anything is stored.
     pub fn is_own(&self) -> bool
         ensures { result ≡ is_own_of self.now }
     {
@@ -86,7 +86,7 @@ impl<D: Disk + Drop, F: Folder<D>> LogFile<D, F> {
         ensures none { is_ready self.old ≡ true → IsOk result }
         ensures foreign { is_own_of self.old ≡ false → IsOk result }
         ensures copied { OnOk result (is_clean self.new ≡ true → Appends (W.contents to.old) (W.contents to.new) (left_over_of self.old)) }
-        ensures kept { kept_of self.new ≡ kept_of self.old }
+        ensures stored { stored_of self.new ≡ stored_of self.old }
         ensures own { is_own_of self.new ≡ is_own_of self.old }
         ensures ready { is_ready self.new ≡ is_ready self.old }
         ensures less { (c : List ℕ) → left_of self.new c → left_of self.old c }
@@ -109,16 +109,16 @@ impl<D: Disk + Drop, F: Folder<D>> LogFile<D, F> {
         self.refusal
     }
 
-    /// Overwrites what stands behind the text by carriage returns, and syncs. From then on records can be kept.
-    pub fn settle(&mut self) -> io::Result<()>
-        ensures kept { OnOk result (is_clean self.new ≡ true → kept_of self.new ≡ kept_of self.old) }
+    /// Overwrites what stands behind the text by carriage returns, and syncs. From then on records can be stored.
+    pub fn wipe_rest(&mut self) -> io::Result<()>
+        ensures stored { OnOk result (is_clean self.new ≡ true → stored_of self.new ≡ stored_of self.old) }
         ensures ready { OnOk result (is_ready self.new ≡ true) }
         ensures again { is_ready self.old ≡ true → IsOk result }
         ensures foreign { is_own_of self.old ≡ false → IsErr result }
         ensures broken { is_broken_of self.old ≡ true → IsErr result }
-        ensures padded { OnOk result (is_clean self.new ≡ true → IsPaddedText (kept_of self.old) (file_of self.new)) }
-        ensures durable { OnOk result (Only (kept_of self.new) (left_of self.new)) }
-        ensures cut { (c : List ℕ) → left_of self.new c → left_of self.old c ⊎ (c ≡ kept_of self.old) }
+        ensures padded { OnOk result (is_clean self.new ≡ true → IsPaddedText (stored_of self.old) (file_of self.new)) }
+        ensures durable { OnOk result (Only (stored_of self.new) (left_of self.new)) }
+        ensures cut { (c : List ℕ) → left_of self.new c → left_of self.old c ⊎ (c ≡ stored_of self.old) }
     {
         if let State::Ready { .. } = self.state {
             return Ok(());
@@ -141,8 +141,8 @@ impl<D: Disk + Drop, F: Folder<D>> LogFile<D, F> {
     /// The text.
     pub fn text(&mut self, alloc: Global) -> io::Result<Vec<u8>>
         ensures broken { is_broken_of self.old ≡ true → IsErr result }
-        ensures text { IfOk result (λ text. is_clean self.new ≡ true → text.items ≡ kept_of self.old) }
-        ensures kept { kept_of self.new ≡ kept_of self.old }
+        ensures text { IfOk result (λ text. is_clean self.new ≡ true → text.items ≡ stored_of self.old) }
+        ensures stored { stored_of self.new ≡ stored_of self.old }
         ensures own { is_own_of self.new ≡ is_own_of self.old }
         ensures ready { is_ready self.new ≡ is_ready self.old }
         ensures less { (c : List ℕ) → left_of self.new c → left_of self.old c }
@@ -156,15 +156,15 @@ impl<D: Disk + Drop, F: Folder<D>> LogFile<D, F> {
         Ok(text)
     }
 
-    /// Cuts the padding off. Nothing more can be kept. A log that isn't settled stays as it is.
+    /// Cuts the padding off. Nothing more can be stored. A log of which this wasn't done stays as it is.
     pub fn close(&mut self) -> io::Result<()>
-        ensures closed { OnOk result (is_ready self.old ≡ true → is_clean self.new ≡ true → file_of self.new ≡ 10 ∷ kept_of self.old) }
-        ensures durable { OnOk result (is_ready self.old ≡ true → Only (kept_of self.old) (left_of self.new)) }
+        ensures closed { OnOk result (is_ready self.old ≡ true → is_clean self.new ≡ true → file_of self.new ≡ 10 ∷ stored_of self.old) }
+        ensures durable { OnOk result (is_ready self.old ≡ true → Only (stored_of self.old) (left_of self.new)) }
         ensures same { is_ready self.old ≡ false → file_of self.new ≡ file_of self.old }
         ensures unready { is_ready self.new ≡ false }
         ensures again { is_ready self.old ≡ false → IsOk result }
         ensures broken { OnErr result (is_broken_of self.new ≡ true) }
-        ensures cut { (c : List ℕ) → left_of self.new c → left_of self.old c ⊎ (c ≡ kept_of self.old) }
+        ensures cut { (c : List ℕ) → left_of self.new c → left_of self.old c ⊎ (c ≡ stored_of self.old) }
     {
         let State::Ready { text_len, len } = self.state else {
             return Ok(());

@@ -1,7 +1,7 @@
 //! Where a log lies: its name, its folder, and the lock that one process holds. Read, and not proved, but for its names.
 
 ghost use Rattle.std.specs.Prelude.{◌≡◌, ◌⊎◌, ℕ, List, [], true, Some, IsTrue, IsNone, IfOk};
-ghost use Rattle.olr_log.specs.Logs.{kept_of, left_of, left_over_of, is_own_of, is_ready, is_clean};
+ghost use Rattle.olr_log.specs.Logs.{stored_of, left_of, left_over_of, is_own_of, is_ready, is_clean};
 ghost use Rattle.olr_log.specs.Places.{disk_is_usable, IsFreshDisk, folder_may_lead};
 
 use crate::folder::Folder;
@@ -346,7 +346,7 @@ pub fn set_aside<S: Start>(
     log: &mut LogFile<HostDisk<S>, LogFolder<'_>>,
 ) -> io::Result<Option<String>>
     ensures none { IfOk result (λ name. IsNone name → is_clean log.old ≡ true → left_over_of log.old ≡ []) }
-    ensures kept { kept_of log.new ≡ kept_of log.old }
+    ensures stored { stored_of log.new ≡ stored_of log.old }
     ensures own { is_own_of log.new ≡ is_own_of log.old }
     ensures ready { is_ready log.new ≡ is_ready log.old }
     ensures less { (c : List ℕ) → left_of log.new c → left_of log.old c }

@@ -22,7 +22,7 @@ pub enum State {
         text_len: usize,
         len: usize,
     },
-    /// A call failed, or the padding was cut off. Nothing more can be kept.
+    /// A call failed, or the padding was cut off. Nothing more can be stored.
     Broken,
 }
 

@@ -106,7 +106,7 @@ pub fn fill<D: Disk>(disk: &mut D, text: &[u8], returns: &[u8]) -> io::Result<us
     requires some { 0 < length returns.now }
     requires returns { returns.now ≡ replicate (length returns.now) 13 }
     ensures stands { IfOk result (λ n. Stands D.Disk disk.new (State.Ready (length text.now) n)) }
-    ensures kept { OnOk result (text_in (length text.now) (D.Disk.seen disk.new) ≡ text.now) }
+    ensures stored { OnOk result (text_in (length text.now) (D.Disk.seen disk.new) ≡ text.now) }
 {
     let Some(end) = text.len().checked_add(1) else {
         return Err(io::ErrorKind::FileTooLarge.into());

@@ -68,7 +68,7 @@ reference_lines r =
     first_line r.first ∷ (map middle_line r.middle ++ last_line r.last
     ∷ (offset_lines (codes "positive") r.pos ++ offset_lines (codes "negative") r.neg))
 
--- ---- what stands in the way of a string
+-- ---- the ambiguities of a string
 
 abbrev pub obstacle_fields : Obstacle → List (List ℕ)
 obstacle_fields (Same_sector y) = codes "sector" ∷ decimal y ∷ []

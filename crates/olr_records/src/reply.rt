@@ -191,7 +191,7 @@ fn push_names(text: &mut Vec<u8>, names: &[String]) -> Result<(), AllocError>
     Ok(())
 }
 
-/// The number of things that stand in the way, and a line for each.
+/// The number of ambiguities, and a line for each.
 fn push_obstacles(text: &mut Vec<u8>, found: &[NamedObstacle]) -> Result<(), AllocError>
     ensures { OnOk result (text.new.items ≡ text.old.items
         ++ texts.accepted_text (map (λ e. texts.obstacle_line (named_obstacle_of e)) found.now)) }
@@ -203,7 +203,7 @@ fn push_obstacles(text: &mut Vec<u8>, found: &[NamedObstacle]) -> Result<(), All
     Ok(())
 }
 
-/// The path's name, the number of the LRP, and what stands in the way there.
+/// The path's name, the number of the LRP, and the ambiguity there.
 fn push_obstacle_line(text: &mut Vec<u8>, named: &NamedObstacle) -> Result<(), AllocError>
     ensures { OnOk result (text.new.items ≡ text.old.items ++ texts.obstacle_line (named_obstacle_of named.now)) }
 {
@@ -213,7 +213,7 @@ fn push_obstacle_line(text: &mut Vec<u8>, named: &NamedObstacle) -> Result<(), A
     text.extend_from_slice(b"\n")
 }
 
-/// The kind of what stands in the way, and its number.
+/// The kind of an ambiguity, and its number.
 fn push_obstacle(text: &mut Vec<u8>, obstacle: Obstacle) -> Result<(), AllocError>
     ensures { OnOk result (text.new.items ≡ text.old.items
         ++ after_commas (texts.obstacle_fields (obstacle_of obstacle))) }

@@ -1,6 +1,6 @@
 -- The names that most proofs of olr_refs cite, passed on from one place. Declares nothing.
 pub use Rattle.olr_answers.specs.Answers.{answer_of, refusal_of}
-pub use Rattle.olr_refs.specs.Along.{AreDistances, DistancesTo, IsFar, IsLastWithinLimit, IsReach}
+pub use Rattle.olr_refs.specs.Along.{AreDistances, DistancesTo, IsLastNear, IsLastWithinLimit, IsReach}
 pub use Rattle.olr_refs.specs.Choice.{AreSearched, CostsAtMost, ForPoints, Notes, SeenBy, searches_of, begun_at}
 pub use Rattle.olr_refs.specs.Choice.{MayMark}
 pub use Rattle.olr_refs.specs.Extends.{Extends}

@@ -3,7 +3,7 @@ use Rattle.olr_refs.proofs.Common.{cases_lt, ◌≡◌, ◌==◌, ◌<◌, ◌�
 use Rattle.olr_refs.proofs.Common.{◌++◌, length, ap, sym, subst, ◌∙◌, arith, inl, inr, cases_order, IsTrue, ◌↔◌}
 use Rattle.olr_refs.proofs.Common.{slice_index, Map, IsMap, start, end, dm, has_line, IsRoute, dm_of, limit}
 use Rattle.olr_refs.proofs.Common.{AreJoined, stretch, CoveredWith, CountedTo, IsLastTestedWith, dm_of-append}
-use Rattle.olr_refs.proofs.Common.{stretch_parts, Along, Dijkstra, IsSearch, limit_of, IsFar, IsReach, UniqueShortest}
+use Rattle.olr_refs.proofs.Common.{stretch_parts, Along, Dijkstra, IsSearch, limit_of, IsLastNear, IsReach, UniqueShortest}
 use Rattle.olr_refs.proofs.Common.{Needed, empty_unique, stretch_last, ResolvedLine, record_of, cases_eq, ne_eqb}
 use Rattle.olr_refs.proofs.Common.{cond, refl, has_node, cases_Bool, cond_both, begun_at, MayMark, label_of}
 use Rattle.olr_refs.proofs.Common.{Each-range, next_start, way_between, Margin, is_margin, counted, counted_dm}
@@ -39,18 +39,18 @@ stretch_longer M ls p k h inside = grind (arith, stretch_last, dm_of-append)
 
 -- ---- what is covered
 
-module _ (g : Margin) (M : Map) (m : IsMap M) (ls : List ℕ) (i far : ℕ) (w : AreJoined M ls) (f : IsFar M ls i far) where
+module _ (g : Margin) (M : Map) (m : IsMap M) (ls : List ℕ) (i last_near : ℕ) (w : AreJoined M ls) (f : IsLastNear M ls i last_near) where
   -- no position is needed after those that are within the limit
-  pub needed_most : (k : ℕ) → Needed M ls i k → k ≤ min far (length ls - 1)
+  pub needed_most : (k : ℕ) → Needed M ls i k → k ≤ min last_near (length ls - 1)
   needed_most k n = grind (arith, cases_order)
 
-  pub needed_far : (k : ℕ) → i < far → k ≤ min far (length ls - 1) → Needed M ls i k
-  needed_far k h upto = let from = f.from in (far, f.upto, f.near far h (omega arith), upto)
+  pub needed_last_near : (k : ℕ) → i < last_near → k ≤ min last_near (length ls - 1) → Needed M ls i k
+  needed_last_near k h upto = let from = f.from in (last_near, f.upto, f.near last_near h (omega arith), upto)
 
-  pub near_after : (k : ℕ) → i < k → k ≤ far → dm_of M (stretch ls (i + 1) k) ≤ limit
+  pub near_after : (k : ℕ) → i < k → k ≤ last_near → dm_of M (stretch ls (i + 1) k) ≤ limit
   near_after k h upto = omega (arith, f.near k h upto, stretch_sum M ls i (i + 1) k (omega arith) (omega arith))
 
-  pub line_near : (k : ℕ) → i < k → k < far → dm M (slice_index ls k) ≤ limit
+  pub line_near : (k : ℕ) → i < k → k < last_near → dm M (slice_index ls k) ≤ limit
   line_near k h below =
       let upto = f.upto in
       omega (arith, near_after (k + 1) (omega arith) (omega arith), stretch_longer M ls (i + 1) k (omega arith) (omega arith))
@@ -60,32 +60,32 @@ module _ (g : Margin) (M : Map) (m : IsMap M) (ls : List ℕ) (i far : ℕ) (w :
   before k j h r le = λ lt. unique_shorter g M m ls i (min j (length ls - 1)) k w lt le h r
 
   -- the lines after i are the unique shortest path as far as the limit allows
-  reach_far : (i + 1 ≤ min far (length ls - 1) → CountedTo g M ls i (min far (length ls - 1))) → IsReach g M ls i far
-  reach_far r =
+  reach_last_near : (i + 1 ≤ min last_near (length ls - 1) → CountedTo g M ls i (min last_near (length ls - 1))) → IsReach g M ls i last_near
+  reach_last_near r =
       record {
         from = f.from;
         upto = f.upto;
         within = λ j a b.
-            ((λ lt. before (min far (length ls - 1)) j (omega arith) (r (omega arith)) (omega arith) lt), f.near j a b);
+            ((λ lt. before (min last_near (length ls - 1)) j (omega arith) (r (omega arith)) (omega arith) lt), f.near j a b);
         beyond = λ j a b c. f.beyond j a b;
       }
 
   -- if at most one line follows line i, there is nothing between
-  pub reach_near_end : i < length ls → length ls ≤ i + 2 → IsReach g M ls i far
-  reach_near_end h few = reach_far (λ le. let e : min far (length ls - 1) ≡ i + 1 = omega arith in
+  pub reach_near_end : i < length ls → length ls ≤ i + 2 → IsReach g M ls i last_near
+  reach_near_end h few = reach_last_near (λ le. let e : min last_near (length ls - 1) ≡ i + 1 = omega arith in
       rw e (unique_start g M m ls i w (omega arith)))
 
   -- every position is covered
-  pub all_covered : (k : ℕ) → i + 1 < length ls → k ≡ max (min far (length ls - 1)) (i + 1) → CountedTo g M ls i k →
-      IsReach g M ls i far × IsLastTestedWith g M ls i k
+  pub all_covered : (k : ℕ) → i + 1 < length ls → k ≡ max (min last_near (length ls - 1)) (i + 1) → CountedTo g M ls i k →
+      IsReach g M ls i last_near × IsLastTestedWith g M ls i k
   all_covered k h e r = (
-    reach_far (λ le. let same : min far (length ls - 1) ≡ k = omega arith in rw same r),
+    reach_last_near (λ le. let same : min last_near (length ls - 1) ≡ k = omega arith in rw same r),
     record {
       after = omega arith;
       inside = omega arith;
       before = λ n a b. before k n (omega arith) r (omega arith);
-      needed = elim (cases_lt (i + 1) far) [
-        | inl lt ↦ inr (needed_far k (omega arith) (omega arith))
+      needed = elim (cases_lt (i + 1) last_near) [
+        | inl lt ↦ inr (needed_last_near k (omega arith) (omega arith))
         | inr ge ↦ inl (omega arith)
       ];
       last = inr (λ n p. omega (arith, needed_most n p));
@@ -93,7 +93,7 @@ module _ (g : Margin) (M : Map) (m : IsMap M) (ls : List ℕ) (i far : ℕ) (w :
   )
 
   -- line k does not extend the unique shortest path
-  pub covered_so_far : (k : ℕ) → i < k → k < min far (length ls - 1) → CountedTo g M ls i k → ¬ CountedTo g M ls i (k + 1) →
+  pub covered_so_far : (k : ℕ) → i < k → k < min last_near (length ls - 1) → CountedTo g M ls i k → ¬ CountedTo g M ls i (k + 1) →
       IsReach g M ls i k × IsLastTestedWith g M ls i (k + 1)
   covered_so_far k h short r no_more =
       let next : min (k + 1) (length ls - 1) ≡ k + 1 = omega arith in (
@@ -101,7 +101,7 @@ module _ (g : Margin) (M : Map) (m : IsMap M) (ls : List ℕ) (i far : ℕ) (w :
           from = omega arith;
           upto = omega arith;
           within = λ j a b. (before k j (omega arith) r (omega arith), f.near j a (omega arith));
-          beyond = λ j a b c. elim (cases_lt far j) [
+          beyond = λ j a b c. elim (cases_lt last_near j) [
             | inl lt ↦ f.beyond j lt b
             | inr ge ↦
                 absurd (no_more (unique_shorter g M m ls i (k + 1) (min j (length ls - 1)) w (omega arith) (omega arith)
@@ -112,7 +112,7 @@ module _ (g : Margin) (M : Map) (m : IsMap M) (ls : List ℕ) (i far : ℕ) (w :
           after = omega arith;
           inside = omega arith;
           before = λ n a b. before k n (omega arith) r (omega arith);
-          needed = inr (needed_far (k + 1) (omega arith) (omega arith));
+          needed = inr (needed_last_near (k + 1) (omega arith) (omega arith));
           last = inl (λ c. no_more (rw next at (c (omega arith))));
         },
       )

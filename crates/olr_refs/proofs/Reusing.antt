@@ -4,7 +4,7 @@ use Rattle.olr_refs.proofs.Common.{Result, Some, Contains, Option, [], refl, sym
 use Rattle.olr_refs.proofs.Common.{get_or_default, IsTrue, ◌↔◌, slice_index, length, length-take, length-drop}
 use Rattle.olr_refs.proofs.Common.{get_or-take, get_or-drop, IsBinarySearchResult, nat_cmp, IsMap, Map, start, end}
 use Rattle.olr_refs.proofs.Common.{AreJoined, IsRoute, CountedTo, CoveredWith, stretch, KnownQuery, CoverageQuery}
-use Rattle.olr_refs.proofs.Common.{IsLastTestedWith, IsFar, IsReach, Ok, Err, IsReuse, IsAnswered, IsKnownOfWith}
+use Rattle.olr_refs.proofs.Common.{IsLastTestedWith, IsLastNear, IsReach, Ok, Err, IsReuse, IsAnswered, IsKnownOfWith}
 use Rattle.olr_refs.proofs.Common.{EndsHere, own_of, Contains-here, known_reach, no_work, All-contains}
 use Rattle.olr_refs.proofs.Common.{IsSearchInRange, IsKnownWith, query_to_with, if◌then◌else◌, Found, Reuse, Margin}
 use Rattle.olr_refs.proofs.Common.{counted, CountedRoute, drop-drop, drop-take, take-take, way_on, next_start}
@@ -109,9 +109,9 @@ module _ (g : Margin) (M : Map) (ls : List ℕ) (r : Reuse) (is : IsReuse g M ls
         }
 
 -- a known query that ends at the last position that is tested
-module _ (g : Margin) (M : Map) (m : IsMap M) (ls : List ℕ) (r : Reuse) (is : IsReuse g M ls r) (joined : AreJoined M ls) (i far : ℕ)
-    (some : i + 1 < length ls) (is_far : IsFar M ls i far) (e : KnownQuery) (listed : Contains r.known.now e)
-    (begins : i + 1 ≡ r.lead + e.first) (ends : EndsHere r.lead (min far (length ls - 1)) e) where
+module _ (g : Margin) (M : Map) (m : IsMap M) (ls : List ℕ) (r : Reuse) (is : IsReuse g M ls r) (joined : AreJoined M ls) (i last_near : ℕ)
+    (some : i + 1 < length ls) (is_last_near : IsLastNear M ls i last_near) (e : KnownQuery) (listed : Contains r.known.now e)
+    (begins : i + 1 ≡ r.lead + e.first) (ends : EndsHere r.lead (min last_near (length ls - 1)) e) where
   right : IsKnownWith g M (own_of ls r) e
   right = All-contains (IsKnownWith g M (own_of ls r)) r.known.now e is.known listed
 
@@ -127,11 +127,11 @@ module _ (g : Margin) (M : Map) (m : IsMap M) (ls : List ℕ) (r : Reuse) (is : 
   unique : IsTrue e.covered ↔ CountedTo g M ls i (r.lead + e.last)
   unique = covered_known g M ls r is joined i e begins order upto within right
 
-  found : (b : Bool) → e.covered ≡ b → IsReach g M ls i (if b then far else r.lead + e.last - 1)
+  found : (b : Bool) → e.covered ≡ b → IsReach g M ls i (if b then last_near else r.lead + e.last - 1)
       × IsLastTestedWith g M ls i (r.lead + e.last)
   found true t =
       let all = ends.1 t in
-      all_covered g M m ls i far joined is_far (r.lead + e.last) some (omega (arith, order)) (unique.0 t)
+      all_covered g M m ls i last_near joined is_last_near (r.lead + e.last) some (omega (arith, order)) (unique.0 t)
   found false f =
       let ascends = order in
       let short = ends.0 in
@@ -139,11 +139,11 @@ module _ (g : Margin) (M : Map) (m : IsMap M) (ls : List ℕ) (r : Reuse) (is : 
       let last : r.lead + e.last ≡ k + 1 = omega arith in
       let reach : r.lead + e.last - 1 ≡ k = omega arith in
       let no_more : ¬ CountedTo g M ls i (k + 1) = λ u. let t : e.covered ≡ true = unique.1 (rw last u) in cc in
-      rw (reach, last) (covered_so_far g M m ls i far joined is_far k (omega arith) (omega arith)
+      rw (reach, last) (covered_so_far g M m ls i last_near joined is_last_near k (omega arith) (omega arith)
       (before_known g M ls r is joined i e begins order upto within right (e.last - 1) (omega arith) (omega arith)) no_more)
 
   -- nothing is searched
-  pub answered_known : (f : Found) → f.reach ≡ known_reach r.lead far e → f.query ≡ e.query → f.own ≡ Some e →
+  pub answered_known : (f : Found) → f.reach ≡ known_reach r.lead last_near e → f.query ≡ e.query → f.own ≡ Some e →
       f.work ≡ no_work → (seen : Option (List ℕ)) → IsAnswered g M ls r i f seen seen
   answered_known f reach query own work seen =
       let there = found e.covered refl in

@@ -30,7 +30,7 @@ pub record IsReach (g : Margin) (M : Map) (ls : List ℕ) (i k : ℕ) : Type 0 w
   pub beyond : (j : ℕ) → k < j → j ≤ length ls → CoveredWith g M ls i j → limit < dm_of M (stretch ls i j)
 
 -- the positions after i within the limit are those up to k
-pub record IsFar (M : Map) (ls : List ℕ) (i k : ℕ) : Type 0 where
+pub record IsLastNear (M : Map) (ls : List ℕ) (i k : ℕ) : Type 0 where
   pub from : i ≤ k
   pub upto : k ≤ length ls
   pub near : (j : ℕ) → i < j → j ≤ k → dm_of M (stretch ls i j) ≤ limit

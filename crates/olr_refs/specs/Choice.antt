@@ -10,7 +10,7 @@
 --     AreSearched M queries work seen noted      one search for each query, and the nodes that it reaches are recorded
 --     begun_at g      the start value of a search that finds how far lines are covered
 --     MayMark g M slot xs from line s      the line may count longer from now on, where the lines xs do so already
---     TestedTo g M slot ls i far to within q      the positions after i are covered and within the limit up to far, and
+--     TestedTo g M slot ls i last_near to within q      the positions after i are covered and within the limit up to last_near, and
 --         tested up to the position `to`, by the search q, on the map as it counts for the lines between, whose length
 --         it counts is `within`
 use Rattle.std.specs.Prelude.{if◌then◌else◌, ◌==◌, ◌≡◌, ◌≢◌, ℕ, ◌+◌, ◌*◌, ◌≤◌, List, ◌∷◌, [], length, count_by, nat_lt}
@@ -71,8 +71,8 @@ MayMark g M slot xs from line s =
     ((g.routes ≡ 0) ⊎ MayCount M slot g xs line s) × IsSearch (counted g M xs) slot Along from s
 
 -- the search begins at the end of line i, and is settled as far as position `to`
-pub record TestedTo (g : Margin) (M : Map) (slot : ℕ → ℕ) (ls : List ℕ) (i far to within : ℕ) (q : Dijkstra) : Type 0 where
-  pub reach : IsReach g M ls i far
+pub record TestedTo (g : Margin) (M : Map) (slot : ℕ → ℕ) (ls : List ℕ) (i last_near to within : ℕ) (q : Dijkstra) : Type 0 where
+  pub reach : IsReach g M ls i last_near
   pub last : IsLastTestedWith g M ls i to
   pub long : within ≡ counted_dm_of g M (stretch ls (i + 1) to)
   pub search : IsSearch (counted g M (stretch ls (i + 1) to)) slot Along ((end M (slice_index ls i), begun_at g) ∷ []) q

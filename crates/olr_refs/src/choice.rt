@@ -5,7 +5,7 @@ ghost use Rattle.olr_spec.specs.Coordinates.{fits16, relative};
 ghost use Rattle.olr_coords.specs.Bounds.{is_degrees};
 ghost use Rattle.olr_spec.specs.Points.{fit16, NextWith, NoNextWith};
 ghost use Rattle.olr_spec.specs.Extension.{limit};
-ghost use Rattle.olr_refs.specs.Along.{IsFar, IsLastWithinLimit, IsReach};
+ghost use Rattle.olr_refs.specs.Along.{IsLastNear, IsLastWithinLimit, IsReach};
 
 use crate::along::ResolvedPath;
 use olr_coords::{Coord, rel16};
@@ -30,7 +30,7 @@ fn last_within(distances: &[u128], i: usize) -> usize
 /// The last position of a path, from `i` on, that is at most 150,000 dm from position `i`.
 pub fn last_within_limit<M: MapRead>(resolved: &ResolvedPath<M>, i: usize) -> usize
     requires { i < length resolved.now.lines.now }
-    ensures { IsFar (M.map resolved.now.map.now) resolved.now.lines.now i result }
+    ensures { IsLastNear (M.map resolved.now.map.now) resolved.now.lines.now i result }
 {
     last_within(resolved.distances, i)
 }

@@ -4,7 +4,7 @@ ghost use Rattle.olr_spec.specs.Map.{has_node};
 ghost use Rattle.olr_spec.specs.Footprint.{Sees};
 ghost use Rattle.olr_route.specs.declared.distances.Direction.TheVariants.{Along};
 ghost use Rattle.olr_route.specs.Searches.{IsSearch, limit_of};
-ghost use Rattle.olr_refs.specs.Along.{IsFar, IsReach};
+ghost use Rattle.olr_refs.specs.Along.{IsLastNear, IsReach};
 ghost use Rattle.olr_refs.specs.Choice.{ForPoints, IsChoice, Notes};
 ghost use Rattle.olr_refs.specs.Reuse.{IsReuse, IsAnswered, Asks};
 
@@ -106,12 +106,12 @@ fn query_after<M: MapRead>(
     ensures { IfOk result (λ f. IsAnswered resolved.now.margin (M.map resolved.now.map.now) resolved.now.lines.now reuse.now i f seen.old
         seen.new) }
 {
-    let far = last_within_limit(resolved, i);
-    if let Some(found) = known_after(resolved, reuse, i, far) {
+    let last_near = last_within_limit(resolved, i);
+    if let Some(found) = known_after(resolved, reuse, i, last_near) {
         return Ok(found);
     }
     let from = resolved.end(i);
-    let tested = covered_to(resolved, i, far, search)?;
+    let tested = covered_to(resolved, i, last_near, search)?;
     let query = CoverageQuery {
         from,
         to: resolved.node(tested.last),

@@ -6,7 +6,7 @@ ghost use Rattle.olr_spec.specs.Margins.{counted, counted_dm, is_margin};
 ghost use Rattle.olr_route.specs.declared.distances.Direction.TheVariants.{Along};
 ghost use Rattle.olr_route.specs.ResolvedLines.{record_of};
 ghost use Rattle.olr_route.specs.Searches.{IsSearch, limit_of};
-ghost use Rattle.olr_refs.specs.Along.{IsFar};
+ghost use Rattle.olr_refs.specs.Along.{IsLastNear};
 ghost use Rattle.olr_refs.specs.Choice.{MayMark, TestedTo, begun_at};
 
 use crate::along::ResolvedPath;
@@ -76,24 +76,24 @@ fn settle_counting<M: MapRead>(
     }
 }
 
-/// Tests the positions from `i` to `far` in order, up to the first that is not covered, by a search that begins at the
+/// Tests the positions from `i` to `last_near` in order, up to the first that is not covered, by a search that begins at the
 /// end of line `i` and is settled no farther than the position that is tested. The lines from there on count longer as
 /// soon as it comes to them. Covered positions are consecutive, because the first lines of a unique shortest path are a
 /// unique shortest path.
 pub fn covered_to<M: MapRead>(
     resolved: &ResolvedPath<M>,
     i: usize,
-    far: usize,
+    last_near: usize,
     search: &mut Dijkstra,
 ) -> Result<Tested, AllocError>
     requires some { i + 1 < length resolved.now.lines.now }
-    requires far { IsFar (M.map resolved.now.map.now) resolved.now.lines.now i far }
+    requires last_near { IsLastNear (M.map resolved.now.map.now) resolved.now.lines.now i last_near }
     ensures { IfOk result (λ t. TestedTo resolved.now.margin (M.map resolved.now.map.now)
         (M.node_slot resolved.now.map.now) resolved.now.lines.now i t.reach t.last t.within search.new) }
 {
     let begun = begun_at(resolved.margin);
     search.begin(resolved.map, Direction::Along, &[(resolved.end(i), begun)])?;
-    let end = far.min(resolved.lines.len() - 1).max(i + 1);
+    let end = last_near.min(resolved.lines.len() - 1).max(i + 1);
     let mut within = 0;
     for k in i + 1..end {
         let line = counted_line(resolved, k);
@@ -108,7 +108,7 @@ pub fn covered_to<M: MapRead>(
         }
     }
     Ok(Tested {
-        reach: far,
+        reach: last_near,
         last: end,
         within,
     })

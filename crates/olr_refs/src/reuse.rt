@@ -2,7 +2,7 @@
 ghost use Rattle.std.specs.Prelude.{◌≡◌, ◌+◌, ◌-◌, ◌^◌, ◌<◌, ◌≤◌, ◌↔◌, [], ◌∷◌, min, IsTrue, IfSome, length};
 ghost use Rattle.std.specs.Prelude.{Option, List, ℕ};
 ghost use Rattle.olr_spec.specs.Queries.{IsKnownOfWith, IsLastTestedWith, query_to_with};
-ghost use Rattle.olr_refs.specs.Along.{IsFar, IsReach};
+ghost use Rattle.olr_refs.specs.Along.{IsLastNear, IsReach};
 ghost use Rattle.olr_refs.specs.Reuse.{IsReuse, IsAnswered, EndsHere, known_reach, own_of};
 
 use crate::along::ResolvedPath;
@@ -37,15 +37,15 @@ pub struct Found {
 }
 
 /// Whether a known query ends at the last position that is tested on an extended path of so many lines, of which `lead`
-/// precede the path's own, and where positions up to `far` are near enough: so if its last position is covered, no
+/// precede the path's own, and where positions up to `last_near` are near enough: so if its last position is covered, no
 /// position after it has to be tested, and else this one has to be.
-fn ends_here(known: &KnownQuery, lead: usize, far: usize, lines: usize) -> bool
+fn ends_here(known: &KnownQuery, lead: usize, last_near: usize, lines: usize) -> bool
     requires some { 0 < lines }
     requires small { lead + known.now.last < 2 ^ 64 }
-    ensures { IsTrue result ↔ EndsHere lead (min far (lines - 1)) known.now }
+    ensures { IsTrue result ↔ EndsHere lead (min last_near (lines - 1)) known.now }
 {
     let last = lead + known.last as usize;
-    let end = far.min(lines - 1);
+    let end = last_near.min(lines - 1);
     if known.covered {
         last == end
     } else {
@@ -53,29 +53,29 @@ fn ends_here(known: &KnownQuery, lead: usize, far: usize, lines: usize) -> bool
     }
 }
 
-/// How far the positions are covered and near enough, by a known query; positions up to `far` are near enough.
-fn reach_by(known: &KnownQuery, lead: usize, far: usize) -> usize
+/// How far the positions are covered and near enough, by a known query; positions up to `last_near` are near enough.
+fn reach_by(known: &KnownQuery, lead: usize, last_near: usize) -> usize
     requires some { 0 < known.now.last }
     requires small { lead + known.now.last < 2 ^ 64 }
-    ensures { result ≡ known_reach lead far known.now }
+    ensures { result ≡ known_reach lead last_near known.now }
 {
     if known.covered {
-        far
+        last_near
     } else {
         lead + known.last as usize - 1
     }
 }
 
-/// The coverage query after `i`, where it is known; positions up to `far` are near enough.
+/// The coverage query after `i`, where it is known; positions up to `last_near` are near enough.
 pub fn known_after<M: MapRead>(
     resolved: &ResolvedPath<M>,
     reuse: &Reuse,
     i: usize,
-    far: usize,
+    last_near: usize,
 ) -> Option<Found>
     requires some { i + 1 < length resolved.now.lines.now }
     requires reuse { IsReuse resolved.now.margin (M.map resolved.now.map.now) resolved.now.lines.now reuse.now }
-    requires far { IsFar (M.map resolved.now.map.now) resolved.now.lines.now i far }
+    requires last_near { IsLastNear (M.map resolved.now.map.now) resolved.now.lines.now i last_near }
     ensures { IfSome result (λ f. (seen : Option (List ℕ))
         → IsAnswered resolved.now.margin (M.map resolved.now.map.now) resolved.now.lines.now reuse.now i f seen seen) }
 {
@@ -85,11 +85,11 @@ pub fn known_after<M: MapRead>(
         .binary_search_by_key(&first, |known| known.first as usize)
         .ok()?;
     let known = reuse.known[k];
-    if !ends_here(&known, reuse.lead, far, resolved.lines.len()) {
+    if !ends_here(&known, reuse.lead, last_near, resolved.lines.len()) {
         return None;
     }
     Some(Found {
-        reach: reach_by(&known, reuse.lead, far),
+        reach: reach_by(&known, reuse.lead, last_near),
         query: known.query,
         own: Some(known),
         work: Work::none(),

@@ -1,4 +1,4 @@
--- What stands in the way of the strings of a register's paths, path by path.
+-- The ambiguities of the strings of a register's paths, path by path.
 use Rattle.olr_register.proofs.Common.{◌≡◌, ℕ, List, [], ◌∷◌, ◌++◌, map, Some, refl, sym, ap, ◌∙◌, subst, append_assoc}
 use Rattle.olr_register.proofs.Common.{append-nil, slice_get, take, ◌+◌, Map, Margin, Path, Named, Item, Made}
 use Rattle.olr_register.proofs.Common.{AreEncodings, IsEncodingOf, all_named, named_of, option_map, Option, IsMap}

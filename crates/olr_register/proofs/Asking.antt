@@ -3,7 +3,7 @@ use Rattle.olr_register.proofs.Common.{subst, ◌≡◌, ◌≢◌, ℕ, true, f
 use Rattle.olr_register.proofs.Common.{refl, sym, ap, ◌∙◌, ◌==◌, option_map, option_and_then, MatchOption, IsSomeAnd}
 use Rattle.olr_register.proofs.Common.{result_ok, ne_eqb, length-map, Map, Margin, Answer, EncodesWith, Path, Content}
 use Rattle.olr_register.proofs.Common.{path_named, published_text, Made, Item, IsEncodingOf, AreEncodings, named_of}
-use Rattle.olr_register.proofs.Common.{all_named, made_in, answer_in, content_on, is_some, items, map_kept, IsKeptRight}
+use Rattle.olr_register.proofs.Common.{all_named, made_in, answer_in, content_on, is_some, items, accepted_map, IsStateRight}
 use Rattle.olr_register.proofs.Common.{Published, PublishedText, AreEncoded, HaveEncodings, Inside}
 use Rattle.olr_register.proofs.Replies.{made_found}
 
@@ -54,8 +54,8 @@ all_encoded g M (i ∷ is) made = (
   all_encoded g M is made.1,
 )
 
-pub kept_encoded : (r : Inside) → IsKeptRight r.margin r.roads (items r.paths) r.batch r.searches.bounds → AreEncoded (items r.paths)
-kept_encoded r right = all_encoded r.margin (map_kept r.roads r.batch) (items r.paths) right.register.made
+pub right_encoded : (r : Inside) → IsStateRight r.margin r.roads (items r.paths) r.batch r.searches.bounds → AreEncoded (items r.paths)
+right_encoded r right = all_encoded r.margin (accepted_map r.roads r.batch) (items r.paths) right.register.made
 
 pub all_published : (g : Margin) (M : Map) (is : List Item) → AreEncodings g M is →
     HaveEncodings g M (all_named is) (map {B = List ℕ × Option Made} (λ (i : Item). (i.name, i.made)) is)

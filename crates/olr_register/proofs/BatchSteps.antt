@@ -9,7 +9,7 @@ use Rattle.olr_register.proofs.Common.{CommandFault, Item, under_batch, Register
 use Rattle.olr_register.proofs.Common.{content_under, batch_of, held_of, Answered, AreGiven, MayReport, ByContent}
 use Rattle.olr_register.proofs.Common.{Lacks, HoldsChange, Batch, None, Begin, IsContent, ByState, DistanceBounds}
 use Rattle.olr_register.proofs.Common.{AreEncodingsIfAny, Begins, Follows, nodes_of, lines_of, changed_of, follows_self}
-use Rattle.olr_register.proofs.Common.{named_held, AreEditsNoted, IsKeptRight, IsHeld, HasBounds, all_named, flat_map}
+use Rattle.olr_register.proofs.Common.{named_held, AreEditsNoted, IsStateRight, IsHeld, HasBounds, all_named, flat_map}
 use Rattle.olr_register.proofs.Common.{Differences, IsRegister, IsRenewal, eq-eqb, Commit, Batch_full, next, into_batch}
 use Rattle.olr_register.proofs.Common.{Outcome, length_push, next_ok, after_push, content_with, room_of, all_node_puts}
 use Rattle.olr_register.proofs.Common.{all_line_puts, CanMakeAll, made_all, log_changes, entries_of, Renewed}
@@ -145,7 +145,7 @@ pub record IsEmpty (g : Margin) (b : Batch) : Type 0 where
   pub changed : changed_of b.touched ≡ []
 
 module _ (g : Margin) (roads : RoadMap) (is : List Item) (b : Batch) (bounds : DistanceBounds)
-    (h : IsKeptRight g roads is None bounds) (e : IsEmpty g b) where
+    (h : IsStateRight g roads is None bounds) (e : IsEmpty g b) where
   same_before : map_before roads b.log ≡ map_of roads
   same_before = ap (made_all (map_of roads)) e.log
 
@@ -168,7 +168,7 @@ module _ (g : Margin) (roads : RoadMap) (is : List Item) (b : Batch) (bounds : D
     begins = λ v on. subst (λ (ks : List Item). Begins ks v) (e.paths is) on;
   }
 
-  pub begun_held : IsKeptRight g roads is (Some b) bounds
+  pub begun_held : IsStateRight g roads is (Some b) bounds
   begun_held = record {
     register = register_moved g roads roads is None (Some b) same_before begun (λ off. e.margin) h.register;
     bounded = subst (λ (T : List ℕ). HasBounds roads T is bounds) (sym e.nodes) h.bounded;

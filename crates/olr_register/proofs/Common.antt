@@ -44,8 +44,8 @@ pub use Rattle.olr_renewal.specs.Reencoded.{CanRenewUnder, IsRenewal, after_rene
 pub use Rattle.olr_register.specs.Answered.{Answered}
 pub use Rattle.olr_register.specs.Recordables.{is_recordable_line_at, is_recordable_node_at}
 pub use Rattle.olr_register.specs.Contents.{AreEditsNoted, CanRenew, CanRenewTo, CanUpdate, HasBounds, IsHeld, IsHeldAs}
-pub use Rattle.olr_register.specs.Contents.{IsKeptRight, IsRegister, KeepsMargin, batch_of, content_on, content_under}
-pub use Rattle.olr_register.specs.Contents.{held_of, kept_of, map_kept, option_batch, under_batch}
+pub use Rattle.olr_register.specs.Contents.{IsStateRight, IsRegister, KeepsMargin, batch_of, content_on, content_under}
+pub use Rattle.olr_register.specs.Contents.{held_of, state_of, accepted_map, option_batch, under_batch}
 pub use Rattle.olr_register.specs.BatchChanges.{AreGiven, ByContent, HoldsChange, IsMade, Lacks, Makes, MayReport}
 pub use Rattle.olr_register.specs.BatchChanges.{StaysUnderWay, change_of, content_with, path_by}
 pub use Rattle.olr_register.specs.EditNotes.{CanRenewAfter, IsEditMade, IsNotedOf}

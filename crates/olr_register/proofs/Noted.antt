@@ -6,7 +6,7 @@ use Rattle.olr_register.proofs.Common.{Item, AreEncodingsIfAny, all_named, nodes
 use Rattle.olr_register.proofs.Common.{IsNotedOf, AreEditsNoted, Some, RoadMap, map_of, map_before, under_batch}
 use Rattle.olr_register.proofs.Common.{IsRegister, CanRenew, Batch, ◌==◌, Contains, Margin, IsContent, to_renew}
 use Rattle.olr_register.proofs.Common.{content_on, follows_without, is_margin, map, without_answer, Begins}
-use Rattle.olr_register.proofs.Common.{CoverageQuery, DistanceBounds, IsKeptRight, IsTrue, CanRenewTo, option_to_list}
+use Rattle.olr_register.proofs.Common.{CoverageQuery, DistanceBounds, IsStateRight, IsTrue, CanRenewTo, option_to_list}
 use Rattle.olr_register.proofs.Common.{or_left, Contains-append_cases, Add_node, Move_node, Drop_node, Add_line}
 use Rattle.olr_register.proofs.Common.{Set_line, Drop_line, Contains-cases, edit_differs, none_differs, differences_add}
 use Rattle.olr_register.proofs.Common.{ArePaths, NamesDiffer, IsBefore}
@@ -122,7 +122,7 @@ can_commit g roads is b h =
     }
 
 pub can_renew_batch : {g : Margin} {roads : RoadMap} {is : List Item} {b : Batch} {f : DistanceBounds} →
-    IsKeptRight g roads is (Some b) f → CanRenewTo b.margin roads b.touched f is (under_batch is b)
+    IsStateRight g roads is (Some b) f → CanRenewTo b.margin roads b.touched f is (under_batch is b)
 can_renew_batch {g} {roads} {is} {b} h = record {
   renewable = (map_before roads b.log, can_commit g roads is b h.register);
   bounded = record {

@@ -28,12 +28,12 @@ use Rattle.olr_spec.specs.Bytes as spec
 -- an accepted command, which raises the count of encodings by n
 abbrev pub Accepts : Registered → Command → Reply → ℕ → State → Type 0
 Accepts new c r n s =
-    ((t : State) × Represents new.kept t × IsOutcome s c (Ok (reply_of r)) t)
-    × CountIs (Affects s.content (changes_made s c)) new.kept.content.paths n
+    ((t : State) × Represents new.state t × IsOutcome s c (Ok (reply_of r)) t)
+    × CountIs (Affects s.content (changes_made s c)) new.state.content.paths n
 
 pub answered_counted : (old new : Registered) (c : Command) (r : Reply) (n : ℕ) →
-    ((s : State) → Represents old.kept s → Accepts new c r n s) → Rise old.work new.work n →
-    (IsFalse (encodes (is_some old.kept.batch) c) → new.work ≡ old.work) → Answered old c (Ok r) new
+    ((s : State) → Represents old.state s → Accepts new c r n s) → Rise old.work new.work n →
+    (IsFalse (encodes (is_some old.state.batch) c) → new.work ≡ old.work) → Answered old c (Ok r) new
 answered_counted old new c r n accepts rise same = record {
   outcome = λ s h. (accepts s h).0;
   counted = λ s t h k. (
@@ -51,10 +51,10 @@ abbrev pub Keeps : RegisterState → Command → Reply → State → Type 0
 Keeps k c r s = (changes_made s c ≡ []) × ((t : State) × Represents k t × IsOutcome s c (Ok (reply_of r)) t)
 
 pub answered_uncounted : (old : Registered) (k : RegisterState) (c : Command) (r : Reply) →
-    ((s : State) → Represents old.kept s → Keeps k c r s) →
-    Answered old c (Ok r) (record { kept = k; work = old.work })
+    ((s : State) → Represents old.state s → Keeps k c r s) →
+    Answered old c (Ok r) (record { state = k; work = old.work })
 answered_uncounted old k c r keeps =
-    answered_counted old (record { kept = k; work = old.work }) c r 0 (λ s h. (
+    answered_counted old (record { state = k; work = old.work }) c r 0 (λ s h. (
       (keeps s h).1,
       subst (λ (xs : List Change). CountIs (Affects s.content xs) k.content.paths 0) (sym (keeps s h).0)
           (none_affected s.content [] (unconcerned s.content) k.content.paths),
@@ -64,7 +64,7 @@ answered_uncounted old k c r keeps =
 -- the register is unchanged
 pub answered_refused : (old new : Registered) (c : Command) (r : Result Reply CommandFault) (f : CommandFault) →
     new ≡ old → IsErrAnd r (λ g. g ≡ f) →
-    InStates old.kept.content old.kept.batch (λ s. IsRefusal s c (command_fault_of f)) → Answered old c r new
+    InStates old.state.content old.state.batch (λ s. IsRefusal s c (command_fault_of f)) → Answered old c r new
 answered_refused old new c (Ok q) f same is h = absurd is
 answered_refused old new c (Err g) f same is h =
     subst (λ (x : Registered). Answered old c (Err g) x) (sym same)
@@ -72,7 +72,7 @@ answered_refused old new c (Err g) f same is h =
       outcome = λ s represents. (
         s,
         represents,
-        (in_states old.kept (λ s. IsRefusal s c (command_fault_of g)) (rw is h) s represents, refl),
+        (in_states old.state (λ s. IsRefusal s c (command_fault_of g)) (rw is h) s represents, refl),
       );
       counted = tt;
       rises = tt;
@@ -84,9 +84,9 @@ answered_refused old new c (Err g) f same is h =
 
 pub answered_same : (x : Registered) (c : Command) (r : Reply) → changes_made_in None c ≡ [] →
     ((xs : List Change) → changes_made_in (Some xs) c ≡ []) →
-    ((o : Option (List Change)) → IsOutcome (state x.kept.content o) c (Ok (reply_of r)) (state x.kept.content o)) →
+    ((o : Option (List Change)) → IsOutcome (state x.state.content o) c (Ok (reply_of r)) (state x.state.content o)) →
     Answered x c (Ok r) x
-answered_same x c r none some all = answered_uncounted x x.kept c r (λ s h. (
+answered_same x c r none some all = answered_uncounted x x.state c r (λ s h. (
   elim s.batch as (λ o. changes_made_in o c ≡ []) [ None ↦ none | Some xs ↦ some xs ],
   (
     s,
@@ -97,10 +97,10 @@ answered_same x c r none some all = answered_uncounted x x.kept c r (λ s h. (
 
 pub refused_same : (x : Registered) (c : Command) (r : Result Reply CommandFault) (f : CommandFault) →
     IsErrAnd r (λ g. g ≡ f) →
-    ((o : Option (List Change)) → IsRefusal (state x.kept.content o) c (command_fault_of f)) → Answered x c r x
+    ((o : Option (List Change)) → IsRefusal (state x.state.content o) c (command_fault_of f)) → Answered x c r x
 refused_same x c r f failed all =
     answered_refused x x c r f refl failed
-    (elim x.kept.batch as (λ b. InStates x.kept.content b (λ s. IsRefusal s c (command_fault_of f))) [
+    (elim x.state.batch as (λ b. InStates x.state.content b (λ s. IsRefusal s c (command_fault_of f))) [
       | None ↦ all None
       | Some b ↦ λ xs i. all (Some xs)
     ])
@@ -113,7 +113,7 @@ explain_refused x text f g is fault = refused_same x (state.Explain text) (Err f
 explain_lacks : (x : Registered) (text : List ℕ) (f : CommandFault) → command_fault_of f ≡ state.Memory →
     Answered x (state.Explain text) (Err f) x
 explain_lacks x text f is =
-    refused_same x (state.Explain text) (Err f) f refl (λ o. Lacks is (may (state x.kept.content o) (text_fault text)))
+    refused_same x (state.Explain text) (Err f) f refl (λ o. Lacks is (may (state x.state.content o) (text_fault text)))
   where
     may : (s : State) (o : Option state.TextFault) → may_want (unless_fault s o) ≡ true
     may s None = refl

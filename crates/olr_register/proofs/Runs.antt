@@ -10,7 +10,7 @@ use Rattle.olr_commands.specs.declared.reply.Reply.{Reply as Answered}
 -- a register in the state to which the commands lead with these answers
 abbrev pub HasRun : Registered → List Asked → List (Result Answered CommandFault) → Type 0
 HasRun x cs rs =
-    (t : State) × Represents x.kept t × Whole SoundOutcome start_state (map command_of cs) (map outcome_of rs) t
+    (t : State) × Represents x.state t × Whole SoundOutcome start_state (map command_of cs) (map outcome_of rs) t
 
 pub run_starts : (x : Registered) (rs : List (Result Answered CommandFault)) → x ≡ nothing_registered → rs ≡ [] →
     HasRun x [] rs
@@ -18,7 +18,7 @@ run_starts x rs new none = rw (new, none) (start_state, (refl, tt), (refl, refl)
 
 pub run_continues : (x y : Registered) (cs : List Asked) (c : Asked) (rs ss : List (Result Answered CommandFault))
     (r : Result Answered CommandFault) → HasRun x cs rs → Applied x (command_of c) (outcome_of r) y →
-    IsContent y.kept.content → ss ≡ rs ++ r ∷ [] → HasRun y (cs ++ c ∷ []) ss
+    IsContent y.state.content → ss ≡ rs ++ r ∷ [] → HasRun y (cs ++ c ∷ []) ss
 run_continues x y cs c rs ss r run applied sound more =
     let next = applied run.0 run.1 in
     let right : IsContent next.0.content = subst IsContent next.1.0 sound in

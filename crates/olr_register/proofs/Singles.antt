@@ -8,7 +8,7 @@ use Rattle.olr_register.proofs.Common.{Differences, IsRefusal, takes_memory, may
 use Rattle.olr_register.proofs.Common.{By_line, reply_of, command_fault_of, Reply, CommandFault, changes_keep}
 use Rattle.olr_register.proofs.Common.{DistanceBounds, Made, Item, IsEncodingOf, AreEncodings, all_named, arith}
 use Rattle.olr_register.proofs.Common.{set_item, IsRenewal, nodes_of, lines_of, changed_of, ChangeSet, follows_self}
-use Rattle.olr_register.proofs.Common.{has_name, Registered, content_on, items, kept_of, HasBounds, IsKeptRight}
+use Rattle.olr_register.proofs.Common.{has_name, Registered, content_on, items, state_of, HasBounds, IsStateRight}
 use Rattle.olr_register.proofs.Common.{CanRenewAfter, MayReport, ByContent, Lacks, Answered, IsNotedOf, encodes}
 use Rattle.olr_register.proofs.Common.{begins_drop, append-nil, Option, Margin, Set_margin, to_renew, is_margin, IsTrue}
 use Rattle.olr_register.proofs.Common.{option_batch, CanRenewTo, raised_work, entries_of, Renewed, IsState, IsPaths}
@@ -37,7 +37,7 @@ drop_affects c name p (By_line x h f) = absurd cc
 
 -- a register with no batch open
 module _ (r : Inside) {x : Registered} (view : of_parts r.margin r.roads (items r.paths) r.batch r.work ≡ x)
-    (none : x.kept.batch ≡ None) where
+    (none : x.state.batch ≡ None) where
   abbrev M : Map
   M = map_of r.roads
 
@@ -51,7 +51,7 @@ module _ (r : Inside) {x : Registered} (view : of_parts r.margin r.roads (items 
   c = content_on g M is
 
   shut : r.batch ≡ None
-  shut = by r.batch (ap (λ (y : Registered). y.kept.batch) view ∙ none) where
+  shut = by r.batch (ap (λ (y : Registered). y.state.batch) view ∙ none) where
     by : (o : Option Open) → option_batch r.roads is o ≡ None → o ≡ None
     by None h = refl
     by (Some b) h = absurd cc
@@ -66,7 +66,7 @@ module _ (r : Inside) {x : Registered} (view : of_parts r.margin r.roads (items 
 
   -- the fault is the first, or out of memory where none takes precedence
   pub may_refuse_now : {y : Change} {new : Registered} {q : Result Reply CommandFault} (f : CommandFault) → new ≡ x →
-      IsErrAnd q (λ g. g ≡ f) → takes_memory (Make y) None (length x.kept.content.paths == 0) ≡ true →
+      IsErrAnd q (λ g. g ≡ f) → takes_memory (Make y) None (length x.state.content.paths == 0) ≡ true →
       MayReport (with_change c y) (command_fault_of f) → Answered x (Make y) q new
   may_refuse_now {y = y} f same failed takes may = refused_now f same failed (by may) where
     by : MayReport (with_change c y) (command_fault_of f) → IsRefusal (state c None) (Make y) (command_fault_of f)
@@ -82,20 +82,20 @@ module _ (r : Inside) {x : Registered} (view : of_parts r.margin r.roads (items 
   accepted_now k y later js v q n is_made reply raised rise same =
       let new : Registered = of_parts k later js None v in
       rw (← view, shut) (answered_counted (of_parts g r.roads is None r.work) new (Make y) q n
-      (in_states (kept_of g r.roads is None) (Accepts new (Make y) q n)
+      (in_states (state_of g r.roads is None) (Accepts new (Make y) q n)
       ((state (content_on k (map_of later) js) None, (refl, tt), (ap at_once is_made, reply)), raised))
       rise same)
 
-  module _ (h : IsKeptRight g r.roads is r.batch r.searches.bounds) where
-    pub right : IsKeptRight g r.roads is None r.searches.bounds
+  module _ (h : IsStateRight g r.roads is r.batch r.searches.bounds) where
+    pub right : IsStateRight g r.roads is None r.searches.bounds
     right = right_as r shut h
 
-    pub kept_bounds : HasBounds r.roads [] is r.searches.bounds
-    kept_bounds = right.bounded
+    pub bounds_right : HasBounds r.roads [] is r.searches.bounds
+    bounds_right = right.bounded
 
     -- where nothing changes but the bounds
     pub same_right : {later : RoadMap} {js : List Item} {f : DistanceBounds} → map_of later ≡ M → js ≡ is →
-        HasBounds later [] js f → IsKeptRight g later js r.batch f
+        HasBounds later [] js f → IsStateRight g later js r.batch f
     same_right {later} map list bounded =
         rw shut (record {
           register = rw list (register_moved g r.roads later is None None map tt tt right.register);
@@ -104,7 +104,7 @@ module _ (r : Inside) {x : Registered} (view : of_parts r.margin r.roads (items 
 
     still_right : (k : Margin) (y : Change) (later : RoadMap) (js : List Item) (f : DistanceBounds) → HasCoords (Make y) →
         with_change c y ≡ Ok (content_on k (map_of later) js) → AreEncodings k (map_of later) js →
-        HasBounds later [] js f → IsKeptRight k later js r.batch f
+        HasBounds later [] js f → IsStateRight k later js r.batch f
     still_right k y later js f placed ok made bounded = rw shut (record {
       register = record {
         content = changes_keep c (content_on k (map_of later) js) y right.register.content placed ok;
@@ -132,15 +132,15 @@ module _ (r : Inside) {x : Registered} (view : of_parts r.margin r.roads (items 
       edit_ok js named = rw (done, named) refl
 
       -- where there are no paths
-      no_path : length x.kept.content.paths ≡ 0 → is ≡ []
-      no_path bare = no_items is (ap (λ (y : Registered). length y.kept.content.paths) view ∙ bare)
+      no_path : length x.state.content.paths ≡ 0 → is ≡ []
+      no_path bare = no_items is (ap (λ (y : Registered). length y.state.content.paths) view ∙ bare)
 
-      pub bare_right : {f : DistanceBounds} → HasCoord e → length x.kept.content.paths ≡ 0 → HasBounds later [] [] f →
-          IsKeptRight g later is r.batch f
+      pub bare_right : {f : DistanceBounds} → HasCoord e → length x.state.content.paths ≡ 0 → HasBounds later [] [] f →
+          IsStateRight g later is r.batch f
       bare_right {f} placed bare bounded =
           still_right g (On_map e) later is f placed (edit_ok is refl) (rw (no_path bare) tt) (rw (no_path bare) bounded)
 
-      pub bare_done : {q : Reply} → length x.kept.content.paths ≡ 0 → reply_of q ≡ replies.Paths [] →
+      pub bare_done : {q : Reply} → length x.state.content.paths ≡ 0 → reply_of q ≡ replies.Paths [] →
           Answered x (Make (On_map e)) (Ok q) (of_parts g later is r.batch r.work)
       bare_done {q} bare says =
           accepted_now g (On_map e) later is r.work q 0 (edit_ok is refl) (rw (says, no_path bare) refl) (rw (no_path bare) refl) (rise_none r.work)
@@ -148,7 +148,7 @@ module _ (r : Inside) {x : Registered} (view : of_parts r.margin r.roads (items 
 
       module _ {t : ChangeSet} (noted : IsNotedOf M e t) {js : List Item} {n : Renewed}
           (renewal : IsRenewal g (map_of later) t is is js n) where
-        pub edit_right : {f : DistanceBounds} → HasCoord e → HasBounds later [] js f → IsKeptRight g later js r.batch f
+        pub edit_right : {f : DistanceBounds} → HasCoord e → HasBounds later [] js f → IsStateRight g later js r.batch f
         edit_right {f} placed bounded =
             still_right g (On_map e) later js f placed (edit_ok js renewal.named) (remade_made g (map_of later) is js renewal.remade) bounded
 
@@ -182,7 +182,7 @@ module _ (r : Inside) {x : Registered} (view : of_parts r.margin r.roads (items 
       margin_ok : with_change c (Set_margin later_g) ≡ Ok (content_on later_g M js)
       margin_ok = rw (renewal.named, named_to_renew true is) refl
 
-      pub margin_right : {f : DistanceBounds} → HasBounds r.roads [] js f → IsKeptRight later_g r.roads js r.batch f
+      pub margin_right : {f : DistanceBounds} → HasBounds r.roads [] js f → IsStateRight later_g r.roads js r.batch f
       margin_right {f} bounded =
           still_right later_g (Set_margin later_g) r.roads js f most margin_ok (remade_made later_g M (to_renew true is) js renewal.remade)
           bounded
@@ -205,7 +205,7 @@ module _ (r : Inside) {x : Registered} (view : of_parts r.margin r.roads (items 
       abbrev left : List Item
       left = filter (λ i. not (same_name i.name name)) is
 
-      pub drop_right : has_name is name ≡ true → js ≡ left → IsKeptRight g r.roads js r.batch r.searches.bounds
+      pub drop_right : has_name is name ≡ true → js ≡ left → IsStateRight g r.roads js r.batch r.searches.bounds
       drop_right there list =
           rw list (still_right g (Drop_path name) r.roads left r.searches.bounds tt (drop_ok g M is name there)
           (each_left (each_encoded g M) (λ i. not (same_name i.name name)) is right.register.made) (record {
@@ -231,7 +231,7 @@ module _ (r : Inside) {x : Registered} (view : of_parts r.margin r.roads (items 
       pub differ : (es : List replies.Entry) → L es → Differences c (content_on g M ks) es
 
     module _ {y : Change} {ks js : List Item} {L : List replies.Entry → Type 0} (e : Gives y ks L) (list : js ≡ ks) where
-      pub given_right : {f : DistanceBounds} → HasBounds r.roads [] js f → IsKeptRight g r.roads js r.batch f
+      pub given_right : {f : DistanceBounds} → HasBounds r.roads [] js f → IsStateRight g r.roads js r.batch f
       given_right {f} bounded = still_right g y r.roads js f e.placed (rw list e.ok) (rw list e.made) bounded
 
       pub given_done : {q : Reply} {es : List replies.Entry} (w : Work) → reply_of q ≡ replies.Paths es → w.encodings ≡ 1 → L es →

@@ -1,7 +1,7 @@
 -- The states that a register represents, with a batch open or not.
 use Rattle.olr_register.proofs.Common.{◌≡◌, List, Option, Some, None, sym, subst, IfSome, Map, RoadMap, Work, Content}
 use Rattle.olr_register.proofs.Common.{IsContent, Change, State, Item, AreEncodings, RegisterState, IsBatchOf}
-use Rattle.olr_register.proofs.Common.{Represents, Registered, content_on, map_kept, kept_of, IsHeld, IsKeptRight}
+use Rattle.olr_register.proofs.Common.{Represents, Registered, content_on, accepted_map, state_of, IsHeld, IsStateRight}
 use Rattle.olr_register.proofs.Common.{IsRegister, Margin, items, KeepsMargin, RepresentsBatch, Open, Inside}
 use Rattle.olr_register.specs.RegisterState.{Batch}
 
@@ -9,15 +9,15 @@ abbrev pub state : Content → Option (List Change) → State
 state c o = record { content = c; batch = o }
 
 abbrev pub register_of : Content → Option Batch → Work → Registered
-register_of c o w = record { kept = record { content = c; batch = o }; work = w }
+register_of c o w = record { state = record { content = c; batch = o }; work = w }
 
 -- by the fields of the struct
 abbrev pub of_parts : Margin → RoadMap → List Item → Option Open → Work → Registered
-of_parts g roads is b w = record { kept = kept_of g roads is b; work = w }
+of_parts g roads is b w = record { state = state_of g roads is b; work = w }
 
 -- what is true of a register, on the same map and list with another batch
 pub register_moved : (g : Margin) (old new : RoadMap) (is : List Item) (o p : Option Open) →
-    map_kept new p ≡ map_kept old o → IfSome p (IsHeld new is) → IfSome p (KeepsMargin g) → IsRegister g old is o →
+    accepted_map new p ≡ accepted_map old o → IfSome p (IsHeld new is) → IfSome p (KeepsMargin g) → IsRegister g old is o →
     IsRegister g new is p
 register_moved g old new is o p same held margin h = record {
   content = subst (λ (M : Map). IsContent (content_on g M is)) (sym same) h.content;
@@ -28,8 +28,8 @@ register_moved g old new is o p same held margin h = record {
 
 -- what is true of a register, in terms of what its batch is
 pub right_as : (r : Inside) {o : Option Open} → r.batch ≡ o →
-    IsKeptRight r.margin r.roads (items r.paths) r.batch r.searches.bounds → IsKeptRight r.margin r.roads (items r.paths) o r.searches.bounds
-right_as r is = subst (λ (o : Option Open). IsKeptRight r.margin r.roads (items r.paths) o r.searches.bounds) is
+    IsStateRight r.margin r.roads (items r.paths) r.batch r.searches.bounds → IsStateRight r.margin r.roads (items r.paths) o r.searches.bounds
+right_as r is = subst (λ (o : Option Open). IsStateRight r.margin r.roads (items r.paths) o r.searches.bounds) is
 
 -- P holds of each state that they represent
 abbrev pub InStates : Content → Option Batch → (State → Type 0) → Type 0

@@ -2,13 +2,13 @@
 use Rattle.olr_register.proofs.Common.{◌≡◌, true, false, List, [], Option, Some, None, is_some, Result, Ok, Err, refl}
 use Rattle.olr_register.proofs.Common.{IsErrAnd, none_of, map_of, Content, Change, Command, step, IsOutcome, IsRefusal}
 use Rattle.olr_register.proofs.Common.{ByState, reply_of, command_fault_of, Reply, CommandFault, items, content_on, sym}
-use Rattle.olr_register.proofs.Common.{Registered, Answered, IsKeptRight, RegisterState, changes_made_in, Open, Inside}
+use Rattle.olr_register.proofs.Common.{Registered, Answered, IsStateRight, RegisterState, changes_made_in, Open, Inside}
 use Rattle.olr_register.proofs.Outcomes.{answered_refused, answered_uncounted, Keeps}
 use Rattle.olr_register.proofs.States.{state, register_of, of_parts, in_states, right_as}
 
 -- what is true of a register with no batch open
 pub shut_right : (r : Inside) → false ≡ is_some r.batch →
-    IsKeptRight r.margin r.roads (items r.paths) r.batch r.searches.bounds → IsKeptRight r.margin r.roads (items r.paths) None r.searches.bounds
+    IsStateRight r.margin r.roads (items r.paths) r.batch r.searches.bounds → IsStateRight r.margin r.roads (items r.paths) None r.searches.bounds
 shut_right r shut = right_as r (none_of r.batch (sym shut))
 
 module _ (r : Inside) {x : Registered} (view : of_parts r.margin r.roads (items r.paths) r.batch r.work ≡ x) where

@@ -14,5 +14,5 @@ pub record Answered (old : Registered) (c : Command) (result : Result Reply Comm
   pub outcome : Applied old c (outcome_of result) new
   pub counted : OnOk result (Counted old c new)
   pub rises : OnOk result (NoneFalls old.work new.work)
-  pub same : OnOk result (IsFalse (encodes (is_some old.kept.batch) c) → new.work ≡ old.work)
+  pub same : OnOk result (IsFalse (encodes (is_some old.state.batch) c) → new.work ≡ old.work)
   pub unchanged : OnErr result (new ≡ old)

@@ -27,4 +27,4 @@ pub record Builds (old : Content) (c : Command) (result : Result (Unit {0}) Comm
   pub unchanged : OnErr result (new ≡ old)
 
 abbrev pub EncodedOnce : Registered → Type 0
-EncodedOnce r = r.work.encodings ≡ raised_count 0 (length r.kept.content.paths)
+EncodedOnce r = r.work.encodings ≡ raised_count 0 (length r.state.content.paths)

@@ -7,7 +7,7 @@
 --     HasBounds roads T is bounds      each coverage query of the list is a source of the bounds, and once they are settled
 --         they are right on the map, if the nodes T are reopened before
 --     touched_in batch      the nodes that the edits of an open batch touched
---     IsKeptRight      what is true of the whole
+--     IsStateRight      what is true of the whole
 --     CanRenew g M N is ls t      the list ls, which the changes of a batch made of the list is, can be renewed after
 --         edits t that led from M to N
 --     CanRenewTo g roads t bounds is ls      the same, where the bounds are still those before the edits
@@ -32,12 +32,12 @@ use Rattle.olr_paths.specs.Origins.{Begins}
 use Rattle.olr_paths.specs.Overlaid.{under_overlay}
 use Rattle.olr_renewal.specs.ChangeSets.{nodes_of, lines_of, changed_of}
 use Rattle.olr_renewal.specs.declared.change_set.ChangeSet.{ChangeSet}
-use Rattle.olr_register.specs.RegisterState as kept
+use Rattle.olr_register.specs.RegisterState as states
 use Rattle.olr_register.specs.declared.batch.Batch.{Batch}
 
 -- ---- in terms of the definitions of commands, over the register's list
 
-abbrev pub held_of : Item → kept.Held
+abbrev pub held_of : Item → states.Held
 held_of i = record { name = i.name; path = i.path; given = is_none i.made }
 
 abbrev pub content_on : Margin → Map → List Item → Content
@@ -51,7 +51,7 @@ abbrev pub content_under : RoadMap → List Item → Batch → Content
 content_under roads is b = content_on b.margin (map_of roads) (under_batch is b)
 
 -- with the list ls under its changes
-abbrev pub batch_as : RoadMap → List Item → Margin → ℕ → ChangeSet → kept.Batch
+abbrev pub batch_as : RoadMap → List Item → Margin → ℕ → ChangeSet → states.Batch
 batch_as roads ls margin count touched =
     record {
       map = map_of roads;
@@ -62,22 +62,22 @@ batch_as roads ls margin count touched =
       lines = lines_of touched;
     }
 
-abbrev pub batch_of : RoadMap → List Item → Batch → kept.Batch
+abbrev pub batch_of : RoadMap → List Item → Batch → states.Batch
 batch_of roads is b = batch_as roads (under_batch is b) b.margin b.count b.touched
 
 -- while a batch is open, this is the map to which its log leads back
-abbrev pub map_kept : RoadMap → Option Batch → Map
-map_kept roads None = map_of roads
-map_kept roads (Some b) = map_before roads b.log
+abbrev pub accepted_map : RoadMap → Option Batch → Map
+accepted_map roads None = map_of roads
+accepted_map roads (Some b) = map_before roads b.log
 
-abbrev pub option_batch : RoadMap → List Item → Option Batch → Option kept.Batch
+abbrev pub option_batch : RoadMap → List Item → Option Batch → Option states.Batch
 option_batch roads is None = None
 option_batch roads is (Some b) = Some (batch_of roads is b)
 
-abbrev pub kept_of : Margin → RoadMap → List Item → Option Batch → kept.RegisterState
-kept_of g roads is batch =
+abbrev pub state_of : Margin → RoadMap → List Item → Option Batch → states.RegisterState
+state_of g roads is batch =
     record {
-      content = content_on g (map_kept roads batch) is;
+      content = content_on g (accepted_map roads batch) is;
       batch = option_batch roads is batch;
     }
 
@@ -107,8 +107,8 @@ abbrev pub KeepsMargin : Margin → Batch → Type 0
 KeepsMargin g b = IsFalse b.all → b.margin ≡ g
 
 pub record IsRegister (g : Margin) (roads : RoadMap) (is : List Item) (batch : Option Batch) : Type 0 where
-  pub content : IsContent (content_on g (map_kept roads batch) is)
-  pub made : AreEncodings g (map_kept roads batch) is
+  pub content : IsContent (content_on g (accepted_map roads batch) is)
+  pub made : AreEncodings g (accepted_map roads batch) is
   pub held : IfSome batch (IsHeld roads is)
   pub margin : IfSome batch (KeepsMargin g)
 
@@ -120,7 +120,7 @@ pub record HasBounds (roads : RoadMap) (T : List ℕ) (is : List Item) (bounds :
   pub under_way : IsUnderWay (map_of roads) (slot_of roads) T bounds
   pub sources : (l : CoverageQuery) → Begins is l → IsSource bounds l.from l.within
 
-pub record IsKeptRight (g : Margin) (roads : RoadMap) (is : List Item) (batch : Option Batch) (bounds : DistanceBounds) : Type 0
+pub record IsStateRight (g : Margin) (roads : RoadMap) (is : List Item) (batch : Option Batch) (bounds : DistanceBounds) : Type 0
   where
     pub register : IsRegister g roads is batch
     pub bounded : HasBounds roads (touched_in batch) is bounds

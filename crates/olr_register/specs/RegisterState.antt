@@ -87,7 +87,7 @@ coded_batch =
     (λ t. record { map = t.0.0; paths = t.0.1; margin = t.1.0.0; count = t.1.0.1; nodes = t.1.1.0; lines = t.1.1.1 })
     (λ _. refl)
 
-abbrev pub coded_kept : Coded RegisterState
-coded_kept =
+abbrev pub coded_register_state : Coded RegisterState
+coded_register_state =
     code_by (Content × Option Batch) (coded× coded_content (coded_option coded_batch)) (λ k. (k.content, k.batch))
     (λ t. record { content = t.0; batch = t.1 }) (λ _. refl)

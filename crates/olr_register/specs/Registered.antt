@@ -17,10 +17,10 @@ use Rattle.olr_commands.specs.State.{State, Content, Named, no_content, path_nam
 use Rattle.olr_commands.specs.Reply.{Outcome, IsOutcome}
 use Rattle.olr_commands.specs.Counts.{Raises}
 use Rattle.olr_paths.specs.Items.{Made, IsEncodingOf}
-use Rattle.olr_register.specs.RegisterState.{RegisterState, Represents, coded_kept}
+use Rattle.olr_register.specs.RegisterState.{RegisterState, Represents, coded_register_state}
 
 pub record Registered : Type 0 where
-  pub kept : RegisterState
+  pub state : RegisterState
   pub work : Work
 
 abbrev pub coded_work : Coded Work
@@ -30,14 +30,14 @@ coded_work =
 
 abbrev pub coded_registered : Coded Registered
 coded_registered =
-    code_by (RegisterState × Work) (coded× coded_kept coded_work) (λ r. (r.kept, r.work))
-    (λ t. record { kept = t.0; work = t.1 }) (λ _. refl)
+    code_by (RegisterState × Work) (coded× coded_register_state coded_work) (λ r. (r.state, r.work))
+    (λ t. record { state = t.0; work = t.1 }) (λ _. refl)
 
 -- no paths, an empty map, and counts of 0
 abbrev pub nothing_registered : Registered
 nothing_registered =
     record {
-      kept = record { content = no_content; batch = None };
+      state = record { content = no_content; batch = None };
       work = no_work;
     }
 
@@ -56,10 +56,10 @@ abbrev pub AllPublished : Content → List (List ℕ × Option Made) → Type 0
 AllPublished c xs = HaveEncodings c.margin c.map c.paths xs
 
 abbrev pub Applied : Registered → Command → Outcome → Registered → Type 0
-Applied old c o new = (s : State) → Represents old.kept s → (t : State) × Represents new.kept t × IsOutcome s c o t
+Applied old c o new = (s : State) → Represents old.state s → (t : State) × Represents new.state t × IsOutcome s c o t
 
 -- for each two states of such a step: the number of encodings by which it raises the count, which saturates at 64 bits
 abbrev pub Counted : Registered → Command → Registered → Type 0
 Counted old c new =
-    (s t : State) → Represents old.kept s → Represents new.kept t → (n : ℕ) × Raises s c t n
+    (s t : State) → Represents old.state s → Represents new.state t → (n : ℕ) × Raises s c t n
     × (new.work.encodings ≡ raised_count old.work.encodings n)

@@ -44,7 +44,7 @@ fn push_found(
     Ok(())
 }
 
-/// What stands in the way of a reference, by the grid of the map, or if there is none by one pass over its nodes.
+/// The ambiguities of a reference, by the grid of the map, or if there is none by one pass over its nodes.
 fn found_by(
     alloc: Global,
     roads: &RoadMap,
@@ -66,7 +66,7 @@ fn found_by(
     }
 }
 
-/// What stands in the way of the string of an encoded path: nothing if it has none.
+/// The ambiguities of the string of an encoded path: none if it has none.
 fn found_in(
     alloc: Global,
     roads: &RoadMap,
@@ -94,7 +94,7 @@ fn known_of(published: Option<&Published>) -> &[KnownQuery]
     }
 }
 
-/// What stands in the way of the strings of all paths of a list, in order. They are encoded again, without searches for
+/// The ambiguities of the strings of all paths of a list, in order. They are encoded again, without searches for
 /// the coverage queries that are known.
 fn all_ambiguities(
     alloc: Global,
@@ -122,7 +122,7 @@ fn all_ambiguities(
     Ok(all)
 }
 
-/// What stands in the way of the string of a path of this name.
+/// The ambiguities of the string of a path of this name.
 fn own_ambiguity(
     alloc: Global,
     roads: &RoadMap,
@@ -154,7 +154,7 @@ impl Register {
     ghost use Rattle.olr_commands.specs.State.{Ambiguous};
     ghost use Rattle.olr_register.specs.Answered.{Answered};
 
-    /// What stands in the way of reading strings in only one way: that of the path of the name, or those of all paths.
+    /// The ambiguities of strings: those of the path of the name, or of all paths.
     pub(crate) fn ambiguous(&mut self, name: Option<String>) -> Result<Reply, CommandFault>
         ensures { Answered self.old (Ambiguous (option_map string_bytes name)) result self.new }
     {
@@ -164,7 +164,7 @@ impl Register {
         }
     }
 
-    /// What stands in the way of reading the strings of the paths in only one way, in order. Nothing changes, not even a
+    /// The ambiguities of the strings of the paths, in order. Nothing changes, not even a
     /// count. The faults are `BatchOpen` and `Memory`, in this order of precedence.
     #[inline(never)]
     pub fn ambiguities(&mut self) -> Result<Reply, CommandFault>
@@ -180,7 +180,7 @@ impl Register {
         Ok(Reply::Obstacles(all))
     }
 
-    /// What stands in the way of reading the string of the path of that name in only one way: nothing if the path is not
+    /// The ambiguities of the string of the path of that name: none if the path is not
     /// encodable. Nothing changes, not even a count. The faults are `BatchOpen`, `NoPath` and `Memory`, in this order of
     /// precedence.
     #[inline(never)]

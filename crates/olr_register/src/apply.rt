@@ -101,10 +101,10 @@ impl Register {
         ensures outcome { Applied self.old (command_of command) (outcome_of result) self.new }
         ensures counted { OnOk result (Counted self.old (command_of command) self.new) }
         ensures unchanged { OnErr result (self.new ≡ self.old) }
-        ensures sound { IsContent self.new.kept.content }
+        ensures sound { IsContent self.new.state.content }
         ensures rises { OnOk result (NoneFalls self.old.work self.new.work) }
         ensures same { OnOk result
-            (IsFalse (encodes (is_some self.old.kept.batch) (command_of command)) → self.new.work ≡ self.old.work) }
+            (IsFalse (encodes (is_some self.old.state.batch) (command_of command)) → self.new.work ≡ self.old.work) }
     {
         let result = self.answer_to(command);
         // The content is sound, like that of every register.
@@ -114,7 +114,7 @@ impl Register {
 
     /// Does nothing. Its contract says that the content of every register is sound.
     pub fn is_sound(&self)
-        ensures { IsContent self.now.kept.content }
+        ensures { IsContent self.now.state.content }
     {
         // For the proof alone: the content is sound, like that of every register.
         let _encodings = self.work.encodings;
@@ -126,9 +126,9 @@ pub fn replay(
     alloc: Global,
     commands: Vec<Command>,
 ) -> Result<(Register, Vec<Result<Reply, CommandFault>>), AllocError>
-    ensures history { IfOk result (λ r. (t : State) × Represents r.0.kept t
+    ensures history { IfOk result (λ r. (t : State) × Represents r.0.state t
         × History start_state (map command_of commands.items) (map outcome_of r.1.items) t) }
-    ensures headline { IfOk result (λ r. (t : State) × Represents r.0.kept t
+    ensures headline { IfOk result (λ r. (t : State) × Represents r.0.state t
         × Headline IsOutcome (λ c. Some c) start_state (map command_of commands.items) (map outcome_of r.1.items) t) }
 {
     let mut register = Register::new(alloc);

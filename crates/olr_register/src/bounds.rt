@@ -162,8 +162,8 @@ pub(crate) fn preview(
         → HasBounds update.now.map.now T is searches.new.bounds }
 {
     settle_bounds(&mut searches.bounds, update.map, update.touched);
-    let unstored = renewal_over(paths, update, overlay, searches)?;
-    Ok(unstored.into_renewed())
+    let new_results = renewal_over(paths, update, overlay, searches)?;
+    Ok(new_results.into_renewed())
 }
 
 /// Undoes the edits of a log, which touched these nodes and lines, and reopens the nodes. The bounds are unknown after that

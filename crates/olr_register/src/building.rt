@@ -148,7 +148,7 @@ impl Building {
 
     /// Encodes each path, once, and returns the register, in which no batch is open.
     pub fn finish(self) -> Result<Register, AllocError>
-        ensures kept { IfOk result (λ r. r.kept ≡ record { content = self; batch = None }) }
+        ensures state { IfOk result (λ r. r.state ≡ record { content = self; batch = None }) }
         ensures counted { IfOk result (λ r. EncodedOnce r) }
     {
         let Building {

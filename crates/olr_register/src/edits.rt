@@ -106,7 +106,7 @@ impl Register {
     /// If there are no paths, nothing but the map takes memory, and the distance bounds are cleared.
     #[inline(always)]
     pub(crate) fn edit_now(&mut self, edit: Edit) -> Result<Reply, CommandFault>
-        requires { self.old.kept.batch ≡ None }
+        requires { self.old.state.batch ≡ None }
         ensures { Answered self.old (Make (On_map (edit_of edit))) result self.new }
     {
         if self.len() > 0 {
@@ -124,8 +124,8 @@ impl Register {
     /// The same, where there are paths. It is not inlined into what edits run through while a map is read.
     #[inline(never)]
     fn edit_among_paths(&mut self, edit: Edit) -> Result<Reply, CommandFault>
-        requires open { self.old.kept.batch ≡ None }
-        requires some { length self.old.kept.content.paths ≢ 0 }
+        requires open { self.old.state.batch ≡ None }
+        requires some { length self.old.state.content.paths ≢ 0 }
         ensures { Answered self.old (Make (On_map (edit_of edit))) result self.new }
     {
         let plan = match judge(&self.roads, &edit) {

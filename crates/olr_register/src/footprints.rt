@@ -18,7 +18,7 @@ impl Register {
     /// What is published of the path of that name, with the traversed nodes and the coverage queries of its encoding on
     /// the map. None if no path has the name. An open batch is ignored.
     pub fn published_of(&self, name: &str) -> Option<&Published>
-        ensures { PublishedWhole self.now.kept.content name.now (option_map (λ p. made_of p.now) result) }
+        ensures { PublishedWhole self.now.state.content name.now (option_map (λ p. made_of p.now) result) }
     {
         self.paths.published_of(name)
     }
@@ -27,10 +27,10 @@ impl Register {
     /// nodes and no line of the path leaves its answer unchanged. None if no path has the name. While a batch is open
     /// the map is that of the batch, and the fault is `BatchOpen`; otherwise `Memory` is the only fault.
     pub fn footprint(&self, name: &str) -> Result<Option<Footprint>, CommandFault>
-        ensures open { IsTrue (is_some self.now.kept.batch) → result ≡ Err CommandFault.BatchOpen }
-        ensures memory { IfErr result (λ f. IsFalse (is_some self.now.kept.batch) → f ≡ CommandFault.Memory) }
-        ensures footprint { IfOk result (λ o. MatchOption (path_named self.now.kept.content.paths name.now) (o ≡ None)
-            (λ P. IsSomeAnd o (λ f. (v : ℕ) → Contains f v ↔ FootWith self.now.kept.content.margin self.now.kept.content.map P v))) }
+        ensures open { IsTrue (is_some self.now.state.batch) → result ≡ Err CommandFault.BatchOpen }
+        ensures memory { IfErr result (λ f. IsFalse (is_some self.now.state.batch) → f ≡ CommandFault.Memory) }
+        ensures footprint { IfOk result (λ o. MatchOption (path_named self.now.state.content.paths name.now) (o ≡ None)
+            (λ P. IsSomeAnd o (λ f. (v : ℕ) → Contains f v ↔ FootWith self.now.state.content.margin self.now.state.content.map P v))) }
     {
         if self.batch.is_some() {
             return Err(CommandFault::BatchOpen);

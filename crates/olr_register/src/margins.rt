@@ -16,7 +16,7 @@ impl Register {
     /// fails, nothing changes but the distance bounds, which are unknown then.
     #[inline(never)]
     pub(crate) fn set_margin_now(&mut self, margin: Margin) -> Result<Reply, CommandFault>
-        requires { self.old.kept.batch ≡ None }
+        requires { self.old.state.batch ≡ None }
         ensures { Answered self.old (Make (Set_margin margin)) result self.new }
     {
         // For the proof alone: the margin is in range.

@@ -16,7 +16,7 @@ impl Register {
     /// precedence.
     #[inline(never)]
     pub(crate) fn add_now(&mut self, name: String, parts: PathParts) -> Result<Reply, CommandFault>
-        requires { self.old.kept.batch ≡ None }
+        requires { self.old.state.batch ≡ None }
         ensures { Answered self.old (Make (Add_path (string_bytes name) (path_by parts))) result
             self.new }
     {
@@ -33,7 +33,7 @@ impl Register {
     /// Encodes another path for a name. The faults are `NoPath`, `BadPath` and `Memory`, in this order of precedence.
     #[inline(never)]
     pub(crate) fn set_now(&mut self, name: &str, parts: PathParts) -> Result<Reply, CommandFault>
-        requires { self.old.kept.batch ≡ None }
+        requires { self.old.state.batch ≡ None }
         ensures { Answered self.old (Make (Set_path name.now (path_by parts))) result self.new }
     {
         let missing = !self.paths.has(name);
@@ -48,7 +48,7 @@ impl Register {
 
     /// Removes a path; the paths after it move up. Takes no memory.
     pub(crate) fn drop_now(&mut self, name: &str) -> Result<Reply, CommandFault>
-        requires { self.old.kept.batch ≡ None }
+        requires { self.old.state.batch ≡ None }
         ensures { Answered self.old (Make (Drop_path name.now)) result self.new }
     {
         if !self.paths.has(name) {

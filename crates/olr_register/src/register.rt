@@ -29,15 +29,15 @@ pub struct Register {
 impl Model for Register {
     ghost use Rattle.olr_paths.specs.Items.{items};
     ghost use Rattle.olr_register.specs.Registered.{Registered, coded_registered};
-    ghost use Rattle.olr_register.specs.Contents.{kept_of, IsKeptRight};
+    ghost use Rattle.olr_register.specs.Contents.{state_of, IsStateRight};
 
     ghost Value = { Registered };
 
     ghost coded = { coded_registered };
 
-    ghost view = { λ r. record { kept = kept_of r.margin r.roads (items r.paths) r.batch; work = r.work } };
+    ghost view = { λ r. record { state = state_of r.margin r.roads (items r.paths) r.batch; work = r.work } };
 
-    ghost invariant = { λ r. IsKeptRight r.margin r.roads (items r.paths) r.batch r.searches.bounds };
+    ghost invariant = { λ r. IsStateRight r.margin r.roads (items r.paths) r.batch r.searches.bounds };
 }
 
 // Written out: a derived drop is proved again in each crate that ends a register.
@@ -86,7 +86,7 @@ impl Register {
 
     /// What is published of the path of that name. None if no path has the name. An open batch is ignored.
     pub fn answer(&self, name: &str) -> Option<&Answer>
-        ensures { Published self.now.kept.content name.now (option_map (λ a. answer_of a.now) result) }
+        ensures { Published self.now.state.content name.now (option_map (λ a. answer_of a.now) result) }
     {
         let published = self.paths.published_of(name)?;
         Some(published.answer())
@@ -94,7 +94,7 @@ impl Register {
 
     /// The text of that path's reference. None if no path has the name, or if the path is not encodable.
     pub fn text(&self, name: &str) -> Option<&str>
-        ensures { PublishedText self.now.kept.content name.now (option_map (λ t. t.now) result) }
+        ensures { PublishedText self.now.state.content name.now (option_map (λ t. t.now) result) }
     {
         let shown = self.paths.published_of(name)?;
         shown.text()
@@ -102,14 +102,14 @@ impl Register {
 
     /// The number of paths, without those of an open batch.
     pub fn len(&self) -> usize
-        ensures { result ≡ length self.now.kept.content.paths }
+        ensures { result ≡ length self.now.state.content.paths }
     {
         self.paths.len()
     }
 
     /// Whether there is no path; those of an open batch are ignored.
     pub fn is_empty(&self) -> bool
-        ensures { IsTrue result ↔ (length self.now.kept.content.paths ≡ 0) }
+        ensures { IsTrue result ↔ (length self.now.state.content.paths ≡ 0) }
     {
         self.len() == 0
     }
@@ -117,7 +117,7 @@ impl Register {
     /// The name of path k, counted from 0. None past the last.
     pub fn name_at(&self, k: usize) -> Option<&str>
         ensures { option_map (λ n. n.now) result
-            ≡ slice_get (map (λ p. p.name) self.now.kept.content.paths) k }
+            ≡ slice_get (map (λ p. p.name) self.now.state.content.paths) k }
     {
         self.paths.name_at(k)
     }
@@ -125,21 +125,21 @@ impl Register {
     /// The names of all paths in the order of their registration, each with what is published of it. An open batch is
     /// ignored.
     pub fn iter(&self) -> Iter<'_>
-        ensures { AllPublished self.now.kept.content (left result) }
+        ensures { AllPublished self.now.state.content (left result) }
     {
         self.paths.iter()
     }
 
     /// The margin with which the paths are encoded, without that of an open batch.
     pub fn margin(&self) -> Margin
-        ensures { result ≡ self.now.kept.content.margin }
+        ensures { result ≡ self.now.state.content.margin }
     {
         self.margin
     }
 
     /// Whether a batch is open.
     pub fn is_open(&self) -> bool
-        ensures { result ≡ is_some self.now.kept.batch }
+        ensures { result ≡ is_some self.now.state.batch }
     {
         self.batch.is_some()
     }

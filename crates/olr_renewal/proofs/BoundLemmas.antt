@@ -5,7 +5,7 @@ use Rattle.olr_renewal.proofs.Common.{eqb-true, Map, IsMap, SameLine, has, has_n
 use Rattle.olr_renewal.proofs.Common.{GREATEST_LIMIT, Near, IsRoute-append, dm_of-append, route_start, AreBounds}
 use Rattle.olr_renewal.proofs.Common.{Against, IsSource, IsRight, label_of, frontier_len, IsQueued, IsAlike, Moves}
 use Rattle.olr_renewal.proofs.Common.{CoversSlots, alike_labels, source_of, bound_at, AreClosed, AreMet, AreRight}
-use Rattle.olr_renewal.proofs.Common.{IsDue, AreUnderWay, IsUnderWay, IsEdit, IsFar, IsLed, AreLed, IsFollowed}
+use Rattle.olr_renewal.proofs.Common.{IsDue, AreUnderWay, IsUnderWay, IsEdit, IsUnbounded, IsLed, AreLed, IsFollowed}
 use Rattle.olr_renewal.proofs.Common.{DistanceBounds}
 use Rattle.std.proofs.lemmas.List.Folds.{list_any-append}
 use Rattle.olr_spec.proofs.AgreeLemmas.{turned_round, by_leaving, same_known, same_start, same_end, same_dm}
@@ -36,7 +36,7 @@ moves_none f = grind arith
 
 module _ (M N : Map) (s r : ℕ → ℕ) (T : List ℕ) (f : DistanceBounds) (e : IsEdit T M s N r) where
   module _ (P Q : ℕ → Type 0) (more : (v : ℕ) → P v → Q v)
-      (touched : (v : ℕ) → IsTrue (has T v) → IsFar M s f v ⊎ Q v) where
+      (touched : (v : ℕ) → IsTrue (has T v) → IsUnbounded M s f v ⊎ Q v) where
     closed_on : AreClosed M s (bound_at f) P → AreClosed N r (bound_at f) Q
     closed_on closed x line short = elim (cases_Bool (has T (start N x))) [
       | inl on ↦ grind (arith, bound_at)
@@ -60,7 +60,7 @@ module _ (M N : Map) (s r : ℕ → ℕ) (T : List ℕ) (f : DistanceBounds) (e 
         sources = met_on (IsDue T' f) (IsDue U f) due (λ v h. inr (inl (more v h))) (under is).sources;
       }
 
-  module _ (far : (v : ℕ) → IsTrue (has T v) → IsFar M s f v) where
+  module _ (far : (v : ℕ) → IsTrue (has T v) → IsUnbounded M s f v) where
     pub spared_under_way : IsUnderWay M s [] f → IsUnderWay N r [] f
     spared_under_way under is = record {
       closed = closed_on (IsDue [] f) (IsDue [] f) (λ v d. d) (λ v h. inl (far v h)) (under is).closed;

@@ -35,14 +35,14 @@ pub use Rattle.olr_paths.specs.declared.published.Published.{Published}
 pub use Rattle.olr_renewal.specs.Actions.{ToSkip, ToName, Retains, IsActionFor}
 pub use Rattle.olr_renewal.specs.AffectedSearches.{AreDetours, IsExactAt, IsSearchedFor, sources, sources_in}
 pub use Rattle.olr_renewal.specs.Bounds.{IsRight, IsSource, source_of, bound_at, AreClosed, AreMet, AreRight, IsDue}
-pub use Rattle.olr_renewal.specs.Bounds.{AreUnderWay, IsUnderWay, IsEdit, IsFar, IsLed, AreLed, IsFollowed}
+pub use Rattle.olr_renewal.specs.Bounds.{AreUnderWay, IsUnderWay, IsEdit, IsUnbounded, IsLed, AreLed, IsFollowed}
 pub use Rattle.olr_renewal.specs.Candidates.{AreFound, Covers, CoversSearched, Finds, FindsChanged, Includes}
 pub use Rattle.olr_renewal.specs.ChangeSets.{changed_of, lines_of, nodes_of, IsLineAround}
 pub use Rattle.olr_renewal.specs.Changes.{IsAffected, IsBefore, Follows, By_name, By_node, By_line, with_made}
 pub use Rattle.olr_renewal.specs.Changes.{AreRemade, IsRemade, AffectedNames}
 pub use Rattle.olr_renewal.specs.Reencoded.{after_renewal, made_at, IsGiven, ReportsIfOther, encodings_of, entries_of}
 pub use Rattle.olr_renewal.specs.Reencoded.{IsRenewal, IsStep, WasBefore, AreAffectedNames, AreRenewed, IsRenewed}
-pub use Rattle.olr_renewal.specs.Reencoded.{IsStored}
+pub use Rattle.olr_renewal.specs.Reencoded.{IsPutIn}
 pub use Rattle.olr_renewal.specs.declared.actions.Action.{Action}
 pub use Rattle.olr_renewal.specs.declared.actions.Action.TheVariants.{Skip, Retain, Encode}
 pub use Rattle.olr_renewal.specs.declared.change_set.ChangeSet.{ChangeSet}

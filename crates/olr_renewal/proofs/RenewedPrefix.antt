@@ -73,7 +73,7 @@ whole {g} {N} {t} {before} {is} r b h =
 
 module _ {g : Margin} {N : Map} (n : IsMap N) {T X : List ℕ} {C : List ChangedLine} {before is : List Item}
     (follows : Follows before is) (position : ℕ) (i : Item) (at : slice_get is position ≡ Some i) where
-  -- with the item j, which is counted or not, after what was stored
+  -- with the item j, which is counted or not, after what was put
   grown : (r s : Renewal) (j : Item) (A : Answer) (u : ℕ) (h : SoFar g N T X C before is (take position is) r) →
       ((ys : List Item) → all_put (take position is ++ i ∷ ys) (made_at s) ≡ h.js ++ j ∷ ys) →
       named_of j ≡ named_of i → answer j ≡ Some A →

@@ -13,7 +13,7 @@
 --     SameBut T M N      round all nodes but T the maps are the same
 --     IsEdit T M s N r      an edit that touched the nodes T leads from map M to map N. The nodes of M have the slots s, and
 --         nodes that stay keep them; a new node has no lines
---     IsFar M s f v      no query begins at node v, and it has no bound
+--     IsUnbounded M s f v      no query begins at node v, and it has no bound
 --     IsLowered f g v d      only the source at v changed: it is the lesser of d and the one before
 --     IsReopened f g      the bounds are the same, what was open still is, and so is each source that is new or less
 --     IsLed M s S L p d      a route leads to the node in slot p; d is its length and the bound, or the source, where it
@@ -91,7 +91,7 @@ pub record IsEdit (T : List ℕ) (M : Map) (s : ℕ → ℕ) (N : Map) (r : ℕ 
   pub starts : (x : ℕ) → IsTrue (has_line N x) → IsTrue (has_node M (start N x))
   pub ends : (x : ℕ) → IsTrue (has_line N x) → IsTrue (has_node M (end N x))
 
-pub record IsFar (M : Map) (s : ℕ → ℕ) (f : DistanceBounds) (v : ℕ) : Type 0 where
+pub record IsUnbounded (M : Map) (s : ℕ → ℕ) (f : DistanceBounds) (v : ℕ) : Type 0 where
   pub source : source_of f v ≡ None
   pub bound : IsTrue (has_node M v) → GREATEST_LIMIT < bound_at f (s v)
 

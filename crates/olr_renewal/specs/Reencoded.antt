@@ -12,7 +12,7 @@
 --     CanRenewUnder map slot u f is o      the list is can be renewed under the changes of an overlay, and no name occurs twice
 --     AreRenewed map u before is js r      the list js is the list is, renewed after the update
 --     IsRenewed map u before is r      the list is with the results of r is renewed, and r reports and counts it
---     IsStored u is r js s      these results are stored in the list js;  s reports and counts as r does, and has the coverage
+--     IsPutIn u is r js s      these results are put in the list js;  s reports and counts as r does, and has the coverage
 --         queries that are new
 --     IsUnchanged map u is, AreAffectedNames map u is names      the results of the list are right on the map of the update;
 --         the names of the paths that its edits would affect
@@ -118,7 +118,7 @@ pub record CanRenewUnder {M : Type 0} (map : M → Map) (slot : M → ℕ → �
 abbrev pub IsRenewed : {M : Type 0} → (M → Map) → MapUpdate M → List Item → List Item → Renewal → Type 0
 IsRenewed map u before is r = AreRenewed map u before is (after_renewal r (to_renew_by u is)) r.renewed
 
-pub record IsStored {M : Type 0} (u : MapUpdate M) (is : List Item) (r : Renewal) (js : List Item) (s : Renewed) : Type 0 where
+pub record IsPutIn {M : Type 0} (u : MapUpdate M) (is : List Item) (r : Renewal) (js : List Item) (s : Renewed) : Type 0 where
   pub items : js ≡ after_renewal r (to_renew_by u is)
   pub entries : s.entries ≡ r.renewed.entries
   pub work : s.work ≡ r.renewed.work

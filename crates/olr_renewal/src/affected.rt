@@ -87,7 +87,7 @@ fn search_touched<M: MapRead>(
     requires { CanSearch M.map M.node_slot update.now bounds.now (shown_items overlaid) }
     ensures { OnOk result (Searched M.map M.node_slot update.now near.new (Begins (shown_items overlaid.entry))) }
 {
-    if bounds.is_far(update.map, update.touched.nodes()) || is_without_queries(overlaid) {
+    if bounds.are_unbounded(update.map, update.touched.nodes()) || is_without_queries(overlaid) {
         near.begin(update.map, Direction::Against, &[])?;
         return Ok(());
     }

@@ -238,14 +238,14 @@ fn finds_none<T: Numbered>(index: &Index, items: &[T]) -> bool
 /// Whether it is known that no coverage query reaches a touched node, so that the edits leave the bounds right. `map`
 /// is the map before the edits.
 fn are_spared<M: MapRead>(map: &M, touched: &ChangeSet, bounds: &DistanceBounds) -> bool
-    ensures far { IsTrue result → (N : Map) (slot : ℕ → ℕ) (s w : ℕ)
+    ensures unbounded { IsTrue result → (N : Map) (slot : ℕ → ℕ) (s w : ℕ)
         → IsEdit (nodes_of touched.now) (M.map map.now) (M.node_slot map.now) N slot → IsRight N slot bounds.now
         → IsSource bounds.now s w → ¬ Near N (nodes_of touched.now) s (min w GREATEST_LIMIT) }
     ensures right { IsTrue result → (N : Map) (slot : ℕ → ℕ)
         → IsEdit (nodes_of touched.now) (M.map map.now) (M.node_slot map.now) N slot
         → IsUnderWay (M.map map.now) (M.node_slot map.now) [] bounds.now → IsRight N slot bounds.now }
 {
-    bounds.is_settled() && bounds.is_far(map, touched.nodes())
+    bounds.is_settled() && bounds.are_unbounded(map, touched.nodes())
 }
 
 /// Whether it is known without a search that edits affect no path of the list: all were encoded, none has a touched

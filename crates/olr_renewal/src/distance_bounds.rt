@@ -104,7 +104,7 @@ impl DistanceBounds {
     ghost use Rattle.olr_spec.specs.Map.{Map, has};
     ghost use Rattle.olr_spec.specs.Detours.{Near};
     ghost use Rattle.olr_renewal.specs.Bounds.{source_of, bound_at, bounds_len, IsSource, IsRight, IsUnderWay, IsEdit};
-    ghost use Rattle.olr_renewal.specs.Bounds.{IsFar, IsLowered, IsReopened};
+    ghost use Rattle.olr_renewal.specs.Bounds.{IsUnbounded, IsLowered, IsReopened};
 
     /// No sources and no bounds. Does not allocate.
     pub fn new(alloc: Global) -> DistanceBounds
@@ -192,7 +192,7 @@ impl DistanceBounds {
 
     /// Whether a node of the map has a bound, or a query begins at the node.
     fn is_near<M: MapRead>(&self, map: &M, node: NodeId) -> bool
-        ensures { IsFalse result ↔ IsFar (M.map map.now) (M.node_slot map.now) self.now node }
+        ensures { IsFalse result ↔ IsUnbounded (M.map map.now) (M.node_slot map.now) self.now node }
     {
         match map.slot_of(node) {
             Some(slot) if self.bounds.label(slot) <= GREATEST_LIMIT => true,
@@ -202,10 +202,10 @@ impl DistanceBounds {
 
     /// Whether it is known that no query reaches one of the nodes. If so, edits that touch no other nodes leave the bounds
     /// as right as they are. The map may be the one before the edits, or the one after them.
-    pub fn is_far<M: MapRead>(&self, map: &M, nodes: &[NodeId]) -> bool
+    pub fn are_unbounded<M: MapRead>(&self, map: &M, nodes: &[NodeId]) -> bool
         ensures exact { IsTrue result ↔ (IsTrue self.now.known × ((v : ℕ) → IsTrue (has nodes.now v)
-            → IsFar (M.map map.now) (M.node_slot map.now) self.now v)) }
-        ensures far { IsTrue result → (N : Map) (r : ℕ → ℕ) (s w : ℕ)
+            → IsUnbounded (M.map map.now) (M.node_slot map.now) self.now v)) }
+        ensures unbounded { IsTrue result → (N : Map) (r : ℕ → ℕ) (s w : ℕ)
             → IsEdit nodes.now (M.map map.now) (M.node_slot map.now) N r → IsRight N r self.now
             → IsSource self.now s w → ¬ Near N nodes.now s (min w GREATEST_LIMIT) }
         ensures spared { IsTrue result → (N : Map) (r : ℕ → ℕ)

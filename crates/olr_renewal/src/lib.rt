@@ -23,7 +23,7 @@ pub use change_set::{ChangeSet, ChangedLine};
 pub use detours::Detours;
 pub use distance_bounds::DistanceBounds;
 pub use naming::affected_names;
-pub use reencode::{Unstored, renew_over, renew_unaffected, renewal_over};
+pub use reencode::{NewResults, renew_over, renew_unaffected, renewal_over};
 pub use renewal::Renewed;
 pub use searches::Searches;
 pub use update::MapUpdate;

@@ -10,7 +10,7 @@ ghost use Rattle.olr_paths.specs.Changes.{Reported};
 ghost use Rattle.olr_renewal.specs.AffectedSearches.{AreBoundsOf};
 ghost use Rattle.olr_renewal.specs.Bounds.{IsEdit, IsRight, IsUnderWay};
 ghost use Rattle.olr_renewal.specs.ChangeSets.{nodes_of};
-ghost use Rattle.olr_renewal.specs.Reencoded.{WasBefore, IsRenewal, CanRenewUnder, AreRenewed, IsRenewed, IsStored, to_renew_by};
+ghost use Rattle.olr_renewal.specs.Reencoded.{WasBefore, IsRenewal, CanRenewUnder, AreRenewed, IsRenewed, IsPutIn, to_renew_by};
 ghost use Rattle.olr_renewal.specs.Reencoded.{after_renewal, entries_of};
 
 use crate::candidates::affects_none;
@@ -24,20 +24,20 @@ use olr_paths::{OverlaidList, Overlay, PathList, fresh_queries, put_in};
 use std::alloc::{AllocError, Global};
 use std::mem;
 
-/// The renewal of a list under changes, before it is stored.
+/// The renewal of a list under changes, before it is put in place.
 #[derive(Drop)]
-pub struct Unstored {
+pub struct NewResults {
     renewal: Renewal,
     /// If the changes remove a path, the list under them.
     copy: Option<PathList>,
 }
 
-impl Unstored {
-    /// What is reported and counted, if it isn't stored.
+impl NewResults {
+    /// What is reported and counted, if it isn't put in place.
     pub fn into_renewed(self) -> Renewed
         ensures { result ≡ self.renewal.renewed }
     {
-        let Unstored { renewal, copy } = self;
+        let NewResults { renewal, copy } = self;
         drop(copy);
         let Renewal { fresh, renewed } = renewal;
         drop(fresh);
@@ -48,13 +48,13 @@ impl Unstored {
 /// The renewal of a list under changes: new and replaced paths are encoded, and those whose answer the edits of the map may
 /// have changed; all paths if the margin was set. It has the paths whose answer differs from the earlier one of their
 /// name, and the counts: each affected path counts as one encoding. The results in the list are right on the map
-/// before the update, and the bounds on the one after it, for all coverage queries of the list. Nothing is stored.
+/// before the update, and the bounds on the one after it, for all coverage queries of the list. Nothing is put in place.
 pub fn renewal_over<M: MapRead>(
     list: &PathList,
     update: &MapUpdate<'_, M>,
     overlay: &Overlay,
     searches: &mut Searches,
-) -> Result<Unstored, AllocError>
+) -> Result<NewResults, AllocError>
     requires { CanRenewUnder M.map M.node_slot update.now searches.old.bounds (items list.now) overlay.now }
     ensures renewed { IfOk result (λ u. IsRenewed M.map update.now (items list.now)
         (under_overlay (items list.now) overlay.now) u.renewal) }
@@ -70,7 +70,7 @@ pub fn renewal_over<M: MapRead>(
         };
         let renewal = renewal_of(update, overlaid, searches)?;
         let copy = None;
-        return Ok(Unstored { renewal, copy });
+        return Ok(NewResults { renewal, copy });
     }
     let copy = overlay.overlaid_copy(update.alloc, list)?;
     let none = Overlay::new(update.alloc);
@@ -82,12 +82,12 @@ pub fn renewal_over<M: MapRead>(
     let renewal = renewal_of(update, overlaid, searches)?;
     drop(none);
     let copy = Some(copy);
-    Ok(Unstored { renewal, copy })
+    Ok(NewResults { renewal, copy })
 }
 
-/// Makes the changes of a list, of which none removes a path, and stores their renewal. The replaced and new paths are
-/// stored in place, at a cost that depends only on the changes. If an allocation fails, the list is unchanged.
-fn store<M: MapRead>(
+/// Makes the changes of a list, of which none removes a path, and puts their renewal in the list. The replaced and new paths are
+/// put in place, at a cost that depends only on the changes. If an allocation fails, the list is unchanged.
+fn put_results<M: MapRead>(
     list: &mut PathList,
     update: &MapUpdate<'_, M>,
     overlay: &Overlay,
@@ -97,7 +97,7 @@ fn store<M: MapRead>(
     requires names { NamesDiffer (all_named (under_overlay (items list.old) overlay.now)) }
     requires reported { (before : List Item) × Reported before
         (after_renewal renewal (to_renew_by update.now (under_overlay (items list.old) overlay.now))) (entries_of renewal.renewed) }
-    ensures stored { IfOk result (λ r. IsStored update.now (under_overlay (items list.old) overlay.now) renewal
+    ensures put { IfOk result (λ r. IsPutIn update.now (under_overlay (items list.old) overlay.now) renewal
         (items list.new) r) }
     ensures err { OnErr result (items list.new ≡ items list.old) }
 {
@@ -135,7 +135,7 @@ pub fn renew_unaffected<M: MapRead>(
     Some(Renewal::none(alloc).renewed)
 }
 
-/// Makes the changes of the list, and stores their renewal, which `renewal_over` returns. If no path is removed, the
+/// Makes the changes of the list, and puts their renewal in the list, which `renewal_over` returns. If no path is removed, the
 /// changes are made in place, at the cost of the changes and of the affected paths; otherwise the list under the changes
 /// replaces the list, at the cost of all paths. If an allocation fails, the list is unchanged.
 pub fn renew_over<M: MapRead>(
@@ -152,11 +152,11 @@ pub fn renew_over<M: MapRead>(
     ensures err { OnErr result (items list.new ≡ items list.old) }
     ensures bounds { searches.new.bounds ≡ searches.old.bounds }
 {
-    let Unstored { renewal, copy } = renewal_over(list, update, overlay, searches)?;
+    let NewResults { renewal, copy } = renewal_over(list, update, overlay, searches)?;
     if let Some(copy) = copy {
         return replace(list, update, copy, renewal);
     }
-    let renewed = store(list, update, overlay, renewal)?;
+    let renewed = put_results(list, update, overlay, renewal)?;
     list.index(update.alloc);
     Ok(renewed)
 }
@@ -171,11 +171,11 @@ fn replace<M: MapRead>(
     requires names { NamesDiffer (all_named (items copy)) }
     requires reported { (before : List Item) × Reported before
         (after_renewal renewal (to_renew_by update.now (items copy))) (entries_of renewal.renewed) }
-    ensures stored { IfOk result (λ r. IsStored update.now (items copy) renewal (items list.new) r) }
+    ensures put { IfOk result (λ r. IsPutIn update.now (items copy) renewal (items list.new) r) }
     ensures err { OnErr result (items list.new ≡ items list.old) }
 {
     let none = Overlay::new(update.alloc);
-    let renewed = store(&mut copy, update, &none, renewal)?;
+    let renewed = put_results(&mut copy, update, &none, renewal)?;
     drop(none);
     replace_by(list, update.alloc, copy);
     Ok(renewed)

@@ -66,7 +66,7 @@ pub struct Renewed {
     pub wasted_labels: usize,
 }
 
-/// The renewal of a list, before its results are stored.
+/// The renewal of a list, before its results are put in the list.
 #[derive(Drop)]
 pub(crate) struct Renewal {
     /// The paths that were encoded again, each with its position in the list.

@@ -4,7 +4,7 @@ use Rattle.std.proofs.Common.{◌≡◌, ◌∙◌, ℕ, List, [], ◌∷◌, �
 use Rattle.std.specs.List.{concat}
 use Rattle.olr_commands.specs.RecordText.{fields_line}
 use Rattle.olr_commands.specs.State.{Command, State, step}
-use Rattle.olr_run.specs.Logged.{Accepted, IsKept, LeadsFrom}
+use Rattle.olr_run.specs.Logged.{Accepted, IsLogged, LeadsFrom}
 
 -- the first one leads to one state
 pub accepted_next : (s v t : State) (r : List Field) (rs : List (List Field)) (c : Command) → read r ≡ Ok c →
@@ -36,7 +36,7 @@ leads_join s t u x y a b =
       accepted = accepted_join a.records b.records s t u a.accepted b.accepted;
     }
 
-pub one_leads : (s t : State) (r : List Field) (c : Command) → read r ≡ Ok c → IsKept c → step s c ≡ Ok t →
+pub one_leads : (s t : State) (r : List Field) (c : Command) → read r ≡ Ok c → IsLogged c → step s c ≡ Ok t →
     LeadsFrom s (fields_line r) t
-one_leads s t r c e kept is =
-    record { records = r ∷ []; lines = sym (append-nil (fields_line r)); accepted = (c, e, kept, t, is, refl) }
+one_leads s t r c e stored is =
+    record { records = r ∷ []; lines = sym (append-nil (fields_line r)); accepted = (c, e, stored, t, is, refl) }

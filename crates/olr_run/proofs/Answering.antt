@@ -11,8 +11,8 @@ use Rattle.olr_records.specs.declared.faults.ReadFault.{ReadFault}
 -- a record that decodes to a command
 pub carried : (old : Registered) (fields : List Field) (new : Registered) (r : Result Reply (Bor (List ℕ))) (c : Command)
     (o : Outcome) → read fields ≡ Ok c
-    → ((s : State) → Represents old.kept s → (t : State) × Represents new.kept t × IsOutcome s c o t)
-    → IsContent new.kept.content → IsAnswer r o → CarriedOut old fields new r
+    → ((s : State) → Represents old.state s → (t : State) × Represents new.state t × IsOutcome s c o t)
+    → IsContent new.state.content → IsAnswer r o → CarriedOut old fields new r
 carried old fields new r c o e outcome sound is s represents _ =
     let h = outcome s represents in (h.0, o, h.1, (inl (rw e h.2), rw (← h.1.0) sound), is)
 

@@ -5,7 +5,7 @@ use Rattle.std.proofs.Common.{◌≡◌, ◌∙◌, ◌⊎◌, ℕ, Bool, true, 
 use Rattle.std.specs.Prelude.{OnOk, Result, Ok, Err, IsTrue}
 use Rattle.sqlite_disk.specs.declared.Disk as disk
 use Rattle.olr_commands.specs.State.{Content, IsContent, State}
-use Rattle.olr_log.specs.Logs.{kept_of, left_of, is_own_of, is_clean}
+use Rattle.olr_log.specs.Logs.{stored_of, left_of, is_own_of, is_clean}
 use Rattle.olr_log.specs.declared.folder.Folder as folder
 use Rattle.olr_log.specs.declared.log_file.LogFile.{LogFile}
 use Rattle.std.specs.List.{concat}
@@ -34,13 +34,13 @@ on_true (Err e) P h is = absurd (let never = is in cc)
 module _ {D F : Type 0} {d : disk.Ghosts D} {f : folder.Ghosts F D} where
   -- ---- the start
 
-  pub begins_from : (log read start : LogFile D F d f) (register : Registered) → IsContent register.kept.content →
-      is_own_of read ≡ is_own_of log → kept_of read ≡ kept_of log → ((t : List ℕ) → left_of read t → left_of log t)
-      → (is_clean read ≡ true → HasContentOf (kept_of log) register)
-      → (is_own_of read ≡ true → is_clean start ≡ true → (kept_of start ≡ kept_of read) ⊎ AreRecordsOf register (kept_of start))
-      → (is_own_of read ≡ false → AreRecordsOf register (kept_of start))
-      → (Only (kept_of read) (left_of read) → Only (kept_of start) (left_of start)) → Begins log read start register
-  begins_from log read start register sound own same less content kept renewed durable =
+  pub begins_from : (log read start : LogFile D F d f) (register : Registered) → IsContent register.state.content →
+      is_own_of read ≡ is_own_of log → stored_of read ≡ stored_of log → ((t : List ℕ) → left_of read t → left_of log t)
+      → (is_clean read ≡ true → HasContentOf (stored_of log) register)
+      → (is_own_of read ≡ true → is_clean start ≡ true → (stored_of start ≡ stored_of read) ⊎ AreRecordsOf register (stored_of start))
+      → (is_own_of read ≡ false → AreRecordsOf register (stored_of start))
+      → (Only (stored_of read) (left_of read) → Only (stored_of start) (left_of start)) → Begins log read start register
+  begins_from log read start register sound own same less content stored compacted durable =
       record {
         same = same;
         less = less;
@@ -49,35 +49,35 @@ module _ {D F : Type 0} {d : disk.Ghosts D} {f : folder.Ghosts F D} where
         only = λ before. durable (λ t left. before t (less t left) ∙ sym same);
       }
     where
-      rewritten : (c : Content) → Represents register.kept (closed c) → (IsContent c → Leads (concat (dump_lines c)) c)
-          → AreRecordsOf register (kept_of start) → Leads (kept_of start) c
+      rewritten : (c : Content) → Represents register.state (closed c) → (IsContent c → Leads (concat (dump_lines c)) c)
+          → AreRecordsOf register (stored_of start) → Leads (stored_of start) c
       rewritten c represents led records =
           subst (λ (x : List ℕ). Leads x c) (sym (records c represents)) (led (represented register (closed c) sound represents))
 
-      same_register : is_clean read ≡ true → (c : Content) → IsContentOf (kept_of log) c → Represents register.kept (closed c)
+      same_register : is_clean read ≡ true → (c : Content) → IsContentOf (stored_of log) c → Represents register.state (closed c)
       same_register clean c l =
           let there = content clean in
-          subst (λ (x : Content). Represents register.kept (closed x)) (same_content (kept_of log) there.0 c there.1 l) there.2
+          subst (λ (x : Content). Represents register.state (closed x)) (same_content (stored_of log) there.0 c there.1 l) there.2
 
       by_own : (b : Bool) → is_own_of read ≡ b → is_clean read ≡ true → is_clean start ≡ true → (c : Content) →
-          BeginsWith b (kept_of log) c → Represents register.kept (closed c) × Leads (kept_of start) c
+          BeginsWith b (stored_of log) c → Represents register.state (closed c) × Leads (stored_of start) c
       by_own true is clean now c l =
-          let represents = same_register clean c (is_content (kept_of log) c l) in (
+          let represents = same_register clean c (is_content (stored_of log) c l) in (
             represents,
-            elim (kept is now) [
+            elim (stored is now) [
               | inl still ↦ subst (λ (x : List ℕ). Leads x c) (sym (still ∙ same)) l
               | inr records ↦ rewritten c represents (dump_leads l.records c l.accepted) records
             ],
           )
       by_own false is clean now c l =
           let represents = same_register clean c l in
-          (represents, rewritten c represents (dump_leads (records_of (kept_of log)) c l) (renewed is))
+          (represents, rewritten c represents (dump_leads (records_of (stored_of log)) c l) (compacted is))
 
   -- a log that may have been replaced before the start failed
-  pub unbegun_after : (log read last : LogFile D F d f) (rejected : Bool) (register : Registered) → kept_of read ≡ kept_of log →
+  pub unbegun_after : (log read last : LogFile D F d f) (rejected : Bool) (register : Registered) → stored_of read ≡ stored_of log →
       ((t : List ℕ) → left_of read t → left_of log t)
-      → (is_clean read ≡ true → HasContentOf (kept_of log) register)
-      → ((t : List ℕ) → left_of last t → left_of read t ⊎ (t ≡ kept_of read) ⊎ AreRecordsOf register t)
+      → (is_clean read ≡ true → HasContentOf (stored_of log) register)
+      → ((t : List ℕ) → left_of last t → left_of read t ⊎ (t ≡ stored_of read) ⊎ AreRecordsOf register t)
       → rejected ≡ false → Unbegun log last rejected
   unbegun_after log read last rejected register same less content cut fails = (
     read,
@@ -85,37 +85,37 @@ module _ {D F : Type 0} {d : disk.Ghosts D} {f : folder.Ghosts F D} where
     λ t left. elim (cut t left) [
       | inl before ↦ inl (less t before)
       | inr new ↦ inr (elim new [
-        | inl kept ↦ inl (kept ∙ same)
+        | inl stored ↦ inl (stored ∙ same)
         | inr records ↦ inr (λ clean. let k = content clean in (k.0, k.1, records k.0 k.2))
       ])
     ],
     λ is. absurd (let never : true ≡ false = sym is ∙ fails in cc),
   )
 
-  pub unbegun_read : (log read : LogFile D F d f) (rejected : Bool) → kept_of read ≡ kept_of log →
+  pub unbegun_read : (log read : LogFile D F d f) (rejected : Bool) → stored_of read ≡ stored_of log →
       ((t : List ℕ) → left_of read t → left_of log t)
-      → (rejected ≡ true → is_clean read ≡ true → LeadsNowhere (kept_of log)) → Unbegun log read rejected
+      → (rejected ≡ true → is_clean read ≡ true → LeadsNowhere (stored_of log)) → Unbegun log read rejected
   unbegun_read log read rejected same less refused = (read, same, λ t left. inl (less t left), refused)
 
   -- ---- the end
 
   module _ {W : Type 0} (contents : W → Known) (start last : LogFile D F d f) (o p : Buffered W)
       (g : Gate (LogFile D F d f)) (r : Result Status RunFault) (after : LeftAfter g r last) where
-    -- what is left of the log at the end was left before, or it is all that is kept, if the run was not cut off
+    -- what is left of the log at the end was left before, or it is all that is stored, if the run was not cut off
     closed_survives : (s : State) (rs : List (List Field)) (os : List Outcome) (sent : List ℕ) →
         Survives s rs os (left_of g.journal) sent
-        → (IsTrue (is_ok r) → (c : Content) × Leads (kept_of g.journal) c × UpTo s rs os c sent)
+        → (IsTrue (is_ok r) → (c : Content) × Leads (stored_of g.journal) c × UpTo s rs os c sent)
         → Survives s rs os (left_of last) sent
     closed_survives s rs os sent before whole text left = elim (after text left) [
       | inl still ↦ before text still
       | inr all ↦ subst (λ (x : List ℕ). (c : Content) × Leads x c × UpTo s rs os c sent) (sym all.1) (whole all.0)
     ]
 
-    whole_closed : Then (LastsWhole kept_of left_of contents start o g p) (LastsOn contents start o last p)
+    whole_closed : Then (LastsWhole stored_of left_of contents start o g p) (LastsOn contents start o last p)
     whole_closed s rs os t a =
         (a.0, λ k. let b = a.1 k in (b.0, b.1, closed_survives s rs os b.0 b.2 (λ _. (t.content, b.4, b.3))))
 
-    cut_closed : (e : RunFault) → r ≡ Err e → Then (LastsCut kept_of left_of contents start o g p) (LastsOn contents start o last p)
+    cut_closed : (e : RunFault) → r ≡ Err e → Then (LastsCut stored_of left_of contents start o g p) (LastsOn contents start o last p)
     cut_closed e is s rs os t a = (
       a.0,
       λ k. let b = a.1 k in
@@ -125,7 +125,7 @@ module _ {D F : Type 0} {d : disk.Ghosts D} {f : folder.Ghosts F D} where
   pub closed_run : {W : Type 0} (contents : W → Known) (start last : LogFile D F d f) (o p : Buffered W)
       (g : Gate (LogFile D F d f)) (r : Result Status RunFault) → LeftAfter g r last →
       (stop : Bool) (old new : Registered) (records : Records) →
-      EndedOn (LastsWhole kept_of left_of contents start o g p) (LastsCut kept_of left_of contents start o g p) stop old
+      EndedOn (LastsWhole stored_of left_of contents start o g p) (LastsCut stored_of left_of contents start o g p) stop old
       records (written contents o) new (written contents p) r
       → EndedOn (LastsOn contents start o last p) (LastsOn contents start o last p) stop old records (written contents o)
       new (written contents p) r

@@ -11,8 +11,8 @@ use Rattle.std.proofs.Common.{◌≡◌, ◌≢◌, ◌∙◌, ◌+◌, ℕ, Boo
 use Rattle.std.proofs.Common.{sym, ap, subst, arith, length-append, true, false}
 use Rattle.std.proofs.KnownBytes.{Appends-kept, Appends-nil, Appends-trans, Keeps-refl}
 use Rattle.olr_commands.specs.State.{IsContent}
-use Rattle.olr_run.specs.Runs.{Exchanged, HadTooMany, In_taking, No_text, OutcomesRenewed, answer_of, GoesOn}
-use Rattle.olr_input.specs.Sessions.{Answer, HasNone, PlainHappens, Renewal, Renewed, Unasked, TakesOne}
+use Rattle.olr_run.specs.Runs.{Exchanged, HadTooMany, In_taking, No_text, OutcomesCompacted, answer_of, GoesOn}
+use Rattle.olr_input.specs.Sessions.{Answer, HasNone, PlainHappens, Replacement, Compacted, Unasked, TakesOne}
 use Rattle.olr_input.specs.Inputs.{input_records}
 use Rattle.olr_input.specs.LineRecords.{lines_from}
 use Rattle.olr_input.specs.Sessions.{FirstLeft, JoinedLeft}
@@ -66,7 +66,7 @@ Sees old new before later Not_sent = Keeps before later
 Sees old new before later (Wrote answer) =
     ((rs : List (List Field)) → old rs → new rs) × Appends before later answer.0
 Sees old new before later (Cut front rest accepts) = Appends before later front
-Sees old new before later (Renewed renewal) = ((rs : List (List Field)) → old rs → new rs) × Keeps before later
+Sees old new before later (Compacted replacement) = ((rs : List (List Field)) → old rs → new rs) × Keeps before later
 
 pub same_left : {S : Type 0} (left : S → List (List Field) → Type 0) (s t : S) → t ≡ s → (rs : List (List Field)) →
     left s rs → left t rs
@@ -87,32 +87,32 @@ module _ {S W : Type 0} (left : S → List (List Field) → Type 0) (failed : S 
   plain_sees a b Not_sent h = h.1
   plain_sees a b (Wrote answer) h = (same_left left a.0.source b.0.source h.0, h.1)
   plain_sees a b (Cut front rest accepts) h = h.1
-  plain_sees a b (Renewed Unasked) h = (same_left left a.0.source b.0.source h.0, h.1)
-  plain_sees a b (Renewed renewal) h = absurd h
+  plain_sees a b (Compacted Unasked) h = (same_left left a.0.source b.0.source h.0, h.1)
+  plain_sees a b (Compacted replacement) h = absurd h
 
 -- what each state that the register represented leads to, where the outcomes are related by Each
 abbrev AnsweredBy : (State → List (List Field) → List Outcome → State → Type 0) → Bool → (List Outcome → Type 0) →
     Registered → List (List Field) → List Answer → Registered → Type 0
 AnsweredBy Each stop And old rs answers new =
-    (s : State) → Represents old.kept s → (t : State) × Represents new.kept t × (os : List Outcome) × Each s rs os t
+    (s : State) → Represents old.state s → (t : State) × Represents new.state t × (os : List Outcome) × Each s rs os t
     × (map answer_of os ≡ answers) × StopsAtFault stop os × And os
 
 -- the records of a run that was cut off, their answers, and the records that were given after them
 abbrev pub cut_parts : {S : Type 0} {happens : S → Event → S → Type 0} {stop : Bool} {old new : Registered} {a b : S}
-    {e : RunFault} → CutIn happens stop old a new b e → List (List Field) × List Answer × List Renewal
-cut_parts (In_taking of x answered) = (x.records, x.answers, x.renewals)
-cut_parts (runs.Not_sent is x answered) = (x.records, x.answers, x.renewals)
-cut_parts (Past_the_most is r x most answered) = (x.records, x.answers, x.renewals)
-cut_parts (No_text is r w x answered) = (x.records ++ r ∷ [], x.answers ++ w ∷ [], x.renewals ++ Unasked ∷ [])
+    {e : RunFault} → CutIn happens stop old a new b e → List (List Field) × List Answer × List Replacement
+cut_parts (In_taking of x answered) = (x.records, x.answers, x.replacements)
+cut_parts (runs.Not_sent is x answered) = (x.records, x.answers, x.replacements)
+cut_parts (Past_the_most is r x most answered) = (x.records, x.answers, x.replacements)
+cut_parts (No_text is r w x answered) = (x.records ++ r ∷ [], x.answers ++ w ∷ [], x.replacements ++ Unasked ∷ [])
 cut_parts (In_text is r front rest accepts some x answered) =
-    (x.records ++ r ∷ [], x.answers ++ (front ++ rest, accepts) ∷ [], x.renewals ++ Unasked ∷ [])
+    (x.records ++ r ∷ [], x.answers ++ (front ++ rest, accepts) ∷ [], x.replacements ++ Unasked ∷ [])
 
 -- from outcomes of the first records, with these answers, what is wanted of those of all records
 abbrev pub Gives : (State → List (List Field) → List Outcome → State → Type 0) → List (List Field) → List (List Field) →
-    List Answer → List Renewal → Type 0
+    List Answer → List Replacement → Type 0
 Gives Each all rs ws ds =
     (s t : State) (rest : List (List Field)) (os : List Outcome) → all ≡ rs ++ rest → Claims s all os t →
-    OutcomesRenewed s rs os ds t → map answer_of os ≡ ws → Each s all os t
+    OutcomesCompacted s rs os ds t → map answer_of os ≡ ws → Each s all os t
 
 -- these records of all were read, and these bytes written
 record Through (before : Known) (all rs : List (List Field)) (w : List ℕ) (left : List (List Field) → Type 0)
@@ -149,7 +149,7 @@ module _ {S : Type 0} (left : S → List (List Field) → Type 0) (contents : S 
         wrote = Appends-kept (contents a) (contents m) (contents n) w at.wrote took.1;
       }
 
-  exchanged : (done rs : List (List Field)) (w : List ℕ) (ws : List Answer) (ds : List Renewal)
+  exchanged : (done rs : List (List Field)) (w : List ℕ) (ws : List Answer) (ds : List Replacement)
       (es : List Event) (m b : S) → length ws ≡ length rs → length ds ≡ length rs → At done w m →
       History happens m (exchanges rs ws ds ++ es) b →
       (n : S) × At (done ++ rs) (w ++ joined ws) n × History happens n es b
@@ -157,7 +157,7 @@ module _ {S : Type 0} (left : S → List (List Field) → Type 0) (contents : S 
   exchanged done (r ∷ rs) w (t ∷ ws) (d ∷ ds) es m b l k at h =
       let took = taken done r w m h.0 at h.1 in
       let wrote = seen h.0 h.2.0 (Wrote t) h.2.1 in
-      let same = seen h.2.0 h.2.2.0 (Renewed d) h.2.2.1 in
+      let same = seen h.2.0 h.2.2.0 (Compacted d) h.2.2.1 in
       let on : At (done ++ r ∷ []) (w ++ t.0) h.2.2.0 =
       record {
         rest = took.rest;
@@ -176,10 +176,10 @@ module _ {S : Type 0} (left : S → List (List Field) → Type 0) (contents : S 
       let none = (seen m b Ended h).0 at.rest at.are_left in
       ap length (at.splits ∙ ap (λ (ms : List (List Field)). rs ++ ms) none ∙ append-nil rs)
 
-  module _ (stop : Bool) (old new : Registered) (b : S) (base : IsContent old.kept.content)
+  module _ (stop : Bool) (old new : Registered) (b : S) (base : IsContent old.state.content)
       (start : At [] [] a) (Each : State → List (List Field) → List Outcome → State → Type 0) where
     -- the claims are those of all records
-    of_all : (And : List Outcome → Type 0) (rs : List (List Field)) (ws : List Answer) (ds : List Renewal)
+    of_all : (And : List Outcome → Type 0) (rs : List (List Field)) (ws : List Answer) (ds : List Replacement)
         (w : List ℕ) (m : S) → At rs w m → Gives Each all rs ws ds → AnsweredOn stop And old rs ws ds new
         → AnsweredBy Each stop And old all ws new
     of_all And rs ws ds w m at give answered s represents =
@@ -189,7 +189,7 @@ module _ {S : Type 0} (left : S → List (List Field) → Type 0) (contents : S 
         (h.0, h.1, h.2, give s h.0 at.rest h.2 at.splits claims h.7 h.4, h.4, h.5, h.6)
 
     -- the end of a run that was not cut off
-    ended_in : (end : Status) (rs : List (List Field)) (ws : List Answer) (ds : List Renewal) (m : S) →
+    ended_in : (end : Status) (rs : List (List Field)) (ws : List Answer) (ds : List Replacement) (m : S) →
         At rs (joined ws) m →
         Keeps (contents m) (contents b)
         → ((os : List Outcome) → map answer_of os ≡ ws → status_of end ≡ output.run_status stop os →
@@ -215,7 +215,7 @@ module _ {S : Type 0} (left : S → List (List Field) → Type 0) (contents : S 
 
     -- the end of one that was, after these bytes
     cut_in : (e : RunFault) (And : List Outcome → Type 0) (rs : List (List Field)) (ws : List Answer)
-        (ds : List Renewal) (w front : List ℕ) (m : S) → At rs w m → Appends (contents m) (contents b) front →
+        (ds : List Replacement) (w front : List ℕ) (m : S) → At rs w m → Appends (contents m) (contents b) front →
         Gives Each all rs ws ds → AnsweredOn stop And old rs ws ds new
         → ((os : List Outcome) → map answer_of os ≡ ws → And os → output.CutOff stop os (w ++ front) e)
         → FaultedOn Each stop old (Some all) (contents a) new (contents b) e
@@ -231,31 +231,31 @@ module _ {S : Type 0} (left : S → List (List Field) → Type 0) (contents : S 
     -- the records were taken, and answered, up to the last events
     reached : (es : List Event) (x : Exchanged happens a b es) →
         (n : S) × At x.records (joined x.answers) n × History happens n es b
-    reached es x = exchanged [] x.records [] x.answers x.renewals es a b x.each x.each_renewal start x.history
+    reached es x = exchanged [] x.records [] x.answers x.replacements es a b x.each x.each_replacement start x.history
 
     -- before the next answer
     cut_here : (e : RunFault) (last : Event) (x : Exchanged happens a b (last ∷ [])) →
-        ((m n : S) → happens m last n → Keeps (contents m) (contents n)) → Gives Each all x.records x.answers x.renewals →
-        AnsweredOn stop (GoesOn stop) old x.records x.answers x.renewals new
+        ((m n : S) → happens m last n → Keeps (contents m) (contents n)) → Gives Each all x.records x.answers x.replacements →
+        AnsweredOn stop (GoesOn stop) old x.records x.answers x.replacements new
         → ((os : List Outcome) (w : List ℕ) → GoesOn stop os → w ≡ texts os → output.CutOff stop os w e)
         → FaultedOn Each stop old (Some all) (contents a) new (contents b) e
     cut_here e last x keeps give answered cut =
         let n = reached (last ∷ []) x in
         let later = subst (λ (p : S). Keeps (contents n.0) (contents p)) n.2.2 (keeps n.0 n.2.0 n.2.1) in
-        cut_in e _ x.records x.answers x.renewals (joined x.answers) [] n.0 n.1
+        cut_in e _ x.records x.answers x.replacements (joined x.answers) [] n.0 n.1
         (Appends-kept (contents n.0) (contents n.0) (contents b) [] (Appends-nil (contents n.0)) later) give answered
         (λ os are going. cut os (joined x.answers ++ []) going (append-nil (joined x.answers) ∙ written_as os x.answers are))
 
-    ran_on : (end : Status) (h : RanIn happens stop old a new b end) → Gives Each all h.x.records h.x.answers h.x.renewals →
+    ran_on : (end : Status) (h : RanIn happens stop old a new b end) → Gives Each all h.x.records h.x.answers h.x.replacements →
         RanOn Each stop old (Some all) (contents a) new (contents b) end
     ran_on ended.Stopped h give =
         let n = reached [] h.x in
-        ended_in ended.Stopped h.x.records h.x.answers h.x.renewals n.0 n.1 (subst (λ (p : S). Keeps (contents n.0) (contents p)) n.2 (Keeps-refl (contents n.0)))
+        ended_in ended.Stopped h.x.records h.x.answers h.x.replacements n.0 n.1 (subst (λ (p : S). Keeps (contents n.0) (contents p)) n.2 (Keeps-refl (contents n.0)))
         (λ os are is. inr (stopped_is stop (output.any_refused os) is)) give h.answered
     ran_on end h give =
         let n = reached (Ended ∷ []) h.x in
         let all = whole h.x.records (joined h.x.answers) n.0 n.2.0 n.1 n.2.1 in
-        ended_in end h.x.records h.x.answers h.x.renewals n.0 n.1 (subst (λ (p : S). Keeps (contents n.0) (contents p)) n.2.2 (seen n.0 n.2.0 Ended n.2.1).1)
+        ended_in end h.x.records h.x.answers h.x.replacements n.0 n.1 (subst (λ (p : S). Keeps (contents n.0) (contents p)) n.2.2 (seen n.0 n.2.0 Ended n.2.1).1)
         (λ os are is. inl (sym (length-map os answer_of) ∙ ap length are ∙ h.x.each ∙ sym all)) give h.answered
 
     cut_on : (e : RunFault) (h : CutIn happens stop old a new b e) →
@@ -272,14 +272,14 @@ module _ {S : Type 0} (left : S → List (List Field) → Type 0) (contents : S 
     cut_on e (No_text is r w x answered) give =
         let n = reached (Took r ∷ []) x in
         let t = taken x.records r (joined x.answers) n.0 n.2.0 n.1 n.2.1 in
-        cut_in e _ (x.records ++ r ∷ []) (x.answers ++ w ∷ []) (x.renewals ++ Unasked ∷ []) (joined x.answers) [] n.2.0 t
+        cut_in e _ (x.records ++ r ∷ []) (x.answers ++ w ∷ []) (x.replacements ++ Unasked ∷ []) (joined x.answers) [] n.2.0 t
         (subst (λ (p : S). Appends (contents n.2.0) (contents p) []) n.2.2 (Appends-nil (contents n.2.0))) give answered
         (λ os are _. let o = last_of os x.answers w are in
         output.No_text is o.0 o.1 o.2 (append-nil (joined x.answers) ∙ written_as o.0 x.answers o.3))
     cut_on e (In_text is r front rest accepts some x answered) give =
         let n = reached (Took r ∷ Cut front rest accepts ∷ []) x in
         let t = taken x.records r (joined x.answers) n.0 n.2.0 n.1 n.2.1 in
-        cut_in e _ (x.records ++ r ∷ []) (x.answers ++ (front ++ rest, accepts) ∷ []) (x.renewals ++ Unasked ∷ [])
+        cut_in e _ (x.records ++ r ∷ []) (x.answers ++ (front ++ rest, accepts) ∷ []) (x.replacements ++ Unasked ∷ [])
         (joined x.answers) front n.2.0 t
         (subst (λ (p : S). Appends (contents n.2.0) (contents p) front) n.2.2.2
         (seen n.2.0 n.2.2.0 (Cut front rest accepts) n.2.2.1)) give answered
@@ -306,10 +306,10 @@ module _ {S : Type 0} (left : S → List (List Field) → Type 0) (contents : S 
     (stop : Bool) (old new : Registered) (a b : S) where
   pub on_records_as : (Whole Part : State → List (List Field) → List Outcome → State → Type 0)
       (whole : (all : List (List Field)) (end : Status) (h : RanIn happens stop old a new b end) →
-      Gives Whole all h.x.records h.x.answers h.x.renewals)
+      Gives Whole all h.x.records h.x.answers h.x.replacements)
       (part : (all : List (List Field)) (e : RunFault) (h : CutIn happens stop old a new b e) →
       Gives Part all (cut_parts h).0 (cut_parts h).1 (cut_parts h).2)
-      (records : Records) (r : Result Status RunFault) → IsContent old.kept.content → IfSome records (left a)
+      (records : Records) (r : Result Status RunFault) → IsContent old.state.content → IfSome records (left a)
       → IfOk r (RanIn happens stop old a new b) → IfErr r (CutIn happens stop old a new b)
       → EndedOn Whole Part stop old records (contents a) new (contents b) r
   on_records_as Whole Part whole part (Some all) (Ok end) base begins h k =
@@ -323,7 +323,7 @@ module _ {S : Type 0} (left : S → List (List Field) → Type 0) (contents : S 
   on_records_as Whole Part whole part None (Ok end) base begins h k = tt
   on_records_as Whole Part whole part None (Err e) base begins h k = (tt, λ is. tt)
 
-  pub on_records : (records : Records) (r : Result Status RunFault) → IsContent old.kept.content → IfSome records (left a)
+  pub on_records : (records : Records) (r : Result Status RunFault) → IsContent old.state.content → IfSome records (left a)
       → IfOk r (RanIn happens stop old a new b) → IfErr r (CutIn happens stop old a new b)
       → EndedOn Claims Claims stop old records (contents a) new (contents b) r
   on_records =
@@ -333,7 +333,7 @@ module _ {S : Type 0} (left : S → List (List Field) → Type 0) (contents : S 
 -- a run over a source
 module _ {S W : Type 0} (left : S → List (List Field) → Type 0) (failed : S → Bool) (contents : W → Known) (stop : Bool)
     (old new : Registered) (source : S) (a b : Plain S × W) (is : a.0.source ≡ source) where
-  pub plain_on : (r : Result Status RunFault) → IsContent old.kept.content →
+  pub plain_on : (r : Result Status RunFault) → IsContent old.state.content →
       IfOk r (RanIn (OfPlain left failed contents) stop old a new b)
       → IfErr r (CutIn (OfPlain left failed contents) stop old a new b) → (records : Records) → IfSome records (left source)
       → EndedOn Claims Claims stop old records (contents a.1) new (contents b.1) r
@@ -359,7 +359,7 @@ both_left left_of_first left first second None qs h k = tt
 -- a run that lacked memory before it began
 pub cut_at_first : (Each : State → List (List Field) → List Outcome → State → Type 0) →
     ((s : State) (rs : List (List Field)) → IsContent s.content → Each s rs [] s) → (stop : Bool) (old : Registered)
-    (before : Known) (records : Records) → IsContent old.kept.content →
+    (before : Known) (records : Records) → IsContent old.state.content →
     FaultedOn Each stop old records before old before fault.Memory × HadTooMany fault.Memory records
 cut_at_first Each none stop old before None base = (tt, λ many. tt)
 cut_at_first Each none stop old before (Some all) base = (

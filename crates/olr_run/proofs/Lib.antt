@@ -9,7 +9,7 @@ pub mod Ending
 pub mod Dumping
 pub mod Accepting
 pub mod Dumped
-pub mod Renewals
+pub mod Replacements
 pub mod Plain
 pub mod Logging
 pub mod LoggedRuns

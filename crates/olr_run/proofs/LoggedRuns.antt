@@ -8,19 +8,19 @@ use Rattle.std.proofs.Common.{ap, subst, arith, length-append}
 use Rattle.std.specs.Prelude.{IfOk, OnOk, Ok, Err, Option, Result}
 use Rattle.olr_commands.specs.State.{Change, IsContent, State}
 use Rattle.std.specs.Io.KnownBytes.{append_known}
-use Rattle.olr_run.specs.Runs.{Exchanged, In_taking, No_text, OutcomesRenewed, IsRenewal, answer_of, once_sent}
-use Rattle.olr_input.specs.Sessions.{Answer, Renewal, Renewed, Unasked, Given, Lacking}
+use Rattle.olr_run.specs.Runs.{Exchanged, In_taking, No_text, OutcomesCompacted, IsReplacement, answer_of, once_sent}
+use Rattle.olr_input.specs.Sessions.{Answer, Replacement, Compacted, Unasked, Given, Lacking}
 use Rattle.olr_run.specs.Runs as runs
 use Rattle.olr_run.specs.Logged.{Leads, Survives, UpTo}
 use Rattle.olr_run.specs.Logs.{Began, LastsWhole, LastsCut}
 use Rattle.olr_run.proofs.InputRuns.{Sees, cut_parts, Gives, LastOf, last_of, on_records_as, same_left}
 use Rattle.olr_run.proofs.Sending.{Then, ended_sent}
-use Rattle.olr_run.proofs.Logging.{Going, HoldsBatch, Logs, LogsSome, logs_pass, logs_same, logs_settle, logs_longer, logs_renew}
+use Rattle.olr_run.proofs.Logging.{Going, HoldsBatch, Logs, LogsSome, logs_pass, logs_same, logs_conclude, logs_longer, logs_compact}
 use Rattle.olr_run.proofs.Logging.{fresh, survives_only, up_on, up_to_all}
 use Rattle.olr_input.specs.Buffers.{pending, written}
 use Rattle.olr_input.specs.Gates.{Compaction, Passes, Untouched, ready, is_closed}
-use Rattle.olr_input.specs.KeptLines.{Waiting}
-use Rattle.olr_input.specs.Unkept.{waiting}
+use Rattle.olr_input.specs.StoredLines.{Waiting}
+use Rattle.olr_input.specs.Unstored.{waiting}
 use Rattle.olr_input.specs.LoggedRuns.{LogHappens}
 use Rattle.olr_input.specs.declared.buffered.Buffered.{Buffered}
 use Rattle.olr_input.specs.declared.gate.Gate.{Gate}
@@ -33,15 +33,15 @@ use Rattle.olr_input.proofs.Writing.{took_nothing}
 use Rattle.std.proofs.KnownBytes.{Appends-nil, Keeps-refl}
 
 -- the last step of a run, after which no records were given
-renewed_split : (s t : State) (rs : List (List Field)) (r : List Field) (os : List Outcome) (o : Outcome)
-    (ds : List Renewal) → length os ≡ length rs → length ds ≡ length rs →
-    OutcomesRenewed s (rs ++ r ∷ []) (os ++ o ∷ []) (ds ++ Unasked ∷ []) t →
-    (m : State) × OutcomesRenewed s rs os ds m × SoundOutcome m r o t
-renewed_split s t [] r [] o [] l k h = (s, refl, subst (λ (u : State). SoundOutcome s r o u) h.3 h.1)
-renewed_split s t (q ∷ rs) r (p ∷ os) o (d ∷ ds) l k h =
-    let more = renewed_split h.0 t rs r os o ds (omega arith) (omega arith) h.3 in
+compacted_split : (s t : State) (rs : List (List Field)) (r : List Field) (os : List Outcome) (o : Outcome)
+    (ds : List Replacement) → length os ≡ length rs → length ds ≡ length rs →
+    OutcomesCompacted s (rs ++ r ∷ []) (os ++ o ∷ []) (ds ++ Unasked ∷ []) t →
+    (m : State) × OutcomesCompacted s rs os ds m × SoundOutcome m r o t
+compacted_split s t [] r [] o [] l k h = (s, refl, subst (λ (u : State). SoundOutcome s r o u) h.3 h.1)
+compacted_split s t (q ∷ rs) r (p ∷ os) o (d ∷ ds) l k h =
+    let more = compacted_split h.0 t rs r os o ds (omega arith) (omega arith) h.3 in
     (more.0, (h.0, h.1, h.2, more.1), more.2)
-renewed_split s t rs r os o ds l k h = absurd (omega arith)
+compacted_split s t rs r os o ds l k h = absurd (omega arith)
 
 -- ---- what is written
 
@@ -53,14 +53,14 @@ known_writes (Some d) (Some e) sent o p text a b =
     ap (λ (x : List ℕ). x ++ p) a ∙ append_assoc d sent p ∙ ap (λ (x : List ℕ). d ++ x) (sym b)
     ∙ sym (append_assoc d o text)
 
-module _ {J W : Type 0} {kept : J → List ℕ} {may_leave : J → List ℕ → Type 0} {contents : W → Known} where
-  passes_writes : (g h : Gate J) (o p : Buffered W) (text : List ℕ) → Passes kept may_leave contents g o h p text →
+module _ {J W : Type 0} {stored : J → List ℕ} {may_leave : J → List ℕ → Type 0} {contents : W → Known} where
+  passes_writes : (g h : Gate J) (o p : Buffered W) (text : List ℕ) → Passes stored may_leave contents g o h p text →
       Appends (written contents o) (written contents p) text
   passes_writes g h o p text a = known_writes (contents o.device) (contents p.device) a.sent (pending o) (pending p) text a.device a.bytes
 
-  passes_keeps : (g h : Gate J) (o p : Buffered W) → Passes kept may_leave contents g o h p [] →
+  passes_stores : (g h : Gate J) (o p : Buffered W) → Passes stored may_leave contents g o h p [] →
       Keeps (written contents o) (written contents p)
-  passes_keeps g h o p a = took_nothing (written contents o) (written contents p) (passes_writes g h o p [] a)
+  passes_stores g h o p a = took_nothing (written contents o) (written contents p) (passes_writes g h o p [] a)
 
 module _ {S W J : Type 0} (left : S → List (List Field) → Type 0) (contents : W → Known) (j : journal.Ghosts J) where
   abbrev pub Happens : Logged S J × Buffered W → Event → Logged S J × Buffered W → Type 0
@@ -78,39 +78,39 @@ module _ {S W J : Type 0} (left : S → List (List Field) → Type 0) (contents 
 
   pub log_sees : (a b : Logged S J × Buffered W) (e : Event) → Happens a e b →
       Sees (left_of a) (left_of b) (written_of a) (written_of b) e
-  log_sees a b (Took fields) h = (h.3, passes_keeps a.0.gate h.0 a.1 b.1 h.1)
-  log_sees a b Ended h = (h.1, passes_keeps a.0.gate b.0.gate a.1 b.1 h.0)
-  log_sees a b (Not_taken e) h = passes_keeps a.0.gate h.0 a.1 b.1 h.1
-  log_sees a b Not_sent h = passes_keeps a.0.gate b.0.gate a.1 b.1 h.1
+  log_sees a b (Took fields) h = (h.3, passes_stores a.0.gate h.0 a.1 b.1 h.1)
+  log_sees a b Ended h = (h.1, passes_stores a.0.gate b.0.gate a.1 b.1 h.0)
+  log_sees a b (Not_taken e) h = passes_stores a.0.gate h.0 a.1 b.1 h.1
+  log_sees a b Not_sent h = passes_stores a.0.gate b.0.gate a.1 b.1 h.1
   log_sees a b (Wrote answer) h = (same_left left a.0.source b.0.source h.0, passes_writes h.1.0 b.0.gate a.1 b.1 answer.0 h.1.2)
   log_sees a b (Cut front rest accepts) h = passes_writes h.1.0 b.0.gate a.1 b.1 front h.1.2
-  log_sees a b (Renewed Unasked) h = (
+  log_sees a b (Compacted Unasked) h = (
     same_left left a.0.source b.0.source (ap (λ (t : Logged S J). t.source) h.0),
     same_written a.1 b.1 h.1,
   )
-  log_sees a b (Renewed (Given records)) h = (same_left left a.0.source b.0.source h.0, same_written a.1 b.1 h.1)
-  log_sees a b (Renewed Lacking) h = (same_left left a.0.source b.0.source h.0, same_written a.1 b.1 h.1)
+  log_sees a b (Compacted (Given records)) h = (same_left left a.0.source b.0.source h.0, same_written a.1 b.1 h.1)
+  log_sees a b (Compacted Lacking) h = (same_left left a.0.source b.0.source h.0, same_written a.1 b.1 h.1)
 
   -- a log is replaced from the same length on
-  same_length : (a b : Logged S J × Buffered W) (e : Event) → Happens a e b → b.0.gate.renewed_from ≡ a.0.gate.renewed_from
-  same_length a b (Took fields) h = h.2.untouched.length ∙ ap (λ (c : Compaction). c.renewed_from) h.1.due
-  same_length a b Ended h = ap (λ (c : Compaction). c.renewed_from) h.0.due
-  same_length a b (Not_taken e) h = h.2.untouched.length ∙ ap (λ (c : Compaction). c.renewed_from) h.1.due
-  same_length a b Not_sent h = ap (λ (c : Compaction). c.renewed_from) h.1.due
-  same_length a b (Wrote answer) h = ap (λ (c : Compaction). c.renewed_from) h.1.2.due ∙ h.1.1.untouched.length
-  same_length a b (Cut front rest accepts) h = ap (λ (c : Compaction). c.renewed_from) h.1.2.due ∙ h.1.1.untouched.length
-  same_length a b (Renewed Unasked) h = ap (λ (t : Logged S J). t.gate.renewed_from) h.0
-  same_length a b (Renewed (Given records)) h = h.3.length
-  same_length a b (Renewed Lacking) h = h.3.untouched.length
+  same_length : (a b : Logged S J × Buffered W) (e : Event) → Happens a e b → b.0.gate.compacted_from ≡ a.0.gate.compacted_from
+  same_length a b (Took fields) h = h.2.untouched.length ∙ ap (λ (c : Compaction). c.compacted_from) h.1.due
+  same_length a b Ended h = ap (λ (c : Compaction). c.compacted_from) h.0.due
+  same_length a b (Not_taken e) h = h.2.untouched.length ∙ ap (λ (c : Compaction). c.compacted_from) h.1.due
+  same_length a b Not_sent h = ap (λ (c : Compaction). c.compacted_from) h.1.due
+  same_length a b (Wrote answer) h = ap (λ (c : Compaction). c.compacted_from) h.1.2.due ∙ h.1.1.untouched.length
+  same_length a b (Cut front rest accepts) h = ap (λ (c : Compaction). c.compacted_from) h.1.2.due ∙ h.1.1.untouched.length
+  same_length a b (Compacted Unasked) h = ap (λ (t : Logged S J). t.gate.compacted_from) h.0
+  same_length a b (Compacted (Given records)) h = h.3.length
+  same_length a b (Compacted Lacking) h = h.3.untouched.length
 
   keeps_length : (es : List Event) (a b : Logged S J × Buffered W) → History Happens a es b →
-      b.0.gate.renewed_from ≡ a.0.gate.renewed_from
-  keeps_length [] a b h = ap (λ (m : Logged S J × Buffered W). m.0.gate.renewed_from) (sym h)
+      b.0.gate.compacted_from ≡ a.0.gate.compacted_from
+  keeps_length [] a b h = ap (λ (m : Logged S J × Buffered W). m.0.gate.compacted_from) (sym h)
   keeps_length (e ∷ es) a b h = keeps_length es h.0 b h.2 ∙ same_length a h.0 e h.1
 
   pub run_length : (stop : Bool) (old new : Registered) (a b : Logged S J × Buffered W) (r : Result Status RunFault) →
       IfOk r (RanIn Happens stop old a new b) → IfErr r (CutIn Happens stop old a new b) →
-      b.0.gate.renewed_from ≡ a.0.gate.renewed_from
+      b.0.gate.compacted_from ≡ a.0.gate.compacted_from
   run_length stop old new a b (Ok end) ran cut = keeps_length _ a b ran.x.history
   run_length stop old new a b (Err e) ran (In_taking of x answered) = keeps_length _ a b x.history
   run_length stop old new a b (Err e) ran (runs.Not_sent is x answered) = keeps_length _ a b x.history
@@ -120,12 +120,12 @@ module _ {S W J : Type 0} (left : S → List (List Field) → Type 0) (contents 
 
   module _ (base : Known) (s : State) where
     abbrev Log : List (List Field) → List Outcome → State → List ℕ → Logged S J × Buffered W → Type 0
-    Log rs os t unwritten m = Logs j.kept j.may_leave contents base s rs os t unwritten m.0.gate m.1
+    Log rs os t unwritten m = Logs j.stored j.may_leave contents base s rs os t unwritten m.0.gate m.1
 
     log_passes : (rs : List (List Field)) (os : List Outcome) (t : State) (m n : Logged S J × Buffered W) →
-        Log rs os t [] m → Passes j.kept j.may_leave contents m.0.gate m.1 n.0.gate n.1 [] → Log rs os t [] n
+        Log rs os t [] m → Passes j.stored j.may_leave contents m.0.gate m.1 n.0.gate n.1 [] → Log rs os t [] n
     log_passes rs os t m n a p =
-        logs_pass j.kept j.may_leave contents base s rs os t [] [] m.0.gate n.0.gate m.1 n.1 a p
+        logs_pass j.stored j.may_leave contents base s rs os t [] [] m.0.gate n.0.gate m.1 n.1 a p
 
     log_end : (end : Status) (rs : List (List Field)) (os : List Outcome) (t : State) (m n : Logged S J × Buffered W) →
         Log rs os t [] m → History Happens m (last_events end) n → Log rs os t [] n
@@ -135,11 +135,11 @@ module _ {S W J : Type 0} (left : S → List (List Field) → Type 0) (contents 
 
     -- what is sent before a record is taken, or can't be
     log_untouched : (rs : List (List Field)) (os : List Outcome) (t : State) (m n : Logged S J × Buffered W) (g : Gate J) →
-        Log rs os t [] m → Passes j.kept j.may_leave contents m.0.gate m.1 g n.1 [] → Untouched g n.0.gate →
-        waiting n.0.gate.unkept ≡ waiting g.unkept → Log rs os t [] n
+        Log rs os t [] m → Passes j.stored j.may_leave contents m.0.gate m.1 g n.1 [] → Untouched g n.0.gate →
+        waiting n.0.gate.unstored ≡ waiting g.unstored → Log rs os t [] n
     log_untouched rs os t m n g a passes untouched waits =
-        logs_same j.kept j.may_leave contents base s rs os t [] g n.0.gate n.1 untouched waits
-        (logs_pass j.kept j.may_leave contents base s rs os t [] [] m.0.gate g m.1 n.1 a passes)
+        logs_same j.stored j.may_leave contents base s rs os t [] g n.0.gate n.1 untouched waits
+        (logs_pass j.stored j.may_leave contents base s rs os t [] [] m.0.gate g m.1 n.1 a passes)
 
     log_took : (rs : List (List Field)) (os : List Outcome) (t : State) (r : List Field) (m n : Logged S J × Buffered W) →
         Log rs os t [] m → Happens m (Took r) n → Log rs os t [] n
@@ -151,8 +151,8 @@ module _ {S W J : Type 0} (left : S → List (List Field) → Type 0) (contents 
         SoundOutcome t r o u → answer_of o ≡ (front ++ rest, accepts) → Happens m (Took r) k → Happens k (Cut front rest accepts) n
         → Log (rs ++ r ∷ []) (os ++ o ∷ []) u rest n
     log_cut rs os t u r o front rest accepts m k n size a one is h cut =
-        logs_pass j.kept j.may_leave contents base s (rs ++ r ∷ []) (os ++ o ∷ []) u front rest cut.1.0 n.0.gate k.1 n.1
-        (logs_settle j.kept j.may_leave contents base s rs os t u r o (front ++ rest) accepts k.0.gate cut.1.0 k.1 size one is
+        logs_pass j.stored j.may_leave contents base s (rs ++ r ∷ []) (os ++ o ∷ []) u front rest cut.1.0 n.0.gate k.1 n.1
+        (logs_conclude j.stored j.may_leave contents base s rs os t u r o (front ++ rest) accepts k.0.gate cut.1.0 k.1 size one is
         h.2.effect h.2.line (log_took rs os t r m k a h) cut.1.1) cut.1.2
 
     log_wrote : (rs : List (List Field)) (os : List Outcome) (t u : State) (r : List Field) (o : Outcome)
@@ -160,30 +160,30 @@ module _ {S W J : Type 0} (left : S → List (List Field) → Type 0) (contents 
         SoundOutcome t r o u → answer_of o ≡ answer → Happens m (Took r) k → Happens k (Wrote answer) n
         → Log (rs ++ r ∷ []) (os ++ o ∷ []) u [] n
     log_wrote rs os t u r o answer m k n size a one is h wrote =
-        logs_pass j.kept j.may_leave contents base s (rs ++ r ∷ []) (os ++ o ∷ []) u answer.0 [] wrote.1.0 n.0.gate k.1 n.1
-        (subst (λ (x : List ℕ). Logs j.kept j.may_leave contents base s (rs ++ r ∷ []) (os ++ o ∷ []) u x wrote.1.0 k.1)
+        logs_pass j.stored j.may_leave contents base s (rs ++ r ∷ []) (os ++ o ∷ []) u answer.0 [] wrote.1.0 n.0.gate k.1 n.1
+        (subst (λ (x : List ℕ). Logs j.stored j.may_leave contents base s (rs ++ r ∷ []) (os ++ o ∷ []) u x wrote.1.0 k.1)
         (sym (append-nil answer.0))
-        (logs_settle j.kept j.may_leave contents base s rs os t u r o answer.0 answer.1 k.0.gate wrote.1.0 k.1 size one is
+        (logs_conclude j.stored j.may_leave contents base s rs os t u r o answer.0 answer.1 k.0.gate wrote.1.0 k.1 size one is
         h.2.effect h.2.line (log_took rs os t r m k a h) wrote.1.1)) wrote.1.2
 
     -- the records of the content may be given
-    log_given : (rs : List (List Field)) (os : List Outcome) (t : State) (d : Renewal) (m n : Logged S J × Buffered W) →
-        Log rs os t [] m → IsContent t.content → IsRenewal t d → Happens m (Renewed d) n → Log rs os t [] n
+    log_given : (rs : List (List Field)) (os : List Outcome) (t : State) (d : Replacement) (m n : Logged S J × Buffered W) →
+        Log rs os t [] m → IsContent t.content → IsReplacement t d → Happens m (Compacted d) n → Log rs os t [] n
     log_given rs os t Unasked m n a sound is h =
-        subst (λ (x : Gate J × Buffered W). Logs j.kept j.may_leave contents base s rs os t [] x.0 x.1)
+        subst (λ (x : Gate J × Buffered W). Logs j.stored j.may_leave contents base s rs os t [] x.0 x.1)
         (λ k. ((sym h.0 k).gate, sym h.1 k)) a
     log_given rs os t (Given records) m n a sound is h =
-        subst (λ (x : Buffered W). Logs j.kept j.may_leave contents base s rs os t [] n.0.gate x) (sym h.1)
-        (logs_renew j contents base s rs os t records m.0.gate n.0.gate m.1 a sound is.0 is.1 h.3)
+        subst (λ (x : Buffered W). Logs j.stored j.may_leave contents base s rs os t [] n.0.gate x) (sym h.1)
+        (logs_compact j contents base s rs os t records m.0.gate n.0.gate m.1 a sound is.0 is.1 h.3)
     log_given rs os t Lacking m n a sound is h =
-        subst (λ (x : Buffered W). Logs j.kept j.may_leave contents base s rs os t [] n.0.gate x) (sym h.1)
-        (logs_same j.kept j.may_leave contents base s rs os t [] m.0.gate n.0.gate m.1 h.3.untouched
-        (ap waiting h.3.unkept) a)
+        subst (λ (x : Buffered W). Logs j.stored j.may_leave contents base s rs os t [] n.0.gate x) (sym h.1)
+        (logs_same j.stored j.may_leave contents base s rs os t [] m.0.gate n.0.gate m.1 h.3.untouched
+        (ap waiting h.3.unstored) a)
 
-    log_exchanged : (rs : List (List Field)) (ws : List Answer) (ds : List Renewal) (es : List Event)
+    log_exchanged : (rs : List (List Field)) (ws : List Answer) (ds : List Replacement) (es : List Event)
         (m b : Logged S J × Buffered W)
         (dn : List (List Field)) (dos : List Outcome) (t u : State) (os : List Outcome) → length dos ≡ length dn →
-        map answer_of os ≡ ws → length ws ≡ length rs → Log dn dos t [] m → OutcomesRenewed t rs os ds u →
+        map answer_of os ≡ ws → length ws ≡ length rs → Log dn dos t [] m → OutcomesCompacted t rs os ds u →
         History Happens m (exchanges rs ws ds ++ es) b
         → (n : Logged S J × Buffered W) × Log (dn ++ rs) (dos ++ os) u [] n × History Happens n es b
     log_exchanged [] [] [] es m b dn dos t u [] size is l a run h =
@@ -207,7 +207,7 @@ module _ {S W J : Type 0} (left : S → List (List Field) → Type 0) (contents 
 
   module _ (a b : Logged S J × Buffered W) where
     abbrev Reaches : State → List (List Field) → List Outcome → State → List ℕ → Logged S J × Buffered W → Type 0
-    Reaches s rs os t unwritten m = Logs j.kept j.may_leave contents (contents a.1.device) s rs os t unwritten m.0.gate m.1
+    Reaches s rs os t unwritten m = Logs j.stored j.may_leave contents (contents a.1.device) s rs os t unwritten m.0.gate m.1
 
     -- what is known of the log at the end, if it led to the content at the start
     abbrev Whole : State → List (List Field) → List Outcome → State → Type 0
@@ -216,26 +216,26 @@ module _ {S W J : Type 0} (left : S → List (List Field) → Type 0) (contents 
     abbrev Part : State → List (List Field) → List Outcome → State → Type 0
     Part s rs os t =
         Claims s rs os t
-        × (Reaches s [] [] s [] a → LogsSome j.kept j.may_leave contents (contents a.1.device) s rs os b.0.gate b.1)
+        × (Reaches s [] [] s [] a → LogsSome j.stored j.may_leave contents (contents a.1.device) s rs os b.0.gate b.1)
 
   module _ (stop : Bool) (old new : Registered) (a b : Logged S J × Buffered W) (all : List (List Field)) where
     abbrev Now : State → List (List Field) → List Outcome → State → List ℕ → Logged S J × Buffered W → Type 0
     Now s rs os t unwritten m = Reaches a b s rs os t unwritten m
 
     reached : (es : List Event) (x : Exchanged Happens a b es) (s t : State) (os : List Outcome) →
-        map answer_of os ≡ x.answers → OutcomesRenewed s x.records os x.renewals t → Now s [] [] s [] a →
+        map answer_of os ≡ x.answers → OutcomesCompacted s x.records os x.replacements t → Now s [] [] s [] a →
         (n : Logged S J × Buffered W) × Now s x.records os t [] n × History Happens n es b
     reached es x s t os answers run l =
-        log_exchanged (contents a.1.device) s x.records x.answers x.renewals es a b [] [] s t os refl answers x.each l run
+        log_exchanged (contents a.1.device) s x.records x.answers x.replacements es a b [] [] s t os refl answers x.each l run
         x.history
 
     with_rest : (s t : State) (rs rest : List (List Field)) (os : List Outcome) (unwritten : List ℕ) → all ≡ rs ++ rest →
         Now s rs os t unwritten b → Now s all os t unwritten b
     with_rest s t rs rest os unwritten is l =
-        rw is (logs_longer j.kept j.may_leave contents (contents a.1.device) s rs rest os t unwritten b.0.gate b.1 l)
+        rw is (logs_longer j.stored j.may_leave contents (contents a.1.device) s rs rest os t unwritten b.0.gate b.1 l)
 
     gives_whole : (end : Status) (h : RanIn Happens stop old a new b end) →
-        Gives (Whole a b) all h.x.records h.x.answers h.x.renewals
+        Gives (Whole a b) all h.x.records h.x.answers h.x.replacements
     gives_whole end h s t rest os is claims run answers = (
       claims,
       λ l.
@@ -245,7 +245,7 @@ module _ {S W J : Type 0} (left : S → List (List Field) → Type 0) (contents 
 
     some_logs : (s u : State) (rs rest : List (List Field)) (os first late : List Outcome) (unwritten : List ℕ)
         (m : Logged S J × Buffered W) → all ≡ rs ++ rest → os ≡ first ++ late → m ≡ b → Now s rs first u unwritten m →
-        LogsSome j.kept j.may_leave contents (contents a.1.device) s all os b.0.gate b.1
+        LogsSome j.stored j.may_leave contents (contents a.1.device) s all os b.0.gate b.1
     some_logs s u rs rest os first late unwritten m is splits same l =
         record {
           first = first;
@@ -258,9 +258,9 @@ module _ {S W J : Type 0} (left : S → List (List Field) → Type 0) (contents 
         }
 
     one_event : (e : Event) (x : Exchanged Happens a b (e ∷ [])) (s t : State) (rest : List (List Field)) (os : List Outcome) →
-        map answer_of os ≡ x.answers → all ≡ x.records ++ rest → OutcomesRenewed s x.records os x.renewals t →
+        map answer_of os ≡ x.answers → all ≡ x.records ++ rest → OutcomesCompacted s x.records os x.replacements t →
         ((m n : Logged S J × Buffered W) → Now s x.records os t [] m → Happens m e n → Now s x.records os t [] n)
-        → Now s [] [] s [] a → LogsSome j.kept j.may_leave contents (contents a.1.device) s all os b.0.gate b.1
+        → Now s [] [] s [] a → LogsSome j.stored j.may_leave contents (contents a.1.device) s all os b.0.gate b.1
     one_event e x s t rest os answers is run goes l =
         let n = reached (e ∷ []) x s t os answers run l in
         some_logs s t x.records rest os os [] [] n.2.0 is (sym (append-nil os)) n.2.2 (goes n.0 n.2.0 n.1 n.2.1)
@@ -278,13 +278,13 @@ module _ {S W J : Type 0} (left : S → List (List Field) → Type 0) (contents 
 
     before_last : (es : List Event) (x : Exchanged Happens a b es) (s t : State) (r : List Field) (w : Answer)
         (os : List Outcome) → map answer_of os ≡ x.answers ++ w ∷ []
-        → OutcomesRenewed s (x.records ++ r ∷ []) os (x.renewals ++ Unasked ∷ []) t → Now s [] [] s [] a →
+        → OutcomesCompacted s (x.records ++ r ∷ []) os (x.replacements ++ Unasked ∷ []) t → Now s [] [] s [] a →
         Before x.records s t r x.answers w os es
     before_last es x s t r w os answers run l =
         let o = last_of os x.answers w answers in
         let short : length o.0 ≡ length x.records = sym (length-map o.0 answer_of) ∙ ap length o.3 ∙ x.each in
-        let two = renewed_split s t x.records r o.0 o.1 x.renewals short x.each_renewal
-        (subst (λ (p : List Outcome). OutcomesRenewed s (x.records ++ r ∷ []) p (x.renewals ++ Unasked ∷ []) t) o.2 run) in
+        let two = compacted_split s t x.records r o.0 o.1 x.replacements short x.each_replacement
+        (subst (λ (p : List Outcome). OutcomesCompacted s (x.records ++ r ∷ []) p (x.replacements ++ Unasked ∷ []) t) o.2 run) in
         let n = reached es x s two.0 o.0 o.3 two.1 l in
         record { of = o; size = short; middle = two.0; one = two.2; reach = n.0; logs = n.1; more = n.2 }
 
@@ -321,10 +321,10 @@ module _ {S W J : Type 0} (left : S → List (List Field) → Type 0) (contents 
 
 -- ---- from the start to the end
 
-module _ {J W : Type 0} (kept : J → List ℕ) (may_leave : J → List ℕ → Type 0) (contents : W → Known) (s : State)
-    (j : J) (o : Buffered W) (k : Began kept may_leave contents s j o) where
-  pub logs_start : (g : Gate J) → g.journal ≡ j → waiting g.unkept ≡ record { ready = []; batch = [] } →
-      Logs kept may_leave contents (contents o.device) s [] [] s [] g o
+module _ {J W : Type 0} (stored : J → List ℕ) (may_leave : J → List ℕ → Type 0) (contents : W → Known) (s : State)
+    (j : J) (o : Buffered W) (k : Began stored may_leave contents s j o) where
+  pub logs_start : (g : Gate J) → g.journal ≡ j → waiting g.unstored ≡ record { ready = []; batch = [] } →
+      Logs stored may_leave contents (contents o.device) s [] [] s [] g o
   logs_start g is none =
       record {
         run = refl;
@@ -332,11 +332,11 @@ module _ {J W : Type 0} (kept : J → List ℕ) (may_leave : J → List ℕ → 
         device = Appends-nil (contents o.device);
         bytes = sym (append-nil (pending o) ∙ k.none_pending);
         survives = subst (λ (x : J). Survives s [] [] (may_leave x) []) (sym is)
-            (survives_only kept may_leave contents (contents o.device) s [] [] [] j s.content k.only k.leads up);
+            (survives_only stored may_leave contents (contents o.device) s [] [] [] j s.content k.only k.leads up);
         going = λ _.
-            subst (λ (x : J × Waiting). Going kept may_leave contents s [] [] s [] x.0 x.1.ready x.1.batch)
+            subst (λ (x : J × Waiting). Going stored may_leave contents s [] [] s [] x.0 x.1.ready x.1.batch)
             (λ n. (sym is n, sym none n))
-            (fresh kept may_leave contents (contents o.device) s [] [] s [] j [] [] k.only k.leads refl
+            (fresh stored may_leave contents (contents o.device) s [] [] s [] j [] [] k.only k.leads refl
             (subst (λ (b : Option (List Change)). HoldsBatch s.content b []) (sym k.closed_batch) refl) up);
       }
     where
@@ -345,24 +345,24 @@ module _ {J W : Type 0} (kept : J → List ℕ) (may_leave : J → List ℕ → 
 
 module _ {S W J : Type 0} (left : S → List (List Field) → Type 0) (contents : W → Known) (j : journal.Ghosts J)
     (a b : Logged S J × Buffered W) (log : J) (i : Gate J) (q : Buffered W) (is : a.0.gate.journal ≡ log)
-    (none : waiting a.0.gate.unkept ≡ record { ready = []; batch = [] })
-    (sends : Passes j.kept j.may_leave contents b.0.gate b.1 i q []) where
+    (none : waiting a.0.gate.unstored ≡ record { ready = []; batch = [] })
+    (sends : Passes j.stored j.may_leave contents b.0.gate b.1 i q []) where
   abbrev Start : State → Type 0
-  Start s = Began j.kept j.may_leave contents s log a.1
+  Start s = Began j.stored j.may_leave contents s log a.1
 
   starts : (s : State) → Start s → Reaches left contents j a b s [] [] s [] a
-  starts s k = logs_start j.kept j.may_leave contents s log a.1 k a.0.gate is none
+  starts s k = logs_start j.stored j.may_leave contents s log a.1 k a.0.gate is none
 
   passed : (s t : State) (rs : List (List Field)) (os : List Outcome) (unwritten : List ℕ) →
       Reaches left contents j a b s rs os t unwritten b
-      → Logs j.kept j.may_leave contents (contents a.1.device) s rs os t unwritten i q
+      → Logs j.stored j.may_leave contents (contents a.1.device) s rs os t unwritten i q
   passed s t rs os unwritten l =
-      logs_pass j.kept j.may_leave contents (contents a.1.device) s rs os t [] unwritten b.0.gate i b.1 q l sends
+      logs_pass j.stored j.may_leave contents (contents a.1.device) s rs os t [] unwritten b.0.gate i b.1 q l sends
 
   -- a run whose answers were sent at the end
   whole_lasts : ready i ≡ [] → is_closed i ≡ false → (s : State) (rs : List (List Field)) (os : List Outcome) (t : State) →
-      Whole left contents j a b s rs os t → LastsWhole j.kept j.may_leave contents log a.1 i q s rs os t
-  whole_lasts kept_all still s rs os t w = (
+      Whole left contents j a b s rs os t → LastsWhole j.stored j.may_leave contents log a.1 i q s rs os t
+  whole_lasts stored_all still s rs os t w = (
     w.0,
     λ k. let l = passed s t rs os [] (w.1 (starts s k)) in let go = l.going still in (
       l.sent,
@@ -370,13 +370,13 @@ module _ {S W J : Type 0} (left : S → List (List Field) → Type 0) (contents 
       l.survives,
       up_to_all s t rs os l.sent (pending q) l.run (l.bytes ∙ append-nil (l.sent ++ pending q)),
       subst (λ (x : List ℕ). Leads x t.content)
-          (ap (λ (x : List ℕ). j.kept i.journal ++ x) kept_all ∙ append-nil (j.kept i.journal)) go.all,
+          (ap (λ (x : List ℕ). j.stored i.journal ++ x) stored_all ∙ append-nil (j.stored i.journal)) go.all,
       go.only,
     ),
   )
 
   part_lasts : (s : State) (rs : List (List Field)) (os : List Outcome) (t : State) → Part left contents j a b s rs os t →
-      LastsCut j.kept j.may_leave contents log a.1 i q s rs os t
+      LastsCut j.stored j.may_leave contents log a.1 i q s rs os t
   part_lasts s rs os t w = (
     w.0,
     λ k.
@@ -390,15 +390,15 @@ module _ {S W J : Type 0} (left : S → List (List Field) → Type 0) (contents 
   )
 
   unsent_lasts : (s : State) (rs : List (List Field)) (os : List Outcome) (t : State) → Whole left contents j a b s rs os t →
-      LastsCut j.kept j.may_leave contents log a.1 i q s rs os t
+      LastsCut j.stored j.may_leave contents log a.1 i q s rs os t
   unsent_lasts s rs os t w = (w.0, λ k. let l = passed s t rs os [] (w.1 (starts s k)) in (l.sent, l.device, l.survives))
 
   -- the end of a run, once its answers were sent, or could not be
   pub lasting : {A : Type 0} (stop : Bool) (old new : Registered) (source : S) (r : Result Status RunFault)
       (s : Result A RunFault) → a.0.source ≡ source → OnOk s ((ready i ≡ []) × (is_closed i ≡ false)) →
-      IfErr s (λ e. e ≡ fault.Write) → IsContent old.kept.content → IfOk r (RanIn (Happens left contents j) stop old a new b)
+      IfErr s (λ e. e ≡ fault.Write) → IsContent old.state.content → IfOk r (RanIn (Happens left contents j) stop old a new b)
       → IfErr r (CutIn (Happens left contents j) stop old a new b) → (records : Records) → IfSome records (left source)
-      → EndedOn (LastsWhole j.kept j.may_leave contents log a.1 i q) (LastsCut j.kept j.may_leave contents log a.1 i q) stop
+      → EndedOn (LastsWhole j.stored j.may_leave contents log a.1 i q) (LastsCut j.stored j.may_leave contents log a.1 i q) stop
       old records (written contents a.1) new (written contents q) (once_sent r s)
   lasting stop old new source r s of all unsent base ran cut records begins =
       let run =
@@ -407,11 +407,11 @@ module _ {S W J : Type 0} (left : S → List (List Field) → Type 0) (contents 
       (gives_whole left contents j stop old new a b) (gives_part left contents j stop old new a b) records r base
       (subst (λ (x : S). IfSome records (left x)) (sym of) begins) ran cut in
       ended_sent (Whole left contents j a b) (Part left contents j a b)
-      (LastsWhole j.kept j.may_leave contents log a.1 i q) (LastsCut j.kept j.may_leave contents log a.1 i q) stop old
-      (written contents a.1) new (written contents b.1) (written contents q) (passes_keeps b.0.gate i b.1 q sends) records r s
+      (LastsWhole j.stored j.may_leave contents log a.1 i q) (LastsCut j.stored j.may_leave contents log a.1 i q) stop old
+      (written contents a.1) new (written contents b.1) (written contents q) (passes_stores b.0.gate i b.1 q sends) records r s
       (on_sent s all) unsent_lasts part_lasts unsent run
     where
       on_sent : {A : Type 0} (s : Result A RunFault) → OnOk s ((ready i ≡ []) × (is_closed i ≡ false)) →
-          OnOk s (Then (Whole left contents j a b) (LastsWhole j.kept j.may_leave contents log a.1 i q))
+          OnOk s (Then (Whole left contents j a b) (LastsWhole j.stored j.may_leave contents log a.1 i q))
       on_sent (Ok done) h = whole_lasts h.0 h.1
       on_sent (Err e) h = tt

@@ -10,7 +10,7 @@ use Rattle.std.proofs.lemmas.List.Concat.{flat_map-append}
 use Rattle.olr_commands.specs.State.{Content, Change, Command, Make, Begin, Commit, Abort}
 use Rattle.olr_commands.specs.State.{State, Fault, after, step_in, start_state, IsContent}
 use Rattle.olr_commands.proofs.StateLemmas.{Ends, ends}
-use Rattle.olr_input.specs.declared.unkept.Effect.{Effect}
+use Rattle.olr_input.specs.declared.unstored.Effect.{Effect}
 use Rattle.olr_commands.specs.RecordText.{fields_line}
 use Rattle.olr_commands.specs.Reply.{Reply}
 use Rattle.olr_records.specs.Records.{Read}
@@ -20,16 +20,16 @@ use Rattle.olr_run.proofs.Accepting.{leads_join, one_leads}
 use Rattle.olr_run.proofs.Plain.{effect_for, effect_is}
 use Rattle.olr_run.proofs.Restoring.{holding, make_closed, make_held}
 use Rattle.olr_input.specs.Buffers.{pending}
-use Rattle.olr_input.specs.Gates.{is_closed, ready, batch, Untouched, Keeping, None_sent, None_ready, All_kept}
-use Rattle.olr_input.specs.Gates.{Cut_off, Passes, Renewal, Replaced, Left_as_it_was, Renews}
+use Rattle.olr_input.specs.Gates.{is_closed, ready, batch, Untouched, Storing, None_sent, None_ready, All_stored}
+use Rattle.olr_input.specs.Gates.{Cut_off, Passes, Replacement, Replaced, Left_as_it_was, Compacts}
 use Rattle.olr_commands.specs.Dump.{dump_lines}
 use Rattle.olr_run.proofs.Dumped.{dump_leads}
 use Rattle.olr_input.specs.Journals.{IsFront, Only, is_empty}
-use Rattle.olr_input.specs.KeptLines.{Waiting, effect_of, kept_line, has_line, line_if, line_of, settled}
-use Rattle.olr_input.specs.LoggedRuns.{Settles}
+use Rattle.olr_input.specs.StoredLines.{Waiting, effect_of, stored_line, has_line, line_if, line_of, concluded}
+use Rattle.olr_input.specs.LoggedRuns.{Concludes}
 use Rattle.olr_input.specs.Sessions.{Answer}
 use Rattle.std.specs.Io.KnownBytes.{Appends}
-use Rattle.olr_input.specs.Unkept.{waiting, next_line}
+use Rattle.olr_input.specs.Unstored.{waiting, next_line}
 use Rattle.olr_input.specs.declared.buffered.Buffered.{Buffered}
 use Rattle.olr_input.specs.declared.gate.Gate.{Gate}
 use Rattle.olr_input.specs.declared.journal.Journal as journal
@@ -41,14 +41,14 @@ abbrev pub HoldsBatch : Content → Option (List Change) → List ℕ → Type 0
 HoldsBatch c None text = text ≡ []
 HoldsBatch c (Some xs) text = (is_empty text ≡ false) × LeadsFrom (closed c) text (holding c xs)
 
-module _ {J W : Type 0} (kept : J → List ℕ) (may_leave : J → List ℕ → Type 0) (contents : W → Known) where
+module _ {J W : Type 0} (stored : J → List ℕ) (may_leave : J → List ℕ → Type 0) (contents : W → Known) where
   -- with its lines that are ready the log leads to the content now, and with any whole front of them to an earlier one
   pub record Going (s : State) (rs : List (List Field)) (os : List Outcome) (t : State) (sent : List ℕ) (j : J)
       (lines inner : List ℕ) : Type 0 where
-    pub only : Only (kept j) (may_leave j)
-    pub fronts : (front : List ℕ) → IsFront lines front → (c : Content) × Leads (kept j ++ front) c
+    pub only : Only (stored j) (may_leave j)
+    pub fronts : (front : List ℕ) → IsFront lines front → (c : Content) × Leads (stored j ++ front) c
         × UpTo s rs os c sent
-    pub all : Leads (kept j ++ lines) t.content
+    pub all : Leads (stored j ++ lines) t.content
     pub batches : HoldsBatch t.content t.batch inner
 
   -- the outcomes lead from s to t; of their texts, some bytes were sent, the next ones are held back, and the last ones
@@ -79,7 +79,7 @@ Follows k t w = Leads (k ++ w.ready) t.content × HoldsBatch t.content t.batch w
 
 -- what a log makes of the line of an accepted command
 abbrev made : Command → List Field → Waiting → Waiting
-made c r w = settled (effect_for c) (line_if (has_line (effect_for c)) (fields_line r)) w
+made c r w = concluded (effect_for c) (line_if (has_line (effect_for c)) (fields_line r)) w
 
 line_some : (x y : List ℕ) → is_empty (x ++ (y ++ 10 ∷ [])) ≡ false
 line_some [] [] = refl
@@ -133,10 +133,10 @@ refused_same t u (Err e) f h = h.1
 
 -- what waits after an answer
 abbrev answered : List Field → Bool → Waiting → Waiting
-answered r accepts w = if accepts then settled (effect_of r) (kept_line r) w else w
+answered r accepts w = if accepts then concluded (effect_of r) (stored_line r) w else w
 
-made_is : (r : List Field) (c : Command) (w : Waiting) → read r ≡ Ok c → settled (effect_of r) (kept_line r) w ≡ made c r w
-made_is r c w e = ap (λ (f : Effect). settled f (line_if (has_line f) (line_of r)) w) (effect_is r c e)
+made_is : (r : List Field) (c : Command) (w : Waiting) → read r ≡ Ok c → concluded (effect_of r) (stored_line r) w ≡ made c r w
+made_is r c w e = ap (λ (f : Effect). concluded f (line_if (has_line f) (line_of r)) w) (effect_is r c e)
 
 by_reply : (k : List ℕ) (w : Waiting) (t u : State) (r : List Field) (q : Read Command) (reply : Reply) → read r ≡ q →
     CommandOutcome t q (Ok reply) u → Follows k t w → Follows k u (answered r true w)
@@ -194,17 +194,17 @@ regroup x y z w b p e =
     ∙ append_assoc b p w)
     ∙ sym (append_assoc x b (p ++ w)) ∙ sym (append_assoc (x ++ b) p w)
 
-module _ {J W : Type 0} (kept : J → List ℕ) (may_leave : J → List ℕ → Type 0) (contents : W → Known) (base : Known)
+module _ {J W : Type 0} (stored : J → List ℕ) (may_leave : J → List ℕ → Type 0) (contents : W → Known) (base : Known)
     (s : State) where
   abbrev Log : List (List Field) → List Outcome → State → List ℕ → Gate J → Buffered W → Type 0
-  Log rs os t unwritten g o = Logs kept may_leave contents base s rs os t unwritten g o
+  Log rs os t unwritten g o = Logs stored may_leave contents base s rs os t unwritten g o
 
   abbrev Goes : List (List Field) → List Outcome → State → List ℕ → J → List ℕ → List ℕ → Type 0
-  Goes rs os t sent j lines inner = Going kept may_leave contents s rs os t sent j lines inner
+  Goes rs os t sent j lines inner = Going stored may_leave contents s rs os t sent j lines inner
 
-  -- all that was ready is kept
+  -- all that was ready is stored
   pub fresh : (rs : List (List Field)) (os : List Outcome) (t : State) (sent : List ℕ) (j : J) (lines inner : List ℕ) →
-      Only (kept j) (may_leave j) → Leads (kept j) t.content → lines ≡ [] → HoldsBatch t.content t.batch inner →
+      Only (stored j) (may_leave j) → Leads (stored j) t.content → lines ≡ [] → HoldsBatch t.content t.batch inner →
       UpTo s rs os t.content sent → Goes rs os t sent j lines inner
   fresh rs os t sent j lines inner only leads none batches up =
       record {
@@ -212,16 +212,16 @@ module _ {J W : Type 0} (kept : J → List ℕ) (may_leave : J → List ℕ → 
         fronts = λ front f. (
           t.content,
           subst (λ (x : List ℕ). Leads x t.content)
-              (sym (ap (λ (x : List ℕ). kept j ++ x) (no_front lines front none f) ∙ append-nil (kept j))) leads,
+              (sym (ap (λ (x : List ℕ). stored j ++ x) (no_front lines front none f) ∙ append-nil (stored j))) leads,
           up,
         );
         all = subst (λ (x : List ℕ). Leads x t.content)
-            (sym (ap (λ (x : List ℕ). kept j ++ x) none ∙ append-nil (kept j))) leads;
+            (sym (ap (λ (x : List ℕ). stored j ++ x) none ∙ append-nil (stored j))) leads;
         batches = batches;
       }
 
   pub survives_only : (rs : List (List Field)) (os : List Outcome) (sent : List ℕ) (j : J) (c : Content) →
-      Only (kept j) (may_leave j) → Leads (kept j) c → UpTo s rs os c sent → Survives s rs os (may_leave j) sent
+      Only (stored j) (may_leave j) → Leads (stored j) c → UpTo s rs os c sent → Survives s rs os (may_leave j) sent
   survives_only rs os sent j c only leads up = λ text m.
       (c, subst (λ (x : List ℕ). Leads x c) (sym (only text m)) leads, up)
 
@@ -235,7 +235,7 @@ module _ {J W : Type 0} (kept : J → List ℕ) (may_leave : J → List ℕ → 
   -- ---- what passes the gate
 
   module _ (rs : List (List Field)) (os : List Outcome) (t : State) (text rest : List ℕ) (g h : Gate J) (o p : Buffered W)
-      (a : Log rs os t (text ++ rest) g o) (b : Passes kept may_leave contents g o h p text) where
+      (a : Log rs os t (text ++ rest) g o) (b : Passes stored may_leave contents g o h p text) where
     bytes_now : texts os ≡ ((a.sent ++ b.sent) ++ pending p) ++ rest
     bytes_now = a.bytes ∙ regroup a.sent (pending o) text rest b.sent (pending p) b.bytes
 
@@ -260,7 +260,7 @@ module _ {J W : Type 0} (kept : J → List ℕ) (may_leave : J → List ℕ → 
         }
 
     -- the log leads to all outcomes, and nothing waits
-    with_all : Only (kept h.journal) (may_leave h.journal) → Leads (kept h.journal) t.content → ready h ≡ [] →
+    with_all : Only (stored h.journal) (may_leave h.journal) → Leads (stored h.journal) t.content → ready h ≡ [] →
         HoldsBatch t.content t.batch (batch g) → Log rs os t rest h p
     with_all only leads none inner =
         with_log (survives_only rs os (a.sent ++ b.sent) h.journal t.content only leads up_now)
@@ -269,7 +269,7 @@ module _ {J W : Type 0} (kept : J → List ℕ) (may_leave : J → List ℕ → 
     none_more : b.sent ≡ [] → a.sent ≡ a.sent ++ b.sent
     none_more e = sym (ap (λ (x : List ℕ). a.sent ++ x) e ∙ append-nil a.sent)
 
-    by_keeping : Keeping kept may_leave g h b.sent → Log rs os t rest h p
+    by_keeping : Storing stored may_leave g h b.sent → Log rs os t rest h p
     by_keeping (None_sent j r e c) =
         with_log
         (subst (Survives s rs os (may_leave h.journal)) (none_more e)
@@ -278,11 +278,11 @@ module _ {J W : Type 0} (kept : J → List ℕ) (may_leave : J → List ℕ → 
         (λ n. (none_more e n, sym j n, sym r n, sym b.others.batches n)) (a.going (open_before g h c open_now)))
     by_keeping (None_ready o j n m) =
         let k = a.going o in
-        with_all (subst (λ (x : J). Only (kept x) (may_leave x)) (sym j) k.only)
-        (subst (λ (x : J). Leads (kept x) t.content) (sym j)
+        with_all (subst (λ (x : J). Only (stored x) (may_leave x)) (sym j) k.only)
+        (subst (λ (x : J). Leads (stored x) t.content) (sym j)
         (subst (λ (x : List ℕ). Leads x t.content)
-        (ap (λ (x : List ℕ). kept g.journal ++ x) n ∙ append-nil (kept g.journal)) k.all)) m k.batches
-    by_keeping (All_kept o e only m) =
+        (ap (λ (x : List ℕ). stored g.journal ++ x) n ∙ append-nil (stored g.journal)) k.all)) m k.batches
+    by_keeping (All_stored o e only m) =
         let k = a.going o in
         with_all only (subst (λ (x : List ℕ). Leads x t.content) (sym e) k.all) m k.batches
     by_keeping (Cut_off o may some e c) =
@@ -297,11 +297,11 @@ module _ {J W : Type 0} (kept : J → List ℕ) (may_leave : J → List ℕ → 
         (λ open_now. absurd (let never : true ≡ false = sym c ∙ open_now in cc))
 
     pub logs_pass : Log rs os t rest h p
-    logs_pass = by_keeping b.keeping
+    logs_pass = by_keeping b.storing
 
   -- nothing happened to the log
   pub logs_same : (rs : List (List Field)) (os : List Outcome) (t : State) (unwritten : List ℕ) (g h : Gate J)
-      (o : Buffered W) → Untouched g h → waiting h.unkept ≡ waiting g.unkept → Log rs os t unwritten g o →
+      (o : Buffered W) → Untouched g h → waiting h.unstored ≡ waiting g.unstored → Log rs os t unwritten g o →
       Log rs os t unwritten h o
   logs_same rs os t unwritten g h o u w a =
       record {
@@ -341,8 +341,8 @@ module _ {J W : Type 0} (kept : J → List ℕ) (may_leave : J → List ℕ → 
 
   module _ (rs : List (List Field)) (os : List Outcome) (t u : State) (r : List Field) (oc : Outcome) (text : List ℕ)
       (accepts : Bool) (g h : Gate J) (o : Buffered W) (size : length os ≡ length rs) (one : SoundOutcome t r oc u)
-      (is : answer_of oc ≡ (text, accepts)) (effect : g.unkept.effect ≡ effect_of r) (line : next_line g.unkept ≡ kept_line r)
-      (a : Log rs os t [] g o) {jn : journal.Ghosts J} (e : Settles jn g accepts h) where
+      (is : answer_of oc ≡ (text, accepts)) (effect : g.unstored.effect ≡ effect_of r) (line : next_line g.unstored ≡ stored_line r)
+      (a : Log rs os t [] g o) {jn : journal.Ghosts J} (e : Concludes jn g accepts h) where
     run_now : SoundOutcomes s (rs ++ r ∷ []) (os ++ oc ∷ []) u
     run_now = run_more SoundOutcome s t u rs r os oc size a.run one
 
@@ -359,30 +359,30 @@ module _ {J W : Type 0} (kept : J → List ℕ) (may_leave : J → List ℕ → 
         up_to_all s u (rs ++ r ∷ []) (os ++ oc ∷ []) a.sent (pending o ++ text) run_now
         (texts_now ∙ append_assoc a.sent (pending o) text)
 
-    waits_as : waiting h.unkept ≡ answered r (is_ok oc) (waiting g.unkept)
+    waits_as : waiting h.unstored ≡ answered r (is_ok oc) (waiting g.unstored)
     waits_as =
-        e.settled.waits
-        ∙ (λ i. if (sym is i).1 then settled (effect i) (line i) (waiting g.unkept) else waiting g.unkept)
+        e.concluded.waits
+        ∙ (λ i. if (sym is i).1 then concluded (effect i) (line i) (waiting g.unstored) else waiting g.unstored)
 
     goes_now : is_closed h ≡ false → Goes (rs ++ r ∷ []) (os ++ oc ∷ []) u a.sent h.journal (ready h) (batch h)
     goes_now open_now =
         let k = a.going (ap is_some (sym e.untouched.fault) ∙ open_now) in
-        let f = follows_outcome (kept g.journal) (waiting g.unkept) t u r oc (k.all, k.batches) one in
-        let now : Follows (kept h.journal) u (waiting h.unkept) =
-        subst (λ (x : J × Waiting). Follows (kept x.0) u x.1) (λ n. (sym e.untouched.journal n, sym waits_as n)) f in
+        let f = follows_outcome (stored g.journal) (waiting g.unstored) t u r oc (k.all, k.batches) one in
+        let now : Follows (stored h.journal) u (waiting h.unstored) =
+        subst (λ (x : J × Waiting). Follows (stored x.0) u x.1) (λ n. (sym e.untouched.journal n, sym waits_as n)) f in
         record {
-          only = subst (λ (x : J). Only (kept x) (may_leave x)) (sym e.untouched.journal) k.only;
-          fronts = λ front is_front. elim (e.settled.fronts front is_front) [
+          only = subst (λ (x : J). Only (stored x) (may_leave x)) (sym e.untouched.journal) k.only;
+          fronts = λ front is_front. elim (e.concluded.fronts front is_front) [
             | inl before ↦ let b = k.fronts front before in
-                (b.0, subst (λ (x : J). Leads (kept x ++ front) b.0) (sym e.untouched.journal) b.1, up_next b.0 b.2)
-            | inr whole ↦ (u.content, subst (λ (x : List ℕ). Leads (kept h.journal ++ x) u.content) (sym whole) now.0, up_last)
+                (b.0, subst (λ (x : J). Leads (stored x ++ front) b.0) (sym e.untouched.journal) b.1, up_next b.0 b.2)
+            | inr whole ↦ (u.content, subst (λ (x : List ℕ). Leads (stored h.journal ++ x) u.content) (sym whole) now.0, up_last)
           ];
           all = now.0;
           batches = now.1;
         }
 
-    pub logs_settle : Log (rs ++ r ∷ []) (os ++ oc ∷ []) u text h o
-    logs_settle =
+    pub logs_conclude : Log (rs ++ r ∷ []) (os ++ oc ∷ []) u text h o
+    logs_conclude =
         record {
           run = run_now;
           sent = a.sent;
@@ -397,11 +397,11 @@ module _ {J W : Type 0} (kept : J → List ℕ) (may_leave : J → List ℕ → 
 -- ---- when the log is replaced
 
 module _ {J W : Type 0} (j : journal.Ghosts J) (contents : W → Known) (base : Known) (s : State) where
-  -- the records of the content are kept in the place of the log
-  pub logs_renew : (rs : List (List Field)) (os : List Outcome) (t : State) (records : List ℕ) (g h : Gate J)
-      (o : Buffered W) → Logs j.kept j.may_leave contents base s rs os t [] g o → IsContent t.content → t.batch ≡ None →
-      records ≡ concat (dump_lines t.content) → Renews j g records h → Logs j.kept j.may_leave contents base s rs os t [] h o
-  logs_renew rs os t records g h o a sound none is b =
+  -- the records of the content are stored in the place of the log
+  pub logs_compact : (rs : List (List Field)) (os : List Outcome) (t : State) (records : List ℕ) (g h : Gate J)
+      (o : Buffered W) → Logs j.stored j.may_leave contents base s rs os t [] g o → IsContent t.content → t.batch ≡ None →
+      records ≡ concat (dump_lines t.content) → Compacts j g records h → Logs j.stored j.may_leave contents base s rs os t [] h o
+  logs_compact rs os t records g h o a sound none is b =
       record {
         run = a.run;
         sent = a.sent;
@@ -411,7 +411,7 @@ module _ {J W : Type 0} (j : journal.Ghosts J) (contents : W → Known) (base : 
           | inl before ↦ a.survives text before
           | inr new ↦ (t.content, subst (λ (x : List ℕ). Leads x t.content) (sym new.0) (leads_now new.1), up_now)
         ];
-        going = λ still. let c = b.going still in by_renewal c.0 c.1;
+        going = λ still. let c = b.going still in by_replacement c.0 c.1;
       }
     where
       leads_now : is_closed g ≡ false → Leads records t.content
@@ -422,18 +422,18 @@ module _ {J W : Type 0} (j : journal.Ghosts J) (contents : W → Known) (base : 
       up_now : UpTo s rs os t.content a.sent
       up_now = up_to_all s t rs os a.sent (pending o) a.run (a.bytes ∙ append-nil (a.sent ++ pending o))
 
-      by_renewal : is_closed g ≡ false → Renewal j g records h →
-          Going j.kept j.may_leave contents s rs os t a.sent h.journal (ready h) (batch h)
-      by_renewal going_on (Replaced no_batch same only waits) =
+      by_replacement : is_closed g ≡ false → Replacement j g records h →
+          Going j.stored j.may_leave contents s rs os t a.sent h.journal (ready h) (batch h)
+      by_replacement going_on (Replaced no_batch same only waits) =
           let k = a.going going_on in
-          fresh j.kept j.may_leave contents base s rs os t a.sent h.journal (ready h) (batch h) (only k.only)
+          fresh j.stored j.may_leave contents base s rs os t a.sent h.journal (ready h) (batch h) (only k.only)
           (subst (λ (x : List ℕ). Leads x t.content) (sym same) (leads_now going_on))
           (ap (λ (w : Waiting). w.ready) waits)
           (subst (λ (b : Option (List Change)). HoldsBatch t.content b (batch h)) (sym none)
           (ap (λ (w : Waiting). w.batch) waits)) up_now
-      by_renewal going_on (Left_as_it_was why same only waits) =
+      by_replacement going_on (Left_as_it_was why same only waits) =
           let k = a.going going_on in
-          subst (λ (w : Waiting). Going j.kept j.may_leave contents s rs os t a.sent h.journal w.ready w.batch) (sym waits)
+          subst (λ (w : Waiting). Going j.stored j.may_leave contents s rs os t a.sent h.journal w.ready w.batch) (sym waits)
           (record {
             only = only k.only;
             fronts = λ front f. subst (λ (x : List ℕ). (c : Content) × Leads (x ++ front) c × UpTo s rs os c a.sent)

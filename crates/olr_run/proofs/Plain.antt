@@ -16,11 +16,11 @@ use Rattle.olr_records.proofs.ReadLemmas.{given, two, any_passes}
 use Rattle.olr_records.proofs.TestLemmas.{◌also◌}
 use Rattle.olr_records.proofs.PlainLemmas.{Plain, AllPlain, Where, digits_plain, name_plain, node_plain, one_plain}
 use Rattle.olr_records.proofs.PlainLemmas.{line_plain, set_line_plain, path_fields_plain}
-use Rattle.olr_input.specs.KeptLines.{effect_of, word_effect, has_line, is_clean, is_clean_byte}
-use Rattle.olr_input.specs.declared.unkept.Effect.{Effect}
-use Rattle.olr_input.specs.declared.unkept.Effect.TheVariants as effect
-use Rattle.olr_input.proofs.KeptLines.{same_text}
-use Rattle.olr_run.specs.Logged.{IsKept}
+use Rattle.olr_input.specs.StoredLines.{effect_of, word_effect, has_line, is_clean, is_clean_byte}
+use Rattle.olr_input.specs.declared.unstored.Effect.{Effect}
+use Rattle.olr_input.specs.declared.unstored.Effect.TheVariants as effect
+use Rattle.olr_input.proofs.StoredLines.{same_text}
+use Rattle.olr_run.specs.Logged.{IsLogged}
 
 -- ---- commands
 
@@ -33,18 +33,18 @@ effect_for Abort = effect.Abort
 effect_for Compact = effect.Compact
 effect_for _ = effect.Nothing
 
-pub record KeptAs (word : Field) (fs : List Field) (c : Command) : Type 0 where
+pub record StoredAs (word : Field) (fs : List Field) (c : Command) : Type 0 where
   pub effect : word_effect (word ∷ fs) ≡ effect_for c
-  pub plain : IsKept c → AllPlain (word ∷ fs)
+  pub plain : IsLogged c → AllPlain (word ∷ fs)
 
 abbrev Fits : Field → (List Field → Read Command) → Type 0
-Fits word form = (fs : List Field) → IfOk (form fs) (KeptAs word fs)
+Fits word form = (fs : List Field) → IfOk (form fs) (StoredAs word fs)
 
 makes : {A : Type 0} (word : Field) (f : A → Change) (r : List Field → Read A) → Plain word →
     ((fs : List Field) → word_effect (word ∷ fs) ≡ effect.Change) → ((fs : List Field) → Where (r fs) (AllPlain fs)) →
     Fits word (λ fs. Ok (λ a. Make (f a)) ⊛ r fs)
 makes word f r w e h fs =
-    given (KeptAs word fs) (λ _. AllPlain fs) (Ok (λ a. Make (f a))) (r fs) (h fs)
+    given (StoredAs word fs) (λ _. AllPlain fs) (Ok (λ a. Make (f a))) (r fs) (h fs)
     (λ a p. record { effect = e fs; plain = λ _. (w, p) })
 
 edits : (word : Field) (r : List Field → Read Edit) → Plain word → ((fs : List Field) → word_effect (word ∷ fs) ≡ effect.Change) →
@@ -55,7 +55,7 @@ one_fits : {A : Type 0} (word : Field) (g : A → Command) (r : Field → Read A
     ((a : A) (f : Field) → word_effect (word ∷ f ∷ []) ≡ effect_for (g a)) → ((f : Field) → Where (r f) (Plain f)) →
     Fits word (λ fs. one g r fs)
 one_fits word g r w e h (f ∷ []) =
-    given (KeptAs word (f ∷ [])) (λ _. Plain f) (Ok g) (r f) (h f)
+    given (StoredAs word (f ∷ [])) (λ _. Plain f) (Ok g) (r f) (h f)
     (λ a p. record { effect = e a f; plain = λ _. (w, (p, tt)) })
 one_fits word g r w e h fs = tt
 
@@ -70,7 +70,7 @@ explains fs = tt
 depends_on : Fits (codes "depends") depends_record
 depends_on [] = tt
 depends_on (f ∷ fs) =
-    two (KeptAs (codes "depends") (f ∷ fs)) (λ _. ⊤) (λ _. ⊤) (Ok (λ n nodes. Depends nodes)) (few_nodes (length (f ∷ fs)))
+    two (StoredAs (codes "depends") (f ∷ fs)) (λ _. ⊤) (λ _. ⊤) (Ok (λ n nodes. Depends nodes)) (few_nodes (length (f ∷ fs)))
     (numbers (f ∷ fs)) (any_passes (few_nodes (length (f ∷ fs)))) (any_passes (numbers (f ∷ fs)))
     (λ n _ nodes _. record { effect = refl; plain = λ k. absurd k })
 
@@ -80,20 +80,20 @@ ambiguous (f ∷ fs) = one_fits (codes "ambiguous") (λ n. Ambiguous (Some n)) n
 
 margins : Fits (codes "margin") margin_record
 margins (r ∷ c ∷ []) =
-    two (KeptAs (codes "margin") (r ∷ c ∷ [])) (λ _. Plain r) (λ _. Plain c)
+    two (StoredAs (codes "margin") (r ∷ c ∷ [])) (λ _. Plain r) (λ _. Plain c)
     (Ok (λ a b. Make (Set_margin (record { routes = a; classes = b })))) (digits 0 1000 r) (class c) (digits_plain 0 1000 r)
     (digits_plain 0 7 c) (λ a p b q. record { effect = refl; plain = λ _. (refl, (p, (q, tt))) })
 margins fs = tt
 
 by_fits : (rs : List (Field × (List Field → Read Command))) → AllByRecursion (λ r. Fits r.0 r.1) rs →
-    (word : Field) (fs : List Field) → IfOk (read_by rs word fs) (KeptAs word fs)
+    (word : Field) (fs : List Field) → IfOk (read_by rs word fs) (StoredAs word fs)
 by_fits [] h word fs = tt
 by_fits (r ∷ rs) h word fs = by_word (same_name word r.0) refl (by_fits rs h.1 word fs)
   where
-    by_word : (b : Bool) → same_name word r.0 ≡ b → IfOk (read_by rs word fs) (KeptAs word fs) →
-        IfOk (read_by (r ∷ rs) word fs) (KeptAs word fs)
+    by_word : (b : Bool) → same_name word r.0 ≡ b → IfOk (read_by rs word fs) (StoredAs word fs) →
+        IfOk (read_by (r ∷ rs) word fs) (StoredAs word fs)
     by_word true e rest =
-        rw e (subst (λ (w : Field). IfOk (r.1 fs) (KeptAs w fs)) (sym (same_text word r.0 e)) (h.0 fs))
+        rw e (subst (λ (w : Field). IfOk (r.1 fs) (StoredAs w fs)) (sym (same_text word r.0 e)) (h.0 fs))
     by_word false e rest = rw e rest
 
 forms_fit : AllByRecursion (λ r. Fits r.0 r.1) forms
@@ -124,9 +124,9 @@ forms_fit =
     also none_fits (codes "show-margin") Show_margin refl refl
     also tt
 
-kept_as : (word : Field) (fs : List Field) (c : Command) → read (word ∷ fs) ≡ Ok c → KeptAs word fs c
-kept_as word fs c e =
-    subst (λ (r : Read Command). IfOk r (KeptAs word fs)) e (by_fits forms forms_fit word fs)
+stored_as : (word : Field) (fs : List Field) (c : Command) → read (word ∷ fs) ≡ Ok c → StoredAs word fs c
+stored_as word fs c e =
+    subst (λ (r : Read Command). IfOk r (StoredAs word fs)) e (by_fits forms forms_fit word fs)
 
 -- ---- lines
 
@@ -147,29 +147,29 @@ line_clean (f ∷ []) h = plain_clean f h.0
 line_clean (f ∷ g ∷ fs) h =
     clean_join f (44 ∷ join_with_byte 44 (g ∷ fs)) (plain_clean f h.0) (line_clean (g ∷ fs) h.1)
 
-kept_of_line : (c : Command) → has_line (effect_for c) ≡ true → IsKept c
-kept_of_line (Make x) h = tt
-kept_of_line Begin h = tt
-kept_of_line (Commit n) h = tt
-kept_of_line Abort h = absurd cc
-kept_of_line c h = absurd cc
+stored_of_line : (c : Command) → has_line (effect_for c) ≡ true → IsLogged c
+stored_of_line (Make x) h = tt
+stored_of_line Begin h = tt
+stored_of_line (Commit n) h = tt
+stored_of_line Abort h = absurd cc
+stored_of_line c h = absurd cc
 
 pub effect_is : (fields : List Field) (c : Command) → read fields ≡ Ok c → effect_of fields ≡ effect_for c
 effect_is [] c e = absurd cc
 effect_is (word ∷ fs) c e = by_line (has_line (effect_for c)) refl
   where
-    k : KeptAs word fs c
-    k = kept_as word fs c e
+    k : StoredAs word fs c
+    k = stored_as word fs c e
 
     by_line : (b : Bool) → has_line (effect_for c) ≡ b → effect_of (word ∷ fs) ≡ effect_for c
     by_line true h =
         let line : has_line (word_effect (word ∷ fs)) ≡ true = ap has_line k.effect ∙ h in
-        let clean = line_clean (word ∷ fs) (k.plain (kept_of_line c h)) in
+        let clean = line_clean (word ∷ fs) (k.plain (stored_of_line c h)) in
         let same : effect_of (word ∷ fs) ≡ word_effect (word ∷ fs) = rw (line, clean) refl in same ∙ k.effect
     by_line false h =
         let none : has_line (word_effect (word ∷ fs)) ≡ false = ap has_line k.effect ∙ h in
         let same : effect_of (word ∷ fs) ≡ word_effect (word ∷ fs) = rw none refl in same ∙ k.effect
 
-pub fields_plain : (fields : List Field) (c : Command) → read fields ≡ Ok c → IsKept c → AllPlain fields
+pub fields_plain : (fields : List Field) (c : Command) → read fields ≡ Ok c → IsLogged c → AllPlain fields
 fields_plain [] c e k = tt
-fields_plain (word ∷ fs) c e k = (kept_as word fs c e).plain k
+fields_plain (word ∷ fs) c e k = (stored_as word fs c e).plain k

@@ -9,7 +9,7 @@ use Rattle.olr_commands.proofs.StateLemmas.{ends}
 use Rattle.olr_register.specs.BatchChanges.{ByContent, Lacks, MayReport}
 use Rattle.olr_register.specs.Built.{IsChange}
 use Rattle.olr_run.proofs.Restoring.{Loading, holding}
-use Rattle.olr_run.specs.Logged.{IsKept, closed}
+use Rattle.olr_run.specs.Logged.{IsLogged, closed}
 use Rattle.olr_run.specs.Restored.{InPlace, LeadsNowhere, Loads, NeverChanges, Refuses, RefusesRecord}
 use Rattle.olr_commands.specs.declared.command.Command.{Command as Rust}
 use Rattle.olr_commands.specs.declared.command.Command.TheVariants as rust
@@ -98,13 +98,13 @@ open_leads text m l a none refused c leads =
 pub outside_closed : (l : Loader) → l.in_batch ≡ true → (s : State) → Loads l s → (c : Content) → s ≡ closed c → ⊥
 outside_closed l inside s a c is = absurd (let never : true ≡ false = sym inside ∙ subst (λ (u : State). InPlace l u.batch) is a.place in cc)
 
--- a command that is no change, begin or commit isn't kept
-pub other_kind : (c : Rust) → kind.Other ≡ kind_by c → IsKept (command_of c) → ⊥
-other_kind (rust.Edit e) is kept = absurd (let never = is in cc)
-other_kind (rust.AddPath name lines p n) is kept = absurd (let never = is in cc)
-other_kind (rust.SetPath name lines p n) is kept = absurd (let never = is in cc)
-other_kind (rust.DropPath name) is kept = absurd (let never = is in cc)
-other_kind (rust.SetMargin g) is kept = absurd (let never = is in cc)
-other_kind rust.Begin is kept = absurd (let never = is in cc)
-other_kind (rust.Commit count) is kept = absurd (let never = is in cc)
-other_kind c is kept = kept
+-- a command that is no change, begin or commit isn't stored
+pub other_kind : (c : Rust) → kind.Other ≡ kind_by c → IsLogged (command_of c) → ⊥
+other_kind (rust.Edit e) is stored = absurd (let never = is in cc)
+other_kind (rust.AddPath name lines p n) is stored = absurd (let never = is in cc)
+other_kind (rust.SetPath name lines p n) is stored = absurd (let never = is in cc)
+other_kind (rust.DropPath name) is stored = absurd (let never = is in cc)
+other_kind (rust.SetMargin g) is stored = absurd (let never = is in cc)
+other_kind rust.Begin is stored = absurd (let never = is in cc)
+other_kind (rust.Commit count) is stored = absurd (let never = is in cc)
+other_kind c is stored = stored

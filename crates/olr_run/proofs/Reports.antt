@@ -52,7 +52,7 @@ all_of g M (p ∷ ps) xs (m, rest, encoding, more, is) =
 
 -- the first line, and those of all paths
 pub report_of : (register : Registered) (xs rest : List (List ℕ × Option Made)) (before mid after : List ℕ) (n : ℕ)
-    → AllPublished register.kept.content xs → n ≡ length register.kept.content.paths → mid ≡ before ++ count_line n →
+    → AllPublished register.state.content xs → n ≡ length register.state.content.paths → mid ≡ before ++ count_line n →
     rest ≡ [] → after ++ lines_of rest ≡ mid ++ lines_of xs → IsReport register (λ lines. after ≡ before ++ lines)
 report_of register xs rest before mid after n h count first none last s represents =
     let r = all_of s.content.margin s.content.map s.content.paths xs (subst (λ (c : Content). AllPublished c xs) represents.0 h) in
@@ -71,8 +71,8 @@ report_of register xs rest before mid after n h count first none last s represen
 
 abbrev Answers : Registered → List Field → List ℕ → Bool → Type 0
 Answers register fields text accepts =
-    (s : State) → Represents register.kept s → IsContent s.content
-    → (t : State) × (o : Outcome) × Represents register.kept t
+    (s : State) → Represents register.state s → IsContent s.content
+    → (t : State) × (o : Outcome) × Represents register.state t
     × SoundOutcome s fields o t × (outcome_text o ≡ text) × (is_ok o ≡ accepts)
 
 record_outcome : (s : State) (fields : List Field) (o : Outcome) → read fields ≡ Ok Report → IsOutcome s Report o s →
@@ -95,7 +95,7 @@ may_lack_report : (s : State) → length s.content.paths ≢ 0 → IsTrue (may_l
 may_lack_report s some = grind (arith, ne_eqb)
 
 pub lacks : (register : Registered) (fields : List Field) (line : List ℕ) → read fields ≡ Ok Report →
-    length register.kept.content.paths ≢ 0 → line ≡ fault_text Memory → Answers register fields line false
+    length register.state.content.paths ≢ 0 → line ≡ fault_text Memory → Answers register fields line false
 lacks register fields line e some is s represents sound =
     let may = may_lack_report s (subst (λ (c : Content). length c.paths ≢ 0) represents.0 some) in
     (s, Err Memory, represents, (record_outcome s fields (Err Memory) e (Lacks refl may, refl), sound), sym is, refl)

@@ -7,7 +7,7 @@ use Rattle.std.proofs.lemmas.Bool.Decides.{nat_tests}
 use Rattle.olr_commands.specs.State.{Content, Change, Command, Make, Begin, Commit, State, with_change, after}
 use Rattle.olr_commands.specs.State.{step, full, start_state}
 use Rattle.olr_commands.proofs.StateLemmas.{next_ok, after_push}
-use Rattle.olr_run.specs.Logged.{Accepted, IsKept, closed}
+use Rattle.olr_run.specs.Logged.{Accepted, IsLogged, closed}
 use Rattle.olr_register.specs.Built.{Changes, IsChange}
 use Rattle.olr_run.specs.Restored.{HasContentOf, Loads, Loaded, LoadsRecord, IsKind, kind_by}
 use Rattle.olr_run.proofs.Accepting.{accepted_next}
@@ -90,12 +90,12 @@ loads_committed l n k c (Some xs) a building inside count outside =
 
 -- the end of the log
 pub loads_finished : (l : Loader) (new : Registered) (s : State) → Loads l s → l.in_batch ≡ false →
-    new.kept ≡ record { content = l.building; batch = None } → (c : Content) × (s ≡ closed c) × Represents new.kept (closed c)
-loads_finished l new s a outside kept = by_batches s.content s.batch a
+    new.state ≡ record { content = l.building; batch = None } → (c : Content) × (s ≡ closed c) × Represents new.state (closed c)
+loads_finished l new s a outside stored = by_batches s.content s.batch a
   where
     by_batches : (c : Content) (b : Option (List Change)) → Loads l (record { content = c; batch = b })
-        → (d : Content) × (record { content = c; batch = b } ≡ closed d) × Represents new.kept (closed d)
-    by_batches c None h = (c, refl, rw kept (h.content, tt))
+        → (d : Content) × (record { content = c; batch = b } ≡ closed d) × Represents new.state (closed d)
+    by_batches c None h = (c, refl, rw stored (h.content, tt))
     by_batches c (Some xs) h = absurd (let never : true ≡ false = sym h.place.0 ∙ outside in cc)
 
 -- ---- the records of a text
@@ -116,7 +116,7 @@ loading_start all m l are_left loads =
 
 pub loading_more : (all : List (List Field)) (m n : InMemory) (l k : Loader) (fields : List Field) → Loading all m l →
     TakesOne (left_of m) (left_of n) fields → LoadsRecord l fields k → Loading all n k
-loading_more all m n l k fields a took (c, is, kept, loads) =
+loading_more all m n l k fields a took (c, is, stored, loads) =
     let next = took a.rest a.are_left in
     let one = loads a.state a.loads in
     record {
@@ -124,18 +124,18 @@ loading_more all m n l k fields a took (c, is, kept, loads) =
       are_left = next.2;
       state = one.0;
       loads = one.2;
-      joins = λ t b. a.joins t (rw next.1 (c, is, kept, one.0, one.1, b));
+      joins = λ t b. a.joins t (rw next.1 (c, is, stored, one.0, one.1, b));
       splits = λ t b. accepted_next a.state one.0 t fields next.0 c is one.1 (rw next.1 at (a.splits t b));
     }
 
 pub loading_end : (text : List ℕ) (m : InMemory) (l : Loader) (new : Registered) → Loading (records_of text) m l →
     HasNone (left_of m)
-    → ((s : State) → Loads l s → (c : Content) × (s ≡ closed c) × Represents new.kept (closed c)) → HasContentOf text new
+    → ((s : State) → Loads l s → (c : Content) × (s ≡ closed c) × Represents new.state (closed c)) → HasContentOf text new
 loading_end text m l new a none finished =
     let f = finished a.state a.loads in (f.0, a.joins (closed f.0) (rw (none a.rest a.are_left) f.1), f.2)
 
-pub kept_loaded : (l n : Loader) (c k : Command) → c ≡ k → IsKept k → Loaded l k n → IsKept c × Loaded l c n
-kept_loaded l n c k e kept h = (subst IsKept (sym e) kept, subst (λ (d : Command). Loaded l d n) (sym e) h)
+pub logged_loaded : (l n : Loader) (c k : Command) → c ≡ k → IsLogged k → Loaded l k n → IsLogged c × Loaded l c n
+logged_loaded l n c k e stored h = (subst IsLogged (sym e) stored, subst (λ (d : Command). Loaded l d n) (sym e) h)
 
 kind_of_command : (c : Rust) → IsKind (command_of c) (kind_by c)
 kind_of_command (rust.Edit e) = (_, refl)
@@ -150,5 +150,5 @@ kind_of_command c = tt
 pub kind_is : (c : Rust) (k : Kind) → k ≡ kind_by c → IsKind (command_of c) k
 kind_is c k e = subst (IsKind (command_of c)) (sym e) (kind_of_command c)
 
-pub change_loaded : (l n : Loader) (c : Command) → IsChange c → Loaded l c n → IsKept c × Loaded l c n
-change_loaded l n c change h = (subst IsKept (sym change.1) tt, h)
+pub change_loaded : (l n : Loader) (c : Command) → IsChange c → Loaded l c n → IsLogged c × Loaded l c n
+change_loaded l n c change h = (subst IsLogged (sym change.1) tt, h)

@@ -18,14 +18,14 @@ Then Before After =
     (s : State) (rs : List (List Field)) (os : List Outcome) (t : State) → Before s rs os t → After s rs os t
 
 module _ (Before After : State → List (List Field) → List Outcome → State → Type 0)
-    (f : Then Before After) (stop : Bool) (old : Registered) (before : Known) (new : Registered) (mid later : Known) (kept : Keeps mid later) where
+    (f : Then Before After) (stop : Bool) (old : Registered) (before : Known) (new : Registered) (mid later : Known) (stored : Keeps mid later) where
   -- nothing more was written
   sent : (Then Now : State → List (List Field) → State → List ℕ → Type 0)
       → ((s : State) (rs : List (List Field)) (t : State) (w : List ℕ) → Then s rs t w → Now s rs t w) → (records : Records)
       → LeadsOn Then old records before new mid → LeadsOn Now old records before new later
   sent Then Now more None h = tt
   sent Then Now more (Some rs) h = λ s represents.
-      let r = h s represents in (r.0, r.1, r.2, Appends-kept before mid later r.2 r.3 kept, more s rs r.0 r.2 r.4)
+      let r = h s represents in (r.0, r.1, r.2, Appends-kept before mid later r.2 r.3 stored, more s rs r.0 r.2 r.4)
 
   pub ran_sent : (records : Records) (end : Status) → RanOn Before stop old records before new mid end →
       RanOn After stop old records before new later end
@@ -61,17 +61,17 @@ module _ (Before After : State → List (List Field) → List Outcome → State 
 -- ---- by whether the answers could be sent
 
 module _ (Whole Part WholeSent PartSent : State → List (List Field) → List Outcome → State → Type 0) (stop : Bool)
-    (old : Registered) (before : Known) (new : Registered) (mid later : Known) (kept : Keeps mid later) (records : Records)
+    (old : Registered) (before : Known) (new : Registered) (mid later : Known) (stored : Keeps mid later) (records : Records)
     {A : Type 0} where
   pub ended_sent : (r : Result Status RunFault) (s : Result A RunFault) → OnOk s (Then Whole WholeSent) → Then Whole PartSent →
       Then Part PartSent → IfErr s (λ e. e ≡ fault.Write) → EndedOn Whole Part stop old records before new mid r →
       EndedOn WholeSent PartSent stop old records before new later (once_sent r s)
   ended_sent (Ok end) (Ok done) whole unsent part write run =
-      ran_sent Whole WholeSent whole stop old before new mid later kept records end run
+      ran_sent Whole WholeSent whole stop old before new mid later stored records end run
   ended_sent (Ok end) (Err e) whole unsent part write run =
-      (ran_unsent Whole PartSent unsent stop old before new mid later kept records end e write run, λ many. absurd cc)
+      (ran_unsent Whole PartSent unsent stop old before new mid later stored records end e write run, λ many. absurd cc)
   ended_sent (Err e) s whole unsent part write run =
-      (faulted_sent Part PartSent part stop old before new mid later kept records e run.0, run.1)
+      (faulted_sent Part PartSent part stop old before new mid later stored records e run.0, run.1)
 
 module _ {A : Type 0} where
   pub held_sent : (P : Type 0) (r : Result Status RunFault) (s : Result A RunFault) → OnOk s P → OnOk (once_sent r s) P

@@ -13,7 +13,7 @@ use Rattle.olr_run.specs.Explains.{Explains}
 use Rattle.olr_run.specs.Opens.{IsFile}
 use Rattle.olr_run.specs.Options.{Options, keep_app, options}
 use Rattle.olr_run.specs.Sizes.{IsLength, NoSize}
-use Rattle.olr_log.specs.Logs.{kept_of, left_of, is_own_of}
+use Rattle.olr_log.specs.Logs.{stored_of, left_of, is_own_of}
 use Rattle.olr_log.specs.declared.folder.Folder as folder
 use Rattle.olr_log.specs.declared.log_file.LogFile.{LogFile}
 use Rattle.olr_log.specs.declared.place.OpenError.{OpenError}
@@ -72,13 +72,13 @@ module _ {D F : Type 0} {d : disk.Ghosts D} {f : folder.Ghosts F D} where
   -- the result of opening a log of this name, or of making it
   abbrev pub OpensLog : (List ℕ → Bool → Bool → List ℕ → (List ℕ → Type 0) → Type 0) →
       (List ℕ → Bool → OpenError → Type 0) → List ℕ → Bool → Result (LogFile D F d f) OpenError → Type 0
-  OpensLog MayBe Refuses name is_new (Ok log) = MayBe name is_new (is_own_of log) (kept_of log) (left_of log)
+  OpensLog MayBe Refuses name is_new (Ok log) = MayBe name is_new (is_own_of log) (stored_of log) (left_of log)
   OpensLog MayBe Refuses name is_new (Err e) = Refuses name is_new e
 
-  -- what may be left of the log was left at the end of the run, or is all that is kept, if the run was not cut off
+  -- what may be left of the log was left at the end of the run, or is all that is stored, if the run was not cut off
   abbrev pub LeftAfter : Gate (LogFile D F d f) → Result Status RunFault → LogFile D F d f → Type 0
   LeftAfter g end last =
-      (t : List ℕ) → left_of last t → left_of g.journal t ⊎ (IsTrue (is_ok end) × (t ≡ kept_of g.journal))
+      (t : List ℕ) → left_of last t → left_of g.journal t ⊎ (IsTrue (is_ok end) × (t ≡ stored_of g.journal))
 
 module _ {D F : Type 0} {d : disk.Ghosts D} {f : folder.Ghosts F D} {W : Type 0} (contents : W → Known) where
   -- It could not begin, and nothing was answered; or it began, and its log was replaced from this length on.
@@ -90,8 +90,8 @@ module _ {D F : Type 0} {d : disk.Ghosts D} {f : folder.Ghosts F D} {W : Type 0}
         (end : Result Status RunFault) →
         EndedOn (LastsOn contents start o last p) (LastsOn contents start o last p) stop old records (written contents o)
         new (written contents p) end
-        → (g : Gate (LogFile D F d f)) → (compaction g).renewed_from ≡ least → LeftAfter g end last
-        → code ≡ run_code end (is_some new.kept.batch) → FromLog log last least stop records o p code
+        → (g : Gate (LogFile D F d f)) → (compaction g).compacted_from ≡ least → LeftAfter g end last
+        → code ≡ run_code end (is_some new.state.batch) → FromLog log last least stop records o p code
 
   -- by whether the log was opened; the log as it was left
   abbrev pub WithLog : Result (LogFile D F d f) OpenError → Option (LogFile D F d f) → ℕ → Bool → Records → Buffered W →

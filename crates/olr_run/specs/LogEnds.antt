@@ -3,7 +3,7 @@
 --     is_rejected fault      a log is rejected for it
 --     BeginsWith own text c      what the text of a log says: of one that the program wrote, each record is a line as the
 --         program writes it
---     Begins log read start register      a register and a log in which records can be kept, from a log that was opened
+--     Begins log read start register      a register and a log in which records can be stored, from a log that was opened
 --     LastsOn      what the log may leave at the end of the run
 use Rattle.std.specs.Prelude.{◌≡◌, ◌⊎◌, ℕ, Bool, true, false, List}
 use Rattle.std.specs.List.{concat}
@@ -11,7 +11,7 @@ use Rattle.sqlite_disk.specs.declared.Disk as disk
 use Rattle.olr_commands.specs.Dump.{dump_lines}
 use Rattle.olr_commands.specs.Reply.{Outcome}
 use Rattle.olr_commands.specs.State.{Content, State}
-use Rattle.olr_log.specs.Logs.{kept_of, left_of, is_own_of, is_clean}
+use Rattle.olr_log.specs.Logs.{stored_of, left_of, is_own_of, is_clean}
 use Rattle.olr_log.specs.declared.folder.Folder as folder
 use Rattle.olr_log.specs.declared.log_file.LogFile.{LogFile}
 use Rattle.olr_records.specs.Records.{Field}
@@ -28,7 +28,7 @@ use Rattle.olr_input.specs.Sessions.{Known}
 use Rattle.olr_input.specs.declared.buffered.Buffered.{Buffered}
 
 abbrev pub AreRecordsOf : Registered → List ℕ → Type 0
-AreRecordsOf register text = (c : Content) → Represents register.kept (closed c) → text ≡ concat (dump_lines c)
+AreRecordsOf register text = (c : Content) → Represents register.state (closed c) → text ≡ concat (dump_lines c)
 
 -- a log is rejected for this fault, whatever memory there is
 abbrev pub is_rejected : StartFault → Bool
@@ -44,14 +44,14 @@ BeginsWith false text c = IsContentOf text c
 
 module _ {D F : Type 0} {d : disk.Ghosts D} {f : folder.Ghosts F D} where
   -- Nothing but reads led from `log` to `read`. If the disk did what it reported, the register has the content that the text
-  -- of the log says, and the log in which records can be kept leads to it, whatever a crash leaves.
+  -- of the log says, and the log in which records can be stored leads to it, whatever a crash leaves.
   pub record Begins (log read start : LogFile D F d f) (register : Registered) : Type 0 where
-    pub same : kept_of read ≡ kept_of log
+    pub same : stored_of read ≡ stored_of log
     pub less : (t : List ℕ) → left_of read t → left_of log t
-    pub content : is_clean read ≡ true → HasContentOf (kept_of log) register
-    pub leads : is_clean read ≡ true → is_clean start ≡ true → (c : Content) → BeginsWith (is_own_of log) (kept_of log) c →
-        Represents register.kept (closed c) × Leads (kept_of start) c
-    pub only : Only (kept_of log) (left_of log) → Only (kept_of start) (left_of start)
+    pub content : is_clean read ≡ true → HasContentOf (stored_of log) register
+    pub leads : is_clean read ≡ true → is_clean start ≡ true → (c : Content) → BeginsWith (is_own_of log) (stored_of log) c →
+        Represents register.state (closed c) × Leads (stored_of start) c
+    pub only : Only (stored_of log) (left_of log) → Only (stored_of start) (left_of start)
 
   abbrev pub BegunFrom : LogFile D F d f → LogFile D F d f → Registered → Type 0
   BegunFrom log start register = (read : LogFile D F d f) × Begins log read start register
@@ -59,14 +59,14 @@ module _ {D F : Type 0} {d : disk.Ghosts D} {f : folder.Ghosts F D} where
   -- a log from which no run began, since it could not be read or written, or was rejected: then its records lead to no content
   abbrev pub Unbegun : LogFile D F d f → LogFile D F d f → Bool → Type 0
   Unbegun log last rejected =
-      (read : LogFile D F d f) × (kept_of read ≡ kept_of log)
-      × ((t : List ℕ) → left_of last t → left_of log t ⊎ (t ≡ kept_of log)
-      ⊎ (is_clean read ≡ true → (c : Content) × IsContentOf (kept_of log) c × (t ≡ concat (dump_lines c))))
-      × (rejected ≡ true → is_clean read ≡ true → LeadsNowhere (kept_of log))
+      (read : LogFile D F d f) × (stored_of read ≡ stored_of log)
+      × ((t : List ℕ) → left_of last t → left_of log t ⊎ (t ≡ stored_of log)
+      ⊎ (is_clean read ≡ true → (c : Content) × IsContentOf (stored_of log) c × (t ≡ concat (dump_lines c))))
+      × (rejected ≡ true → is_clean read ≡ true → LeadsNowhere (stored_of log))
 
   -- however the run ended, each text that may be left of the log leads to the content after the first of the outcomes, and of
   -- the texts of later ones nothing was sent
   abbrev pub LastsOn : {W : Type 0} → (W → Known) → LogFile D F d f → Buffered W → LogFile D F d f → Buffered W → State →
       List (List Field) → List Outcome → State → Type 0
   LastsOn contents start o last p s rs os t =
-      Claims s rs os t × Lasts kept_of left_of contents start o (left_of last) p s rs os
+      Claims s rs os t × Lasts stored_of left_of contents start o (left_of last) p s rs os

@@ -1,5 +1,5 @@
 -- Runs with a log: what a run that is cut off leaves for the next one.
---     IsKept c      a command whose record is kept in a log
+--     IsLogged c      a command whose record is stored in a log
 --     Accepted s rs t      such records are accepted one after another
 --     Leads text c      those of a log are, from the start, and lead to this content, with no batch open at the end
 --     UpTo s rs os c sent      the content is the one after the first of these outcomes, and the bytes that were sent are
@@ -14,11 +14,11 @@ use Rattle.olr_records.specs.Records.{Field, read}
 use Rattle.olr_run.specs.Output.{SoundOutcomes, texts}
 
 -- changes, and the records of batches that are committed
-abbrev pub IsKept : Command → Type 0
-IsKept (Make x) = ⊤
-IsKept Begin = ⊤
-IsKept (Commit count) = ⊤
-IsKept _ = ⊥
+abbrev pub IsLogged : Command → Type 0
+IsLogged (Make x) = ⊤
+IsLogged Begin = ⊤
+IsLogged (Commit count) = ⊤
+IsLogged _ = ⊥
 
 -- a content with no batch open
 abbrev pub closed : Content → State
@@ -28,7 +28,7 @@ closed c = record { content = c; batch = None }
 abbrev pub Accepted : State → List (List Field) → State → Type 0
 Accepted s [] t = s ≡ t
 Accepted s (r ∷ rs) t =
-    (c : Command) × (read r ≡ Ok c) × IsKept c × (mid : State) × (step s c ≡ Ok mid) × Accepted mid rs t
+    (c : Command) × (read r ≡ Ok c) × IsLogged c × (mid : State) × (step s c ≡ Ok mid) × Accepted mid rs t
 
 -- each record is one line
 pub record LeadsFrom (s : State) (text : List ℕ) (t : State) : Type 0 where

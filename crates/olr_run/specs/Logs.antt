@@ -14,13 +14,13 @@ use Rattle.olr_input.specs.Sessions.{Known}
 use Rattle.olr_input.specs.declared.buffered.Buffered.{Buffered}
 use Rattle.olr_input.specs.declared.gate.Gate.{Gate}
 
-module _ {J W : Type 0} (kept : J → List ℕ) (may_leave : J → List ℕ → Type 0) (contents : W → Known) where
+module _ {J W : Type 0} (stored : J → List ℕ) (may_leave : J → List ℕ → Type 0) (contents : W → Known) where
   -- Of a run from s with a log that led to the content of s: whenever it ended, each text that may be left of the log leads
   -- to the content after the first of its outcomes, and of the texts of later ones nothing was sent
   pub record Began (s : State) (j : J) (o : Buffered W) : Type 0 where
     pub closed_batch : s.batch ≡ None
-    pub only : Only (kept j) (may_leave j)
-    pub leads : Leads (kept j) s.content
+    pub only : Only (stored j) (may_leave j)
+    pub leads : Leads (stored j) s.content
     pub none_pending : pending o ≡ []
 
   abbrev pub Lasts : J → Buffered W → (List ℕ → Type 0) → Buffered W → State → List (List Field) → List Outcome → Type 0
@@ -33,7 +33,7 @@ module _ {J W : Type 0} (kept : J → List ℕ) (may_leave : J → List ℕ → 
       Claims s rs os t
       × (Began s j o → (sent : List ℕ) × Appends (contents o.device) (contents p.device) sent
       × Survives s rs os (may_leave g.journal) sent × UpTo s rs os t.content sent
-      × Leads (kept g.journal) t.content × Only (kept g.journal) (may_leave g.journal))
+      × Leads (stored g.journal) t.content × Only (stored g.journal) (may_leave g.journal))
 
   -- one that was cut off
   abbrev pub LastsCut : J → Buffered W → Gate J → Buffered W → State → List (List Field) → List Outcome → State → Type 0

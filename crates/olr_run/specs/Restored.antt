@@ -17,7 +17,7 @@ use Rattle.olr_commands.specs.declared.command.Command.TheVariants as rust
 use Rattle.olr_register.specs.Built.{IsChange}
 use Rattle.olr_register.specs.RegisterState.{Represents}
 use Rattle.olr_register.specs.Registered.{Registered}
-use Rattle.olr_run.specs.Logged.{Accepted, IsKept, closed}
+use Rattle.olr_run.specs.Logged.{Accepted, IsLogged, closed}
 use Rattle.olr_run.specs.Output.{records_of}
 use Rattle.olr_run.specs.declared.loader.Kind.{Kind}
 use Rattle.olr_run.specs.declared.loader.Kind.TheVariants as kind
@@ -29,7 +29,7 @@ abbrev pub IsContentOf : List ℕ → Content → Type 0
 IsContentOf text c = Accepted start_state (records_of text) (closed c)
 
 abbrev pub HasContentOf : List ℕ → Registered → Type 0
-HasContentOf text r = (c : Content) × IsContentOf text c × Represents r.kept (closed c)
+HasContentOf text r = (c : Content) × IsContentOf text c × Represents r.state (closed c)
 
 abbrev pub LeadsNowhere : List ℕ → Type 0
 LeadsNowhere text = (c : Content) → IsContentOf text c → ⊥
@@ -52,7 +52,7 @@ abbrev pub Loaded : Loader → Command → Loader → Type 0
 Loaded old c new = (s : State) → Loads old s → (t : State) × (step s c ≡ Ok t) × Loads new t
 
 abbrev pub LoadsRecord : Loader → List Field → Loader → Type 0
-LoadsRecord old fields new = (c : Command) × (read fields ≡ Ok c) × IsKept c × Loaded old c new
+LoadsRecord old fields new = (c : Command) × (read fields ≡ Ok c) × IsLogged c × Loaded old c new
 
 abbrev pub is_rejection : RestoreFault → Bool
 is_rejection restore.Memory = false
@@ -65,7 +65,7 @@ abbrev pub Refuses : Loader → Command → Type 0
 Refuses l c = (s : State) → Loads l s → (t : State) → step s c ≡ Ok t → ⊥
 
 abbrev pub RefusesRecord : Loader → List Field → Type 0
-RefusesRecord l fields = (c : Command) → read fields ≡ Ok c → IsKept c → Refuses l c
+RefusesRecord l fields = (c : Command) → read fields ≡ Ok c → IsLogged c → Refuses l c
 
 -- what a command is to a log
 abbrev pub IsKind : Command → Kind → Type 0

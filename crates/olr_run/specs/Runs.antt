@@ -1,7 +1,7 @@
 -- Runs on a register in terms of Rust's values: in a session, and by the known bytes of a reader and a writer.
 --     CarriedOut old fields new r      the effect of a record on the register, and its answer
 --     AnswersRecord      the same, and its text was written
---     IsRenewal t renewal      the records that were given are those of the content
+--     IsReplacement t replacement      the records that were given are those of the content
 --     Exchanged      the history of a session: each record was taken and answered before the next
 --     RanIn, CutIn      a run in a session
 --     records_read single file input      the records of a file followed by those of the input, one a line or not
@@ -25,8 +25,8 @@ use Rattle.olr_run.specs.Output as output
 use Rattle.olr_run.specs.Output.{SoundOutcome, Claims, StopsAtFault, any_refused, run_status, Ran, Faulted}
 use Rattle.olr_run.specs.Output.{most_records}
 use Rattle.olr_input.specs.Inputs.{input_records}
-use Rattle.olr_input.specs.Sessions.{Known, Event, Took, Ended, Not_taken, Wrote, Cut, Renewal, Unasked, Given, Lacking}
-use Rattle.olr_input.specs.Sessions.{Answer, Renewed, History, IsOfTaking, exchanges}
+use Rattle.olr_input.specs.Sessions.{Known, Event, Took, Ended, Not_taken, Wrote, Cut, Replacement, Unasked, Given, Lacking}
+use Rattle.olr_input.specs.Sessions.{Answer, Compacted, History, IsOfTaking, exchanges}
 use Rattle.olr_input.specs.Sessions as event
 use Rattle.olr_input.specs.declared.ends.RunFault.{RunFault}
 use Rattle.olr_input.specs.declared.ends.RunFault.TheVariants as fault
@@ -42,7 +42,7 @@ IsAnswer (Err line) o = (fault : Fault) × (o ≡ Err fault) × (line.now ≡ fa
 
 abbrev pub CarriedOut : Registered → List Field → Registered → Result Reply (Bor (List ℕ)) → Type 0
 CarriedOut old fields new r =
-    (s : State) → Represents old.kept s → IsContent s.content → (t : State) × (o : Outcome) × Represents new.kept t
+    (s : State) → Represents old.state s → IsContent s.content → (t : State) × (o : Outcome) × Represents new.state t
     × SoundOutcome s fields o t × IsAnswer r o
 
 -- the text of an answer
@@ -53,7 +53,7 @@ answer_text (Err line) = line.now
 -- the text of the answers of all paths satisfies P
 abbrev pub IsReport : Registered → (List ℕ → Type 0) → Type 0
 IsReport register P =
-    (s : State) → Represents register.kept s
+    (s : State) → Represents register.state s
     → (es : List Entry) × AllOf s.content.margin s.content.map s.content.paths es × P (reply_text (Paths es))
 
 -- the answer was written, or an allocation failed, or only its first bytes were written
@@ -70,24 +70,24 @@ pub record AnswersRecord {S : Type 0} (happens : S → Event → S → Type 0) (
   pub text : List ℕ
   pub accepts : Bool
   pub writes : WritesText happens before text later r accepts
-  pub outcome : (s : State) → Represents old.kept s → IsContent s.content → (t : State) × (o : Outcome)
-      × Represents new.kept t
+  pub outcome : (s : State) → Represents old.state s → IsContent s.content → (t : State) × (o : Outcome)
+      × Represents new.state t
       × SoundOutcome s fields o t × (outcome_text o ≡ text) × (is_ok o ≡ accepts)
 
--- the records that are given, to be kept in the place of a log, are those of the content, while no batch is open
-abbrev pub IsRenewal : State → Renewal → Type 0
-IsRenewal t Unasked = ⊤
-IsRenewal t (Given records) = (t.batch ≡ None) × (records ≡ concat (dump_lines t.content))
-IsRenewal t Lacking = ⊤
+-- the records that are given, to be stored in the place of a log, are those of the content, while no batch is open
+abbrev pub IsReplacement : State → Replacement → Type 0
+IsReplacement t Unasked = ⊤
+IsReplacement t (Given records) = (t.batch ≡ None) × (records ≡ concat (dump_lines t.content))
+IsReplacement t Lacking = ⊤
 
-abbrev pub AreRenewal : Registered → Renewal → Type 0
-AreRenewal register renewal = (t : State) → Represents register.kept t → IsRenewal t renewal
+abbrev pub AreReplacement : Registered → Replacement → Type 0
+AreReplacement register replacement = (t : State) → Represents register.state t → IsReplacement t replacement
 
 -- the records of the register were given if they were asked for, or it was said that they are lacking
-abbrev pub RenewsFrom : {S W : Type 0} → (S × W → Event → S × W → Type 0) → Registered → S → S → Type 0
-RenewsFrom {S} {W} happens register before later =
-    (renewal : Renewal) × AreRenewal register renewal
-    × ((output : W) → happens (before, output) (Renewed renewal) (later, output))
+abbrev pub CompactsFrom : {S W : Type 0} → (S × W → Event → S × W → Type 0) → Registered → S → S → Type 0
+CompactsFrom {S} {W} happens register before later =
+    (replacement : Replacement) × AreReplacement register replacement
+    × ((output : W) → happens (before, output) (Compacted replacement) (later, output))
 
 -- ---- runs in a session
 
@@ -96,11 +96,11 @@ status_of status.AllAccepted = output.All_accepted
 status_of status.SomeRefused = output.Some_refused
 status_of status.Stopped = output.Stopped
 
-abbrev pub OutcomesRenewed : State → List (List Field) → List Outcome → List Renewal → State → Type 0
-OutcomesRenewed s rs [] [] t = s ≡ t
-OutcomesRenewed s (r ∷ rs) (o ∷ os) (renewal ∷ renewals) t =
-    (mid : State) × SoundOutcome s r o mid × IsRenewal mid renewal × OutcomesRenewed mid rs os renewals t
-OutcomesRenewed s rs os renewals t = ⊥
+abbrev pub OutcomesCompacted : State → List (List Field) → List Outcome → List Replacement → State → Type 0
+OutcomesCompacted s rs [] [] t = s ≡ t
+OutcomesCompacted s (r ∷ rs) (o ∷ os) (replacement ∷ replacements) t =
+    (mid : State) × SoundOutcome s r o mid × IsReplacement mid replacement × OutcomesCompacted mid rs os replacements t
+OutcomesCompacted s rs os replacements t = ⊥
 
 -- the text of an outcome, and whether it accepts its record
 abbrev pub answer_of : Outcome → Answer
@@ -109,10 +109,10 @@ answer_of o = (outcome_text o, is_ok o)
 -- from each state that the register represented, these records have outcomes with these answers, and lead to a state that
 -- it represents; after each of them the records of the content are given, if they are asked for
 abbrev pub AnsweredOn : Bool → (List Outcome → Type 0) → Registered → List (List Field) → List Answer →
-    List Renewal → Registered → Type 0
-AnsweredOn stop And old rs answers renewals new =
-    (s : State) → Represents old.kept s → (t : State) × Represents new.kept t × (os : List Outcome) × Claims s rs os t
-    × (map answer_of os ≡ answers) × StopsAtFault stop os × And os × OutcomesRenewed s rs os renewals t
+    List Replacement → Registered → Type 0
+AnsweredOn stop And old rs answers replacements new =
+    (s : State) → Represents old.state s → (t : State) × Represents new.state t × (os : List Outcome) × Claims s rs os t
+    × (map answer_of os ≡ answers) × StopsAtFault stop os × And os × OutcomesCompacted s rs os replacements t
 
 -- no event follows the rejected record that stops the run; otherwise there is no further record
 abbrev pub last_events : Status → List Event
@@ -123,15 +123,15 @@ last_events _ = Ended ∷ []
 pub record Exchanged {S : Type 0} (happens : S → Event → S → Type 0) (before later : S) (es : List Event) : Type 0 where
   pub records : List (List Field)
   pub answers : List Answer
-  pub renewals : List Renewal
+  pub replacements : List Replacement
   pub each : length answers ≡ length records
-  pub each_renewal : length renewals ≡ length records
-  pub history : History happens before (exchanges records answers renewals ++ es) later
+  pub each_replacement : length replacements ≡ length records
+  pub history : History happens before (exchanges records answers replacements ++ es) later
 
 pub record RanIn {S : Type 0} (happens : S → Event → S → Type 0) (stop : Bool) (old : Registered) (before : S)
     (new : Registered) (later : S) (end : Status) : Type 0 where
   pub x : Exchanged happens before later (last_events end)
-  pub answered : AnsweredOn stop (λ os. status_of end ≡ run_status stop os) old x.records x.answers x.renewals new
+  pub answered : AnsweredOn stop (λ os. status_of end ≡ run_status stop os) old x.records x.answers x.replacements new
 
 abbrev pub GoesOn : Bool → List Outcome → Type 0
 GoesOn stop os = IsFalse (stop && any_refused os)
@@ -141,22 +141,22 @@ GoesOn stop os = IsFalse (stop && any_refused os)
 pub data CutIn {S : Type 0} (happens : S → Event → S → Type 0) (stop : Bool) (old : Registered) (before : S)
     (new : Registered) (later : S) (e : RunFault) : Type 0 where
   In_taking : IsOfTaking e → (x : Exchanged happens before later (Not_taken e ∷ [])) →
-      AnsweredOn stop (GoesOn stop) old x.records x.answers x.renewals new
+      AnsweredOn stop (GoesOn stop) old x.records x.answers x.replacements new
       → CutIn happens stop old before new later e
   Not_sent : e ≡ fault.Write → (x : Exchanged happens before later (event.Not_sent ∷ [])) →
-      AnsweredOn stop (GoesOn stop) old x.records x.answers x.renewals new
+      AnsweredOn stop (GoesOn stop) old x.records x.answers x.replacements new
       → CutIn happens stop old before new later e
   Past_the_most : e ≡ fault.TooMany → (r : List Field) (x : Exchanged happens before later (Took r ∷ [])) →
       length x.records ≡ most_records
-      → AnsweredOn stop (GoesOn stop) old x.records x.answers x.renewals new
+      → AnsweredOn stop (GoesOn stop) old x.records x.answers x.replacements new
       → CutIn happens stop old before new later e
   No_text : e ≡ fault.Memory → (r : List Field) (answer : Answer) (x : Exchanged happens before later (Took r ∷ [])) →
-      AnsweredOn stop (λ os. ⊤) old (x.records ++ r ∷ []) (x.answers ++ answer ∷ []) (x.renewals ++ Unasked ∷ []) new
+      AnsweredOn stop (λ os. ⊤) old (x.records ++ r ∷ []) (x.answers ++ answer ∷ []) (x.replacements ++ Unasked ∷ []) new
       → CutIn happens stop old before new later e
   In_text : e ≡ fault.Write → (r : List Field) (front rest : List ℕ) (accepts : Bool) → rest ≢ [] →
       (x : Exchanged happens before later (Took r ∷ Cut front rest accepts ∷ [])) →
       AnsweredOn stop (λ os. ⊤) old (x.records ++ r ∷ []) (x.answers ++ (front ++ rest, accepts) ∷ [])
-      (x.renewals ++ Unasked ∷ []) new
+      (x.replacements ++ Unasked ∷ []) new
       → CutIn happens stop old before new later e
 
 -- ---- runs over known records
@@ -177,8 +177,8 @@ joined_records (Some rs) (Some qs) = Some (rs ++ qs)
 abbrev pub LeadsOn : (State → List (List Field) → State → List ℕ → Type 0) → Registered → Records → Known → Registered →
     Known → Type 0
 LeadsOn Leads old records before new later =
-    IfSome records (λ rs. (s : State) → Represents old.kept s
-    → (t : State) × Represents new.kept t × (written : List ℕ) × Appends before later written × Leads s rs t written)
+    IfSome records (λ rs. (s : State) → Represents old.state s
+    → (t : State) × Represents new.state t × (written : List ℕ) × Appends before later written × Leads s rs t written)
 
 abbrev pub RanOn : (State → List (List Field) → List Outcome → State → Type 0) → Bool → Registered → Records → Known →
     Registered → Known → Status → Type 0

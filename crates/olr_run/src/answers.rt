@@ -5,7 +5,7 @@ ghost use Rattle.csv.specs.Records.{fields_of};
 ghost use Rattle.olr_commands.specs.State.{Report};
 ghost use Rattle.olr_records.specs.Records.{read};
 ghost use Rattle.olr_input.specs.Sessions.{Given};
-ghost use Rattle.olr_run.specs.Runs.{CarriedOut, IsReport, answer_text, WritesText, AnswersRecord, AreRenewal, RenewsFrom};
+ghost use Rattle.olr_run.specs.Runs.{CarriedOut, IsReport, answer_text, WritesText, AnswersRecord, AreReplacement, CompactsFrom};
 
 use csv::ByteRecord;
 use olr_commands::{CommandFault, Reply};
@@ -94,7 +94,7 @@ fn write_report<W, S: Session<W>>(
     output: &mut W,
 ) -> Result<bool, RunFault>
     requires report { read (fields_of fields.now) ≡ Ok Report }
-    requires some { length register.now.kept.content.paths ≢ 0 }
+    requires some { length register.now.state.content.paths ≢ 0 }
     ensures { AnswersRecord S.happens register.now (fields_of fields.now) register.now (session.old, output.old)
         (session.new, output.new) result }
 {
@@ -110,7 +110,7 @@ fn write_report<W, S: Session<W>>(
 
 /// The records of the register, as a text. There are none while a batch is open.
 pub fn records_text(register: &Register) -> Result<Vec<u8>, CommandFault>
-    ensures { IfOk result (λ text. AreRenewal register.now (Given text.items)) }
+    ensures { IfOk result (λ text. AreReplacement register.now (Given text.items)) }
 {
     match register.dump() {
         Ok(Reply::Dump(dump)) => Ok(dump.text),
@@ -120,14 +120,14 @@ pub fn records_text(register: &Register) -> Result<Vec<u8>, CommandFault>
 }
 
 /// Gives the records of the register to a session that asks for them. If they can't be made, the session says so.
-pub fn renew<W, S: Session<W>>(register: &Register, session: &mut S)
-    ensures { RenewsFrom S.happens register.now session.old session.new }
+pub fn compact_log<W, S: Session<W>>(register: &Register, session: &mut S)
+    ensures { CompactsFrom S.happens register.now session.old session.new }
 {
     if !session.wants_records() {
         return;
     }
     match records_text(register) {
-        Ok(text) => session.renew(text.as_slice()),
+        Ok(text) => session.compact_log(text.as_slice()),
         Err(_fault) => session.lack_records(),
     }
 }

@@ -9,7 +9,7 @@ pub struct Options<'a> {
     pub stop: bool,
     /// Whether each line of the file and of standard input is one record.
     pub lines: bool,
-    /// The log from which to start, and in which the accepted changes are kept.
+    /// The log from which to start, and in which the accepted changes are stored.
     pub log: Option<&'a str>,
     /// Whether to make the log.
     pub new: bool,

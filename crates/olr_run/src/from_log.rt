@@ -2,7 +2,7 @@
 
 ghost use Rattle.std.specs.Prelude.{◌≡◌, ◌≤◌, ◌⊎◌, ℕ, Bool, List, [], true, length, IfSome, is_ok};
 ghost use Rattle.olr_log.specs.declared.place.OpenError.{OpenError};
-ghost use Rattle.olr_log.specs.Logs.{kept_of, left_of};
+ghost use Rattle.olr_log.specs.Logs.{stored_of, left_of};
 ghost use Rattle.olr_run.specs.LogEnds.{is_rejected};
 ghost use Rattle.olr_run.specs.Ends.{LeftAfter, OpensLog, UnbegunCode, UnopenedCode, WithLog, run_code};
 ghost use Rattle.olr_run.specs.Runs.{Records};
@@ -187,7 +187,7 @@ fn close_log<D: Disk + Drop, G: Folder<D>>(
 
 /// A way to open a log.
 pub trait OpenLog<D: Disk, G: Folder<D>> {
-    /// A log of a name, opened or made, may be the program's own or not, keep this text, and leave these texts after a crash.
+    /// A log of a name, opened or made, may be the program's own or not, store this text, and leave these texts after a crash.
     ghost may_be: { Self → List ℕ → Bool → Bool → List ℕ → (List ℕ → Type 0) → Type 0 };
 
     /// Why a log of a name may not be opened or made.
@@ -198,7 +198,7 @@ pub trait OpenLog<D: Disk, G: Folder<D>> {
         ensures { OpensLog (may_be self.now) (refuses self.now) name.now is_new result };
 }
 
-/// Runs the records of a source from a log that was opened, in which each accepted change is kept before its answer is sent.
+/// Runs the records of a source from a log that was opened, in which each accepted change is stored before its answer is sent.
 /// Returns the exit status, and the log as it was left.
 pub(crate) fn with_log<D: Disk + Drop, G: Folder<D>, S: Source + Drop, W: Write + Drop, E: Write>(
     alloc: Global,

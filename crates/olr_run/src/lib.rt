@@ -26,6 +26,6 @@ pub use logged::run_with_log;
 pub use olr_input::{
     Buffered, Gate, Journal, LogFault, RunFault, Session, Status, exit_code, report_fault,
 };
-pub use records::{Room, run, run_bytes, run_session, run_source};
+pub use records::{Scratch, run, run_bytes, run_session, run_source};
 pub use sizes::{CompactionLength, compaction_length};
 pub use streams::program;

@@ -7,7 +7,7 @@ ghost use Rattle.olr_commands.specs.State.{start_state, Content, Begin, Commit};
 ghost use Rattle.olr_commands.specs.Words.{command_of, command_fault_of};
 ghost use Rattle.olr_register.specs.Built.{Changes, EncodedOnce, IsChange};
 ghost use Rattle.olr_register.specs.RegisterState.{Represents};
-ghost use Rattle.olr_run.specs.Logged.{closed, IsKept, Leads};
+ghost use Rattle.olr_run.specs.Logged.{closed, IsLogged, Leads};
 ghost use Rattle.olr_run.specs.Restored.{HasContentOf, LeadsNowhere, Loaded, Loads, LoadsRecord, NeverChanges, Refuses, RefusesRecord, is_rejection, kind_by};
 ghost use Rattle.olr_run.specs.declared.loader.RestoreFault.TheVariants as restore;
 
@@ -177,9 +177,9 @@ impl Loader {
 
     /// Carries out a command of a log.
     fn carry_out(&mut self, command: Command) -> Result<(), RestoreFault>
-        ensures loaded { OnOk result (IsKept (command_of command) × Loaded self.old (command_of command) self.new) }
+        ensures loaded { OnOk result (IsLogged (command_of command) × Loaded self.old (command_of command) self.new) }
         ensures refused { IfErr result (λ e. is_rejection e ≡ true
-            → IsKept (command_of command) → Refuses self.old (command_of command)) }
+            → IsLogged (command_of command) → Refuses self.old (command_of command)) }
     {
         match kind_of(&command) {
             Kind::Change => self.change(command),
@@ -204,7 +204,7 @@ impl Loader {
     /// The register, once all records were taken.
     fn finish(self) -> Result<Register, RestoreFault>
         ensures finished { IfOk result (λ r. (s : state.State) → Loads self s
-            → (c : Content) × (s ≡ closed c) × Represents r.kept (closed c)) }
+            → (c : Content) × (s ≡ closed c) × Represents r.state (closed c)) }
         ensures counted { IfOk result (λ r. EncodedOnce r) }
         ensures refused { IfErr result (λ e. is_rejection e ≡ true
             → (s : state.State) → Loads self s → (c : Content) → s ≡ closed c → ⊥) }
@@ -253,7 +253,7 @@ pub fn restore(
     progress: &mut Progress,
 ) -> Result<Register, RestoreFault>
     ensures content { IfOk result (HasContentOf text.now) }
-    ensures leads { IfOk result (λ r. (c : Content) → Leads text.now c → Represents r.kept (closed c)) }
+    ensures leads { IfOk result (λ r. (c : Content) → Leads text.now c → Represents r.state (closed c)) }
     ensures counted { IfOk result (λ r. EncodedOnce r) }
     ensures refused { IfErr result (λ e. is_rejection e ≡ true → LeadsNowhere text.now) }
 {

@@ -1,4 +1,4 @@
-//! Runs whose accepted changes are kept in a log before their answers are sent.
+//! Runs whose accepted changes are stored in a log before their answers are sent.
 
 ghost use Rattle.std.specs.Prelude.{◌≡◌, [], IfSome, OnOk};
 ghost use Rattle.olr_run.specs.Logs.{LastsWhole, LastsCut};
@@ -6,7 +6,7 @@ ghost use Rattle.olr_run.specs.Runs.{once_sent, EndedOn, Records};
 ghost use Rattle.olr_input.specs.Buffers.{pending, written};
 ghost use Rattle.olr_input.specs.Gates.{compaction};
 
-use crate::records::{Room, run_session};
+use crate::records::{Scratch, run_session};
 use crate::sizes::CompactionLength;
 use olr_input::{Buffered, Gate, Journal, Logged, RunFault, Source, Status};
 use olr_register::Register;
@@ -28,8 +28,8 @@ pub(crate) fn end_sent(
 }
 
 /// Runs the records of a source, as `run_source` does, with a log that leads to the content of the register. Each accepted
-/// change is kept in the log before its answer is sent, a batch as a whole at its commit; rejected records, questions and
-/// dropped batches are not kept. Where no batch is open, a log that has the length `from`, and twice as many bytes as after
+/// change is stored in the log before its answer is sent, a batch as a whole at its commit; rejected records, questions and
+/// dropped batches are not stored. Where no batch is open, a log that has the length `from`, and twice as many bytes as after
 /// the last time, is replaced by the records of the register, and so is one of any length when a record asks for it. So
 /// whenever the run ends, and for whatever reason, what is left of the log leads to the content after the records up to some
 /// record, and of the answers to later ones nothing was sent. After a run that was not cut off the log leads to the content at
@@ -45,17 +45,17 @@ pub fn run_with_log<S: Source + Drop, W: Write + Drop, J: Journal + Drop>(
     stop: bool,
 ) -> (Result<Status, RunFault>, Gate<J>)
     ensures ended { (records : Records) → IfSome records (S.left source) →
-        EndedOn (LastsWhole J.kept J.may_leave W.contents journal output.old result.1 output.new)
-        (LastsCut J.kept J.may_leave W.contents journal output.old result.1 output.new) stop register.old records
+        EndedOn (LastsWhole J.stored J.may_leave W.contents journal output.old result.1 output.new)
+        (LastsCut J.stored J.may_leave W.contents journal output.old result.1 output.new) stop register.old records
         (written W.contents output.old) register.new (written W.contents output.new) result.0 }
     ensures sent { OnOk result.0 (pending output.new ≡ []) }
-    ensures length { (compaction result.1).renewed_from ≡ from.bytes }
+    ensures length { (compaction result.1).compacted_from ≡ from.bytes }
 {
     register.is_sound();
     let gate = Gate::new(alloc, journal, from.get());
     let mut session = Logged::new(source, gate);
-    let mut room = Room::new(alloc);
-    let ended = run_session(alloc, register, &mut session, output, stop, &mut room);
+    let mut scratch = Scratch::new(alloc);
+    let ended = run_session(alloc, register, &mut session, output, stop, &mut scratch);
     let mut gate = session.into_gate();
     let sent = gate.send(output);
     (end_sent(ended, sent), gate)

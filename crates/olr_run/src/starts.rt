@@ -1,7 +1,7 @@
 //! A start from a log in a file.
 
 ghost use Rattle.std.specs.Prelude.{◌≡◌, ◌⊎◌, true, false, ℕ, List, IfOk, IfErr, OnOk};
-ghost use Rattle.olr_log.specs.Logs.{kept_of, left_of, is_own_of, is_clean};
+ghost use Rattle.olr_log.specs.Logs.{stored_of, left_of, is_own_of, is_clean};
 ghost use Rattle.olr_run.specs.LogEnds.{AreRecordsOf, BegunFrom, Unbegun, is_rejected};
 ghost use Rattle.olr_run.specs.Restored.{HasContentOf, LeadsNowhere, is_rejection};
 ghost use Rattle.olr_input.specs.Journals.{Only};
@@ -95,9 +95,9 @@ fn read_log<D: Disk + Drop, G: Folder<D>>(
     alloc: Global,
     log: &mut LogFile<D, G>,
 ) -> Result<(Register, u64), StartFault>
-    ensures content { IfOk result (λ r. is_clean log.new ≡ true → HasContentOf (kept_of log.old) r.0) }
-    ensures refused { IfErr result (λ e. is_rejected e ≡ true → is_clean log.new ≡ true → LeadsNowhere (kept_of log.old)) }
-    ensures kept { kept_of log.new ≡ kept_of log.old }
+    ensures content { IfOk result (λ r. is_clean log.new ≡ true → HasContentOf (stored_of log.old) r.0) }
+    ensures refused { IfErr result (λ e. is_rejected e ≡ true → is_clean log.new ≡ true → LeadsNowhere (stored_of log.old)) }
+    ensures stored { stored_of log.new ≡ stored_of log.old }
     ensures own { is_own_of log.new ≡ is_own_of log.old }
     ensures less { (t : List ℕ) → left_of log.new t → left_of log.old t }
 {
@@ -122,10 +122,10 @@ fn put_records<D: Disk + Drop, G: Folder<D>>(
     log: &mut LogFile<D, G>,
     register: &Register,
 ) -> Result<bool, StartFault>
-    ensures kept { IfOk result (λ done. done ≡ true → AreRecordsOf register.now (kept_of log.new)) }
-    ensures left { IfOk result (λ done. done ≡ false → kept_of log.new ≡ kept_of log.old) }
+    ensures stored { IfOk result (λ done. done ≡ true → AreRecordsOf register.now (stored_of log.new)) }
+    ensures left { IfOk result (λ done. done ≡ false → stored_of log.new ≡ stored_of log.old) }
     ensures own { IfOk result (λ done. done ≡ false → is_own_of log.new ≡ is_own_of log.old) }
-    ensures durable { Only (kept_of log.old) (left_of log.old) → OnOk result (Only (kept_of log.new) (left_of log.new)) }
+    ensures durable { Only (stored_of log.old) (left_of log.old) → OnOk result (Only (stored_of log.new) (left_of log.new)) }
     ensures cut { (t : List ℕ) → left_of log.new t → left_of log.old t ⊎ AreRecordsOf register.now t }
     ensures fails { IfErr result (λ e. is_rejected e ≡ false) }
 {
@@ -142,19 +142,19 @@ fn put_records<D: Disk + Drop, G: Folder<D>>(
 }
 
 /// Overwrites what stands behind the text of the program's own log.
-fn settle<D: Disk + Drop, G: Folder<D>>(log: &mut LogFile<D, G>) -> Result<(), StartFault>
-    ensures kept { OnOk result (is_clean log.new ≡ true → kept_of log.new ≡ kept_of log.old) }
-    ensures durable { Only (kept_of log.old) (left_of log.old) → OnOk result (Only (kept_of log.new) (left_of log.new)) }
-    ensures cut { (t : List ℕ) → left_of log.new t → left_of log.old t ⊎ (t ≡ kept_of log.old) }
+fn wipe_rest<D: Disk + Drop, G: Folder<D>>(log: &mut LogFile<D, G>) -> Result<(), StartFault>
+    ensures stored { OnOk result (is_clean log.new ≡ true → stored_of log.new ≡ stored_of log.old) }
+    ensures durable { Only (stored_of log.old) (left_of log.old) → OnOk result (Only (stored_of log.new) (left_of log.new)) }
+    ensures cut { (t : List ℕ) → left_of log.new t → left_of log.old t ⊎ (t ≡ stored_of log.old) }
     ensures fails { IfErr result (λ e. is_rejected e ≡ false) }
 {
-    match log.settle() {
+    match log.wipe_rest() {
         Ok(()) => Ok(()),
         Err(error) => Err(log_fault(error)),
     }
 }
 
-/// Brings a log, from which the register was read, into the form in which records can be kept: what stands behind the
+/// Brings a log, from which the register was read, into the form in which records can be stored: what stands behind the
 /// program's own text is overwritten; that text is replaced by the records of the register if it has the length from which on
 /// it is compacted, and so is another file. If an own log that is due can't be replaced, that is said, and it is used as it is.
 fn prepare_log<D: Disk + Drop, G: Folder<D>>(
@@ -163,16 +163,16 @@ fn prepare_log<D: Disk + Drop, G: Folder<D>>(
     from: CompactionLength,
 ) -> Result<(), StartFault>
     ensures own { OnOk result (is_own_of log.old ≡ true → is_clean log.new ≡ true
-        → (kept_of log.new ≡ kept_of log.old) ⊎ AreRecordsOf register.now (kept_of log.new)) }
-    ensures foreign { OnOk result (is_own_of log.old ≡ false → AreRecordsOf register.now (kept_of log.new)) }
-    ensures durable { Only (kept_of log.old) (left_of log.old) → OnOk result (Only (kept_of log.new) (left_of log.new)) }
+        → (stored_of log.new ≡ stored_of log.old) ⊎ AreRecordsOf register.now (stored_of log.new)) }
+    ensures foreign { OnOk result (is_own_of log.old ≡ false → AreRecordsOf register.now (stored_of log.new)) }
+    ensures durable { Only (stored_of log.old) (left_of log.old) → OnOk result (Only (stored_of log.new) (left_of log.new)) }
     ensures cut { (t : List ℕ) → left_of log.new t
-        → left_of log.old t ⊎ (t ≡ kept_of log.old) ⊎ AreRecordsOf register.now t }
+        → left_of log.old t ⊎ (t ≡ stored_of log.old) ⊎ AreRecordsOf register.now t }
     ensures fails { IfErr result (λ e. is_rejected e ≡ false) }
 {
     let is_own = log.is_own();
     if is_own && log.len() < from.get() {
-        return settle(log);
+        return wipe_rest(log);
     }
     let is_done = put_records(log, register)?;
     if is_done {
@@ -180,7 +180,7 @@ fn prepare_log<D: Disk + Drop, G: Folder<D>>(
     }
     if is_own {
         log.report_unreplaced(log.refusal().is_some());
-        return settle(log);
+        return wipe_rest(log);
     }
     match log.refusal() {
         Some(error) => Err(log_fault(error)),
@@ -189,7 +189,7 @@ fn prepare_log<D: Disk + Drop, G: Folder<D>>(
 }
 
 /// Begins with a log that was opened. Returns the register with the log's content, and the number of the log's records. From
-/// then on records can be kept in the log, which has been compacted if it had the length `from`.
+/// then on records can be stored in the log, which has been compacted if it had the length `from`.
 pub fn begin_with<D: Disk + Drop, G: Folder<D>>(
     alloc: Global,
     log: &mut LogFile<D, G>,

@@ -17,7 +17,7 @@ use crate::files::open_file;
 use crate::from_log::{Asked, OpenLog, with_log};
 use crate::inputs::both_sources;
 use crate::logged::end_sent;
-use crate::records::{Room, run_source};
+use crate::records::{Scratch, run_source};
 use crate::sizes::{CompactionLength, compaction_length};
 use olr_input::{Buffered, Input, Joined, RunFault, Source, end_status, report_fault};
 use olr_log::{Folder, LogFile};
@@ -55,8 +55,8 @@ fn without_log<S: Source + Drop, W: Write + Drop, E: Write>(
     ensures quiet { result ≤ 1 → errors.new ≡ errors.old }
 {
     let mut register = Register::new(alloc);
-    let mut room = Room::new(alloc);
-    let ended = run_source(alloc, &mut register, source, output, stop, &mut room);
+    let mut scratch = Scratch::new(alloc);
+    let ended = run_source(alloc, &mut register, source, output, stop, &mut scratch);
     mem::forget(register);
     let sent = output.send_all();
     end_status(end_sent(ended, sent), errors)
@@ -103,7 +103,7 @@ fn sources<F: Read + Drop, O: FnOnce(&str) -> io::Result<F>, R: Read + Drop, E: 
 
 /// Reads the arguments, opens the command file if they name one, and then the log if they name one, carries out the commands of
 /// the file and then those of the input, and returns the exit status. With `--lines`, each line of both is one record. Without
-/// a log it begins with an empty register; with one it begins with what the log says, and keeps each accepted change there
+/// a log it begins with an empty register; with one it begins with what the log says, and stores each accepted change there
 /// before the answer is sent. No log is opened or made if the arguments can't be carried out. `open_log` opens the log of a
 /// name, or makes it if asked. Replies, and help if it was asked for, are written to `output`, and all of them have been sent
 /// if the status is 0, 1 or 6; otherwise the last ones may still be pending, at most 64 KB. Messages are written to `errors`.

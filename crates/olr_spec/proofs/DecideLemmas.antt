@@ -207,4 +207,3 @@ some_answer_with g M m P is =
     (λ r. (Refused r, refl))
 
 -- ---- without a margin
-

@@ -147,4 +147,3 @@ foot_affected_with g M N m T round P is queries o = (
 )
 
 -- ---- without a margin
-

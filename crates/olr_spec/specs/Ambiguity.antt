@@ -1,12 +1,12 @@
--- What stands in the way of a string's being read in only one way, by the coordinates that are decoded from it.
+-- The ambiguities of a string, by the coordinates that are decoded from it.
 --     cosine_up_to lat, least_cosine p c      a lower bound of the cosines of receivers between an LRP that is decoded as p and a node at c
 --     is_farther e p c d      a node at d is farther from p than one at c, by more than e units, for each of them
 --     usual_slack      3.4 m, by which a node may be farther and its candidates matter by their directions
 --     is_outdone_for_all s p g h      the candidate h is outdone by g, for each receiver
 --     lines_on s M v, all_nodes M      the candidates at a node; all nodes
 --     is_twin_of, is_unclear, is_rival      another line that is a twin; one that isn't, by its direction; another node
---     Obstacle      what stands in the way at an LRP
---     obstacles_at M s p x      what stands in the way of line x at an LRP that is decoded as p
+--     Obstacle      an ambiguity at an LRP
+--     obstacles_at M s p x      the ambiguities of line x at an LRP that is decoded as p
 --     obstacles M r xs      the same of the lines xs at all LRPs of a reference, each with the number of the LRP
 use Rattle.std.specs.Prelude.{ℕ, suc, ◌+◌, ◌-◌, ◌*◌, ◌/◌, max, ℤ, nat_abs, Bool, not, ◌&&◌, ◌||◌, ◌==◌, nat_lt, List}
 use Rattle.std.specs.Prelude.{[], ◌∷◌, ◌++◌, map, filter, if◌then◌else◌}

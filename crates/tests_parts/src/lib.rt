@@ -1,6 +1,6 @@
 //! Tests of the parts below the register: coordinates and degrees, numbers with path ids, the road map, coordinates along a
 //! line, sectors and bearings, searches and distance bounds, labels and shortest paths, the encoding of paths, references as
-//! bytes and as text, what stands in the way of reading them in only one way, records, and the texts of replies and faults.
+//! bytes and as text, their ambiguities, records, and the texts of replies and faults.
 #![tactic(auto)]
 
 #[cfg(test)]

@@ -36,12 +36,12 @@ fn opened_with<'a>(rt: &'a HostRuntime, path: &str, file: &str) -> Result<Log<'a
 
 /// Keeps a record.
 fn keep_record(log: &mut Log<'_>) -> io::Result<()> {
-    log.keep(b"delete-line,1\n")
+    log.store(b"delete-line,1\n")
 }
 
 /// Keeps a batch.
 fn keep_batch(log: &mut Log<'_>) -> io::Result<()> {
-    log.keep(b"begin\nb,2\ncommit,1\n")
+    log.store(b"begin\nb,2\ncommit,1\n")
 }
 
 /// Makes a log with these two, and doesn't close it.
@@ -73,21 +73,26 @@ fn sets_aside(rt: &HostRuntime, log: &mut Log<'_>, left: &str) -> io::Result<boo
 
 /// Keeps one record more in a log that was opened, and closes it.
 fn keep_last(log: &mut Log<'_>) -> io::Result<()> {
-    log.settle()?;
-    log.keep(b"delete-line,9\n")?;
+    log.wipe_rest()?;
+    log.store(b"delete-line,9\n")?;
     log.close()
 }
 
 #[test]
 fn keeps_and_opens_again(rt: HostRuntime) -> Result<(), Fail> {
-    empty_folder(&rt, "kept_log")?;
-    assert!(rt; matches!(refusal(&rt, "kept_log/a", false), Some(OpenError::Missing)));
-    assert!(rt; make_log(&rt, "kept_log/a")?);
-    assert!(rt; matches!(refusal(&rt, "kept_log/a", true), Some(OpenError::Exists)));
-    let mut log = opened(&rt, "kept_log/a", false)?;
+    empty_folder(&rt, "stored_log")?;
     assert!(rt;
         matches!(
-            refusal(&rt, "kept_log/a", false),
+            refusal(&rt, "stored_log/a", false),
+            Some(OpenError::Missing)
+        )
+    );
+    assert!(rt; make_log(&rt, "stored_log/a")?);
+    assert!(rt; matches!(refusal(&rt, "stored_log/a", true), Some(OpenError::Exists)));
+    let mut log = opened(&rt, "stored_log/a", false)?;
+    assert!(rt;
+        matches!(
+            refusal(&rt, "stored_log/a", false),
             Some(OpenError::InUse(Some(_)))
         )
     );
@@ -97,11 +102,11 @@ fn keeps_and_opens_again(rt: HostRuntime) -> Result<(), Fail> {
     assert!(rt;
         holds(
             &rt,
-            "kept_log/a",
+            "stored_log/a",
             "\ndelete-line,1\nbegin\nb,2\ncommit,1\ndelete-line,9\n"
         )?
     );
-    fs::remove_dir_all(&rt, "kept_log")?;
+    fs::remove_dir_all(&rt, "stored_log")?;
     Ok(())
 }
 
@@ -145,7 +150,7 @@ fn append(rt: &HostRuntime, path: &str) -> io::Result<()> {
 fn notices_another_file(rt: HostRuntime) -> Result<(), Fail> {
     empty_folder(&rt, "moved_log")?;
     let mut log = opened_with(&rt, "moved_log/a", "\n")?;
-    log.settle()?;
+    log.wipe_rest()?;
     assert!(rt; log.is_in_place());
     fs::rename(&rt, "moved_log/a", "moved_log/b")?;
     assert!(rt; !log.is_in_place());
@@ -167,7 +172,7 @@ fn replaces_with_the_same_mode(rt: HostRuntime) -> Result<(), Fail> {
     let mut log = opened_with(&rt, "replaced_log/a", "delete-line,1\r\n")?;
     fs::set_permissions(&rt, "replaced_log/a", fs::Permissions::from_mode(0o640))?;
     assert!(rt; has_text(&rt, &mut log, "delete-line,1\r\n")?);
-    assert!(rt; !log.is_own() && log.settle().is_err());
+    assert!(rt; !log.is_own() && log.wipe_rest().is_err());
     assert!(rt; log.replace(b"delete-line,1\n")?);
     assert!(rt; log.is_own() && log.is_in_place());
     assert_eq!(rt; fs::metadata(&rt, "replaced_log/a")?.mode() & 0o7777, 0o640);

@@ -12,17 +12,17 @@ use std::alloc::{AllocError, Global};
 use std::io;
 use std::process::Abort;
 
-/// A log in memory. From one call of `keep` on it fails.
+/// A log in memory. From one call of `store` on it fails.
 #[derive(Drop)]
-struct Kept {
+struct Stored {
     text: Vec<u8>,
     calls: usize,
     fails_from: usize,
     in_place: bool,
 }
 
-impl Journal for Kept {
-    ghost kept = { λ k. k.text.items };
+impl Journal for Stored {
+    ghost stored = { λ k. k.text.items };
 
     ghost size = { λ k. vec_len k.text };
 
@@ -30,7 +30,7 @@ impl Journal for Kept {
 
     ghost refuses = { λ _ _ _. ⊤ };
 
-    fn keep(&mut self, records: &[u8]) -> io::Result<()> {
+    fn store(&mut self, records: &[u8]) -> io::Result<()> {
         let call = self.calls;
         self.calls = call.saturating_add(1);
         if call >= self.fails_from {
@@ -82,7 +82,7 @@ fn run_logged(
     };
     let mut register = Register::new(alloc);
     let mut output = Buffered::new(alloc, Vec::new(alloc))?;
-    let journal = Kept {
+    let journal = Stored {
         text: Vec::new(alloc),
         calls: 0,
         fails_from,
@@ -121,7 +121,7 @@ const REPLIES: &[u8] =
 const LOG: &[u8] = b"node,1,0,0\nbegin\nnode,3,0,0\ncommit,1\n";
 
 #[test]
-fn what_is_kept(rt: HostRuntime) -> Result<(), AllocError> {
+fn what_is_stored(rt: HostRuntime) -> Result<(), AllocError> {
     let left = run_logged(rt.alloc(), RECORDS, 100, true)?;
     assert_eq!(rt; left.log.as_slice(), LOG);
     assert_eq!(rt; left.answers.as_slice(), REPLIES);

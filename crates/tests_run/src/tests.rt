@@ -4,7 +4,7 @@ use crate::files::Log;
 use olr_input::{Joined, Records};
 use olr_log::{HostDisk, LogFolder, OpenError, Unknown};
 use olr_register::Register;
-use olr_run::{Buffered, OpenLog, Room, RunFault, Status, exit_code, program, run, run_source};
+use olr_run::{Buffered, OpenLog, RunFault, Scratch, Status, exit_code, program, run, run_source};
 use std::alloc::Global;
 use std::io;
 use std::io::{Read, Write};
@@ -317,14 +317,14 @@ fn expect_both<R: Abort + AllocGlobal>(
         None => None,
     };
     let source = Joined::new(first, records_of(rt, input));
-    let mut room = Room::new(rt.alloc());
+    let mut scratch = Scratch::new(rt.alloc());
     let ended = run_source(
         rt.alloc(),
         &mut register,
         source,
         &mut output,
         stop,
-        &mut room,
+        &mut scratch,
     );
     let found = (output.as_slice(), ended);
     assert_eq!(rt;

@@ -12,7 +12,7 @@ use std::test::Fail;
 /// The string of the worked path.
 const TEXT: &[u8] = b"CwRbWyNG9RpsCQCb/jsbtAT/6/+jK1lE";
 
-/// What stands in the way of the worked path's string on a map, by a grid, and without one. None if the map lacks a line of
+/// The ambiguities of the worked path's string on a map, by a grid, and without one. None if the map lacks a line of
 /// the path.
 fn found_on(alloc: Global, map: &RoadMap) -> Result<Option<[Vec<Found>; 2]>, AllocError> {
     let Ok(reference) = from_text(alloc, TEXT) else {
@@ -34,7 +34,7 @@ fn found_on(alloc: Global, map: &RoadMap) -> Result<Option<[Vec<Found>; 2]>, All
     ]))
 }
 
-/// Asserts what stands in the way of the worked path's string on a map.
+/// Asserts the ambiguities of the worked path's string on a map.
 fn expect_found(
     rt: &impl Abort,
     alloc: Global,

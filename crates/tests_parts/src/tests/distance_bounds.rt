@@ -26,7 +26,10 @@ fn assert_near(rt: &impl Abort, bounds: &DistanceBounds, map: &RoadMap, nodes: &
     for number in 1..=6 {
         let alone = [node(number)];
         let far = !nodes.contains(&number);
-        assert!(rt; bounds.is_far(map, &alone) == far, "at node {number}");
+        assert!(rt;
+            bounds.are_unbounded(map, &alone) == far,
+            "at node {number}"
+        );
     }
 }
 
@@ -77,7 +80,7 @@ fn along_the_lines_within_the_limit(rt: HostRuntime) {
     add(&rt, &mut bounds, &map, 1, &[1, 2, 3, 4]);
     add(&rt, &mut bounds, &map, 4, &[1, 2, 3, 4, 5]);
     let both = [node(6), node(5)];
-    assert!(&rt; !bounds.is_far(&map, &both));
+    assert!(&rt; !bounds.are_unbounded(&map, &both));
     bounds.clear();
     assert_near(&rt, &bounds, &map, &[]);
 }

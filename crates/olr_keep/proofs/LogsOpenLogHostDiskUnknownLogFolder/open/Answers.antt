@@ -4,4 +4,4 @@ use Rattle.olr_keep.proofs.LogsOpenLogHostDiskUnknownLogFolder.open.Goals as goa
 
 pub returns : goal.returns
 returns c = λ text left.
-    c.in_ok-log.ensures.durable text (c.set_aside.ensures.less text left) ∙ sym c.set_aside.ensures.kept
+    c.in_ok-log.ensures.durable text (c.set_aside.ensures.less text left) ∙ sym c.set_aside.ensures.stored

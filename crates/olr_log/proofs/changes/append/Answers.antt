@@ -7,7 +7,7 @@ use Rattle.olr_input.specs.Journals.{IsFront, is_whole}
 use Rattle.olr_log.specs.Texts.{counts, ends_blank}
 use Rattle.olr_log.specs.Files.{text_in, IsPadded, KeepsFirst}
 use Rattle.olr_log.specs.declared.state.State.TheVariants.{Ready}
-use Rattle.olr_log.proofs.Crashes.{Leaves, leaves_kept, leaves_next}
+use Rattle.olr_log.proofs.Crashes.{Leaves, leaves_stored, leaves_next}
 use Rattle.olr_log.proofs.OwnTexts.{keeps_stopped, mixed_text, padded_behind, padded_more}
 use Rattle.olr_log.proofs.Padding.{keeps_take, text_more, text_same, torn_keeps, written_reach}
 use Rattle.olr_log.proofs.changes.append.Given.{Over}
@@ -23,7 +23,7 @@ none text records left is = ([], record { rest = records; splits = refl; whole =
 
 pub returns-in_err-more-clause-cut : goal.returns-in_err-more-clause-cut
 returns-in_err-more-clause-cut g c text left =
-    none (text_in c.args.text_len (g.D.Disk.seen c.args.disk.now)) c.args.records.now text (leaves_kept g.D.Disk c.args.disk.now (Ready c.args.text_len c.args.len) c.requires.stands refl text left)
+    none (text_in c.args.text_len (g.D.Disk.seen c.args.disk.now)) c.args.records.now text (leaves_stored g.D.Disk c.args.disk.now (Ready c.args.text_len c.args.len) c.requires.stands refl text left)
 
 pub returns-in_err-blank-clause-cut : goal.returns-in_err-blank-clause-cut
 returns-in_err-blank-clause-cut g c =
@@ -68,12 +68,12 @@ returns-in_err-put-clause-cut g c = cut_short g (goal.at.returns-in_err-put-clau
 pub returns-clause-cut : goal.returns-clause-cut
 returns-clause-cut g c = cut_short g (goal.at.returns-clause-cut g c).After-put
 
-pub returns-clause-kept : goal.returns-clause-kept
-returns-clause-kept g c =
+pub returns-clause-stored : goal.returns-clause-stored
+returns-clause-stored g c =
     let seen = g.D.Disk.seen in
     let records = c.args.records.now in
     text_more c.args.text_len records (seen c.blank.new.disk) (seen c.put.new.disk) (omega (arith, c.requires.stands.2, c.blank.ensures.others.no_shorter)) c.in_ok-put.ensures.held c.put.ensures.others
-    ∙ ap (λ (x : List ℕ). x ++ records) (same_text g (goal.at.returns-clause-kept g c).After-put)
+    ∙ ap (λ (x : List ℕ). x ++ records) (same_text g (goal.at.returns-clause-stored g c).After-put)
 
 pub returns-clause-stands : goal.returns-clause-stands
 returns-clause-stands g c =

@@ -2,14 +2,14 @@ use Rattle.std.proofs.Common.{rules, ◌≡◌, ◌+◌, ◌≤◌, max, List, �
 use Rattle.sqlite_disk.specs.Disk.{Mixed}
 use Rattle.olr_log.specs.Files.{text_in, IsPadded, KeepsFirst}
 use Rattle.olr_log.specs.declared.state.State.TheVariants.{Opened}
-use Rattle.olr_log.proofs.Crashes.{Leaves, leaves_kept, leaves_next}
+use Rattle.olr_log.proofs.Crashes.{Leaves, leaves_stored, leaves_next}
 use Rattle.olr_log.proofs.OwnTexts.{first_wiped, keeps_stopped, once_has, once_next, once_text, wiped}
 use Rattle.olr_log.proofs.changes.wipe.Given.{Over}
 use Rattle.olr_log.proofs.changes.wipe.Goals.{After-blank, In_ok-blank}
 use Rattle.olr_log.proofs.changes.wipe.Goals as goal
 
 pub returns-in_err-rest-clause-cut : goal.returns-in_err-rest-clause-cut
-returns-in_err-rest-clause-cut g c = leaves_kept g.D.Disk c.args.disk.now (Opened c.args.text_len c.args.last c.args.len) c.requires.stands refl
+returns-in_err-rest-clause-cut g c = leaves_stored g.D.Disk c.args.disk.now (Opened c.args.text_len c.args.last c.args.len) c.requires.stands refl
 
 pub returns-in_err-put-clause-cut : goal.returns-in_err-put-clause-cut
 returns-in_err-put-clause-cut g c =
@@ -45,8 +45,8 @@ all_wiped g c clean =
     wiped c.args.text_len c.args.last c.max-to.result (seen c.args.disk.now) (seen c.put.new.disk) (c.requires.stands.0.is (sym c.put.ensures.calm ∙ sym c.blank.ensures.calm ∙ clean)) (search rules) (c.in_ok-put.ensures.held (omega arith)) c.put.ensures.others
     c.in_ok-rest.rest (seen c.blank.new.disk) (search rules) c.blank.ensures.others c.in_ok-blank.ensures.blank
 
-pub returns-clause-kept : goal.returns-clause-kept
-returns-clause-kept g c clean = (all_wiped g (goal.at.returns-clause-kept g c).In_ok-blank clean).1
+pub returns-clause-stored : goal.returns-clause-stored
+returns-clause-stored g c clean = (all_wiped g (goal.at.returns-clause-stored g c).In_ok-blank clean).1
 
 pub returns-clause-stands : goal.returns-clause-stands
 returns-clause-stands g c =

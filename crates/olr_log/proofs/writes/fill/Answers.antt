@@ -22,5 +22,5 @@ returns-clause-stands g c =
     let len : c.in-Some-checked_add.len ≡ c.in-Some.end + length c.args.returns.now = search rules in
     (record { usable = search rules; durable = search rules; size = λ _. size ∙ sym len; is = λ _. file.0 }, omega (arith, some, size, len), omega (arith, some))
 
-pub returns-clause-kept : goal.returns-clause-kept
-returns-clause-kept g c = (made g (goal.at.returns-clause-kept g c).After-sync).1
+pub returns-clause-stored : goal.returns-clause-stored
+returns-clause-stored g c = (made g (goal.at.returns-clause-stored g c).After-sync).1

@@ -18,8 +18,8 @@ loop-k-init g c =
 pub counted_line-line-requires-clause-short : goal.counted_line-line-requires-clause-short
 counted_line-line-requires-clause-short g c =
     line_near c.args.resolved.now.margin (g.M.MapRead.map c.args.resolved.now.map.now)
-    (g.met.M.MapRead.sound c.args.resolved.now.map.now) c.args.resolved.now.lines.now c.args.i c.args.far
-    c.args.resolved.now.joined c.requires.far c.loop-k.k (omega arith) (omega arith)
+    (g.met.M.MapRead.sound c.args.resolved.now.map.now) c.args.resolved.now.lines.now c.args.i c.args.last_near
+    c.args.resolved.now.joined c.requires.last_near c.loop-k.k (omega arith) (omega arith)
 
 -- line k
 module _ (g : Over) (c : After-counted_line-line g) where
@@ -46,7 +46,7 @@ module _ (g : Over) (c : After-counted_line-line g) where
     arith,
     small_on c.args.resolved.now.margin M m slot ls c.args.resolved.now.joined c.args.i c.loop-k.k (omega arith)
         (omega arith) line is_line c.loop-k.within c.loop-k.search c.loop-k.invariant,
-    near_after c.args.resolved.now.margin M m ls c.args.i c.args.far c.args.resolved.now.joined c.requires.far
+    near_after c.args.resolved.now.margin M m ls c.args.i c.args.last_near c.args.resolved.now.joined c.requires.last_near
         (c.loop-k.k + 1) (omega arith) (omega arith),
   )
 
@@ -100,7 +100,7 @@ returns-then-not-extends_unique_shortest g c =
     cc in
     let t =
     covered_so_far _ (M g at) (m g at) (ls g at) _ _ c.args.resolved.now.joined
-    c.requires.far c.loop-k.k (omega arith) (omega arith) c.loop-k.invariant.unique no_more in
+    c.requires.last_near c.loop-k.k (omega arith) (omega arith) c.loop-k.invariant.unique no_more in
     record { reach = t.0; last = t.1; long = on.long; search = on.search; no_farther = on.settled }
 
 pub returns : goal.returns
@@ -113,5 +113,5 @@ returns g c =
     let t = subst (λ (n : ℕ). Tests margin M slot ls c.args.i n c.loop-k.within c.loop-k.search) end c.loop-k.invariant in
     let all =
     all_covered margin M (g.met.M.MapRead.sound c.args.resolved.now.map.now) ls _ _
-    c.args.resolved.now.joined c.requires.far c.max-end.result c.requires.some (omega arith) t.unique in
+    c.args.resolved.now.joined c.requires.last_near c.max-end.result c.requires.some (omega arith) t.unique in
     record { reach = all.0; last = all.1; long = t.long; search = t.search; no_farther = t.settled }

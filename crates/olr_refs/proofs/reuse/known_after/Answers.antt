@@ -14,5 +14,5 @@ returns g c =
     record { reach = c.reach_by.result; query = c.known.inside.query; own = Some known; work = c.none.result } in
     let query : c.known.inside.query ≡ known.query = grind arith in
     answered_known _ _ (g.met.M.MapRead.sound c.args.resolved.now.map.now) _ _
-    c.requires.reuse c.args.resolved.now.joined _ _ c.requires.some c.requires.far known at.0
+    c.requires.reuse c.args.resolved.now.joined _ _ c.requires.some c.requires.last_near known at.0
     (omega arith) (c.ends_here.ensures.0 c.if-not-ends_here.false) result c.reach_by.ensures query refl c.none.ensures

@@ -7,7 +7,7 @@ returns-then-finds_none-clause-covers g c = λ none N slot edit bounds.
     let l = c.args.list.now in
     let ids = l.path_ids.items in
     let far : AreFar N (nodes_of c.args.touched.now) (items l) =
-    λ q b. c.if-not-are_spared.ensures.far refl N slot q.from q.within edit bounds.right (bounds.sources q b) in
+    λ q b. c.if-not-are_spared.ensures.unbounded refl N slot q.from q.within edit bounds.right (bounds.sources q b) in
     covers_far N c.args.touched.now l c.if-list.false c.if-not-list.false []
     (all_none ids l.finder.traversed [] (λ v. v) _ (rw c.nodes.ensures at c.finds_none.ensures c.if-finds_none.true))
     (all_none ids l.finder.lines [] (λ x. x) _ (rw c.lines.ensures at c.finds_none-then-finds_none.ensures none)) far

@@ -1,12 +1,12 @@
-use Rattle.olr_renewal.proofs.Common.{IfOk-weaker, Item, List, Map, Renewal, items, AreRenewed, IsRenewed, IsStored}
+use Rattle.olr_renewal.proofs.Common.{IfOk-weaker, Item, List, Map, Renewal, items, AreRenewed, IsRenewed, IsPutIn}
 use Rattle.olr_renewal.specs.declared.renewal.Renewed.{Renewed}
 use Rattle.olr_renewal.specs.declared.update.MapUpdate.{MapUpdate}
 use Rattle.olr_renewal.proofs.reencode.renew_over.Goals as goal
 
--- the renewal, as it is stored and returned
-stored : {M : Type 0} (map : M → Map) (u : MapUpdate M) (before is js : List Item) (r : Renewal) (s : Renewed) →
-    IsRenewed map u before is r → IsStored u is r js s → AreRenewed map u before is js s
-stored map u before is js r s h t = record {
+-- the renewal, as it is put in the list and returned
+put : {M : Type 0} (map : M → Map) (u : MapUpdate M) (before is js : List Item) (r : Renewal) (s : Renewed) →
+    IsRenewed map u before is r → IsPutIn u is r js s → AreRenewed map u before is js s
+put map u before is js r s h t = record {
   remade = rw t.items h.remade;
   named = rw t.items h.named;
   reported = rw (t.items, t.entries) h.reported;
@@ -23,23 +23,23 @@ replace-requires-clause-reported g c = rw (rw c.in-Some.is at c.in_ok-renewal.en
 
 pub returns-in-Some-clause-renewed : goal.returns-in-Some-clause-renewed
 returns-in-Some-clause-renewed g c = IfOk-weaker c.replace.result _ _
-    (λ s t. stored g.M.MapRead.map c.args.update.now _ _ _ _ s c.in_ok-renewal.ensures.renewed t)
-    (rw (rw c.in-Some.is at c.in_ok-renewal.ensures.copied) at c.replace.ensures.stored)
+    (λ s t. put g.M.MapRead.map c.args.update.now _ _ _ _ s c.in_ok-renewal.ensures.renewed t)
+    (rw (rw c.in-Some.is at c.in_ok-renewal.ensures.copied) at c.replace.ensures.put)
 
 pub returns-in-Some-clause-queries : goal.returns-in-Some-clause-queries
 returns-in-Some-clause-queries g c = IfOk-weaker c.replace.result _ _ (λ s t. t.queries)
-    (rw (rw c.in-Some.is at c.in_ok-renewal.ensures.copied) at c.replace.ensures.stored)
+    (rw (rw c.in-Some.is at c.in_ok-renewal.ensures.copied) at c.replace.ensures.put)
 
-pub store-requires-clause-none_removed : goal.store-requires-clause-none_removed
-store-requires-clause-none_removed g c = rw c.in_default.is at c.in_ok-renewal.ensures.copied
+pub put_results-requires-clause-none_removed : goal.put_results-requires-clause-none_removed
+put_results-requires-clause-none_removed g c = rw c.in_default.is at c.in_ok-renewal.ensures.copied
 
-pub store-requires-clause-reported : goal.store-requires-clause-reported
-store-requires-clause-reported g c = (items c.args.list.now, c.in_ok-renewal.ensures.renewed.reported)
+pub put_results-requires-clause-reported : goal.put_results-requires-clause-reported
+put_results-requires-clause-reported g c = (items c.args.list.now, c.in_ok-renewal.ensures.renewed.reported)
 
 pub returns-clause-renewed : goal.returns-clause-renewed
 returns-clause-renewed g c =
-    rw c.index.ensures (stored g.M.MapRead.map c.args.update.now _ _ _ _ _ c.in_ok-renewal.ensures.renewed
-    c.in_ok-renewed.ensures.stored)
+    rw c.index.ensures (put g.M.MapRead.map c.args.update.now _ _ _ _ _ c.in_ok-renewal.ensures.renewed
+    c.in_ok-renewed.ensures.put)
 
 pub returns-clause-queries : goal.returns-clause-queries
-returns-clause-queries g c = rw c.index.ensures c.in_ok-renewed.ensures.stored.queries
+returns-clause-queries g c = rw c.index.ensures c.in_ok-renewed.ensures.put.queries

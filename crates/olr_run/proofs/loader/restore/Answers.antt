@@ -37,7 +37,7 @@ returns-clause-leads c =
     let e =
     loading_end c.args.text.now c.records.records c.records.loader r c.records.invariant.loading
     (rw c.if-branch.false at c.in_ok-next.ensures.takes) finished in
-    subst (λ (x : Content). Represents r.kept (closed x))
+    subst (λ (x : Content). Represents r.state (closed x))
     (same_content c.args.text.now e.0 d e.1 (is_content c.args.text.now d l)) e.2) c.finish.ensures.finished
 
 pub returns-clause-refused : goal.returns-clause-refused

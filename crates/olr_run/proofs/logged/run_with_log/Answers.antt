@@ -3,7 +3,7 @@ use Rattle.std.proofs.Common.{◌∙◌, [], ap, subst}
 use Rattle.olr_run.proofs.LoggedRuns.{lasting, run_length}
 use Rattle.olr_run.proofs.Sending.{held_sent}
 use Rattle.olr_input.specs.Gates.{Compaction, Passes}
-use Rattle.olr_input.specs.Unkept.{waiting}
+use Rattle.olr_input.specs.Unstored.{waiting}
 use Rattle.olr_input.specs.declared.gate.Gate.{Gate}
 use Rattle.olr_run.proofs.logged.run_with_log.Goals as goal
 
@@ -16,11 +16,11 @@ returns-clause-ended g c = λ records begins.
     (lasting g.S.Source.left g.W.Write.contents g.J.Journal (c.new-session.result, c.args.output.now)
     (r.new.session, r.new.output) c.args.journal s.new.self s.new.output
     (ap (λ (x : Gate g.row.J.Denot). x.journal) of ∙ c.new-gate.ensures.journal)
-    (ap (λ (x : Gate g.row.J.Denot). waiting x.unkept) of ∙ c.new-gate.ensures.waiting)
+    (ap (λ (x : Gate g.row.J.Denot). waiting x.unstored) of ∙ c.new-gate.ensures.waiting)
     (subst (λ (x : Gate g.row.J.Denot).
-    Passes g.J.Journal.kept g.J.Journal.may_leave g.W.Write.contents x r.new.output s.new.self s.new.output [])
+    Passes g.J.Journal.stored g.J.Journal.may_leave g.W.Write.contents x r.new.output s.new.self s.new.output [])
     c.into_gate-gate.ensures s.ensures.passes) c.args.stop c.args.register.now r.new.register c.args.source r.result s.result
-    c.new-session.ensures.source s.ensures.kept s.ensures.fault c.is_sound.ensures r.ensures.ran r.ensures.cut records
+    c.new-session.ensures.source s.ensures.stored s.ensures.fault c.is_sound.ensures r.ensures.ran r.ensures.cut records
     begins)
 
 pub returns-clause-sent : goal.returns-clause-sent
@@ -30,9 +30,9 @@ returns-clause-sent g c =
 pub returns-clause-length : goal.returns-clause-length
 returns-clause-length g c =
     let r = c.run_session-ended in
-    ap (λ (x : Compaction). x.renewed_from) c.send-sent.ensures.passes.due
-    ∙ ap (λ (x : Gate g.row.J.Denot). x.renewed_from) c.into_gate-gate.ensures
+    ap (λ (x : Compaction). x.compacted_from) c.send-sent.ensures.passes.due
+    ∙ ap (λ (x : Gate g.row.J.Denot). x.compacted_from) c.into_gate-gate.ensures
     ∙ run_length g.S.Source.left g.W.Write.contents g.J.Journal c.args.stop c.args.register.now r.new.register
     (c.new-session.result, c.args.output.now) (r.new.session, r.new.output) r.result r.ensures.ran r.ensures.cut
-    ∙ ap (λ (x : Gate g.row.J.Denot). x.renewed_from) c.new-session.ensures.gate
-    ∙ ap (λ (x : Compaction). x.renewed_from) c.new-gate.ensures.due ∙ c.get.ensures
+    ∙ ap (λ (x : Gate g.row.J.Denot). x.compacted_from) c.new-session.ensures.gate
+    ∙ ap (λ (x : Compaction). x.compacted_from) c.new-gate.ensures.due ∙ c.get.ensures

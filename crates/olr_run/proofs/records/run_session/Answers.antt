@@ -33,14 +33,14 @@ returns-in_err-accepted-clause-cut g c =
 
 pub returns-then-stop-clause-ran : goal.returns-then-stop-clause-ran
 returns-then-stop-clause-ran g c =
-    let d = c.renew.ensures in
+    let d = c.compact_log.ensures in
     ran_stopped g.S.Session.happens _ _ _ _ _ _ _ c.records.invariant.1 _ _ _ (fields_of c.take.new.fields)
     (rw c.if-branch.true at c.in_ok-take.ensures) c.in_ok-accepted.accepted _ c.is_sound.ensures
     c.if-not-accepted.true c.if-stop.true c.in_ok-accepted.ensures (d.0, d.1, d.2 c.write_outcome.new.output)
 
 pub records-preserved-then-not-accepted : goal.records-preserved-then-not-accepted
 records-preserved-then-not-accepted g c =
-    let d = c.renew.ensures in
+    let d = c.compact_log.ensures in
     let below = c.if-answered-eq-MOST_RECORDS.false in
     let most = c.records.invariant.0 in (
       omega (arith, below, most),
@@ -51,7 +51,7 @@ records-preserved-then-not-accepted g c =
 
 pub records-preserved : goal.records-preserved
 records-preserved g c =
-    let d = c.renew.ensures in
+    let d = c.compact_log.ensures in
     let below = c.if-answered-eq-MOST_RECORDS.false in
     let most = c.records.invariant.0 in (
       omega (arith, below, most),

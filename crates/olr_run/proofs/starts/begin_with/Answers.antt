@@ -7,7 +7,7 @@ pub returns-clause-begun : goal.returns-clause-begun
 returns-clause-begun g c = (
   c.read_log.new.log,
   begins_from c.args.log.now c.read_log.new.log c.prepare_log.new.log c.in_ok-register.register c.is_sound.ensures
-      c.read_log.ensures.own c.read_log.ensures.kept c.read_log.ensures.less c.in_ok-register.ensures.content
+      c.read_log.ensures.own c.read_log.ensures.stored c.read_log.ensures.less c.in_ok-register.ensures.content
       c.in_ok-prepare_log.ensures.own c.in_ok-prepare_log.ensures.foreign
       c.in_ok-prepare_log.ensures.durable,
 )
@@ -17,7 +17,7 @@ returns-in_err-register-clause-unbegun g c =
     let p = err_from_is_err_and c.from_residual.result c.from_residual.ensures.1 in
     rw p.1
     (rw p.2
-    (unbegun_read c.args.log.now c.read_log.new.log _ c.read_log.ensures.kept
+    (unbegun_read c.args.log.now c.read_log.new.log _ c.read_log.ensures.stored
     c.read_log.ensures.less c.in_err-register.ensures.refused))
 
 pub returns-in_err-prepare_log-clause-unbegun : goal.returns-in_err-prepare_log-clause-unbegun
@@ -26,5 +26,5 @@ returns-in_err-prepare_log-clause-unbegun g c =
     rw p.1
     (rw p.2
     (unbegun_after c.args.log.now c.read_log.new.log c.prepare_log.new.log _ c.in_ok-register.register
-    c.read_log.ensures.kept c.read_log.ensures.less c.in_ok-register.ensures.content c.prepare_log.ensures.cut
+    c.read_log.ensures.stored c.read_log.ensures.less c.in_ok-register.ensures.content c.prepare_log.ensures.cut
     c.in_err-prepare_log.ensures.fails))

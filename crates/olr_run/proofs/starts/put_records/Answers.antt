@@ -1,14 +1,14 @@
--- The records of the register are kept, or may be.
+-- The records of the register are stored, or may be.
 use Rattle.std.proofs.Common.{◌∙◌, sym, subst}
 use Rattle.olr_run.specs.LogEnds.{AreRecordsOf}
-use Rattle.olr_run.proofs.Renewals.{records_of_renewal, records_may_be}
+use Rattle.olr_run.proofs.Replacements.{records_of_replacement, records_may_be}
 use Rattle.olr_run.proofs.starts.put_records.Goals as goal
 
-pub returns-in-Ok-replace-clause-kept : goal.returns-in-Ok-replace-clause-kept
-returns-in-Ok-replace-clause-kept g c = λ is.
-    let kept = rw is at c.in-Ok-replace.ensures.kept in
-    subst (AreRecordsOf c.args.register.now) (sym (kept ∙ c.as_slice-2.ensures.value))
-    (records_of_renewal c.args.register.now c.in-Ok.text.items c.in-Ok.ensures)
+pub returns-in-Ok-replace-clause-stored : goal.returns-in-Ok-replace-clause-stored
+returns-in-Ok-replace-clause-stored g c = λ is.
+    let stored = rw is at c.in-Ok-replace.ensures.stored in
+    subst (AreRecordsOf c.args.register.now) (sym (stored ∙ c.as_slice-2.ensures.value))
+    (records_of_replacement c.args.register.now c.in-Ok.text.items c.in-Ok.ensures)
 
 pub returns-in-Ok-replace-clause-cut : goal.returns-in-Ok-replace-clause-cut
 returns-in-Ok-replace-clause-cut g c =

@@ -4,7 +4,7 @@ use Rattle.olr_input.proofs.gate.Gate.write.Given as goal
 
 abbrev pub invariant-loop-written : goal.invariant-loop-written
 invariant-loop-written g l =
-    Passed g.J.Journal.kept g.J.Journal.may_leave g.W.Write.contents l.initial.self l.initial.output l.self l.output l.text
+    Passed g.J.Journal.stored g.J.Journal.may_leave g.W.Write.contents l.initial.self l.initial.output l.self l.output l.text
     l.written
 
 abbrev pub decreases-loop-written : goal.decreases-loop-written

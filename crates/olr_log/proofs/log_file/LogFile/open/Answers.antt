@@ -6,11 +6,11 @@ use Rattle.olr_log.specs.States.{Stands, is_broken_in, is_ready_in}
 use Rattle.olr_log.specs.declared.state.State.{State}
 use Rattle.olr_log.specs.declared.state.State.TheVariants.{Foreign, Opened, Ready, Broken}
 use Rattle.olr_log.proofs.Behind.{found_left, foreign_left}
-use Rattle.olr_log.proofs.Crashes.{only_kept, text_is_kept}
+use Rattle.olr_log.proofs.Crashes.{only_stored, text_is_stored}
 use Rattle.olr_log.proofs.log_file.LogFile.open.Goals as goal
 
 pub returns-clause-text : goal.returns-clause-text
-returns-clause-text g c clean = sym (text_is_kept g.D.Disk c.examine.new.disk c.in_ok-state.state c.in_ok-state.ensures.stands c.in_ok-state.ensures.unbroken clean) ∙ ap text_of c.examine.ensures.seen
+returns-clause-text g c clean = sym (text_is_stored g.D.Disk c.examine.new.disk c.in_ok-state.state c.in_ok-state.ensures.stands c.in_ok-state.ensures.unbroken clean) ∙ ap text_of c.examine.ensures.seen
 
 behind : {D : Type 0} (d : Ghosts D) (disk : D) (state : State) → Stands d disk state → is_ready_in state ≡ false → is_broken_in state ≡ false → d.is_clean disk ≡ true
     → left_over_in state (d.seen disk) ≡ left_behind (d.seen disk)
@@ -25,4 +25,4 @@ returns-clause-rest g c clean =
 
 pub returns-clause-durable : goal.returns-clause-durable
 returns-clause-durable g c =
-    only_kept g.D.Disk (g.F.Folder.may_lead c.args.folder) 0 c.examine.new.disk None c.in_ok-state.state c.in_ok-state.ensures.stands c.in_ok-state.ensures.unbroken c.requires.named
+    only_stored g.D.Disk (g.F.Folder.may_lead c.args.folder) 0 c.examine.new.disk None c.in_ok-state.state c.in_ok-state.ensures.stands c.in_ok-state.ensures.unbroken c.requires.named

@@ -4,7 +4,7 @@ use Rattle.sqlite_disk.specs.Disk.{Only}
 use Rattle.olr_log.specs.Files.{text_in}
 use Rattle.olr_log.specs.Outcomes.{MayLeave}
 use Rattle.olr_log.specs.declared.state.State.TheVariants.{Ready}
-use Rattle.olr_log.proofs.Crashes.{leaves_kept, led_either, led_less, only_kept}
+use Rattle.olr_log.proofs.Crashes.{leaves_stored, led_either, led_less, only_stored}
 use Rattle.olr_log.proofs.log_file.LogFileJournal.replace.Given.{Over}
 use Rattle.olr_log.proofs.log_file.LogFileJournal.replace.Goals.{In-Ok}
 use Rattle.olr_log.proofs.log_file.LogFileJournal.replace.Goals as goal
@@ -23,7 +23,7 @@ returns-in-Some-clause-cut g c text left =
     let lead = g.F.Folder.may_lead in
     elim (led_either g.D.Disk (lead c.write_in_place.new.folder) self.number self.disk self.rival (lead self.folder) made.disk of_call.either text left) [
       | inl was ↦ inl was
-      | inr new ↦ inr (leaves_kept g.D.Disk made.disk (Ready (length c.args.records.now) made.len) of_call.stands refl text new ∙ of_call.kept)
+      | inr new ↦ inr (leaves_stored g.D.Disk made.disk (Ready (length c.args.records.now) made.len) of_call.stands refl text new ∙ of_call.stored)
     ]
 
 -- once the file is in its place, a crash leaves its text
@@ -32,10 +32,10 @@ replaced : (g : Over) (c : In-Ok g) → IsNone c.in-Ok.made.doubt → let made =
 replaced g c sure =
     let made = c.in-Ok.made in
     let of_call = c.in-Ok.ensures in
-    only_kept g.D.Disk (g.F.Folder.may_lead c.write_in_place.new.folder) made.number made.disk None (Ready (length c.args.records.now) made.len) of_call.stands refl (λ n leads. of_call.placed sure n leads ∙ sym of_call.number)
+    only_stored g.D.Disk (g.F.Folder.may_lead c.write_in_place.new.folder) made.number made.disk None (Ready (length c.args.records.now) made.len) of_call.stands refl (λ n leads. of_call.placed sure n leads ∙ sym of_call.number)
 
 pub returns-clause-durable : goal.returns-clause-durable
 returns-clause-durable g c only = replaced g (goal.at.returns-clause-durable g c).In-Ok (search rules)
 
 pub returns-clause-cut : goal.returns-clause-cut
-returns-clause-cut g c text left = inr (replaced g (goal.at.returns-clause-cut g c).In-Ok (search rules) text left ∙ c.in-Ok.ensures.kept)
+returns-clause-cut g c text left = inr (replaced g (goal.at.returns-clause-cut g c).In-Ok (search rules) text left ∙ c.in-Ok.ensures.stored)

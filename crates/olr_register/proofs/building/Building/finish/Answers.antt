@@ -36,8 +36,8 @@ invariant_of-result c =
       bounded = e.bounded;
     }
 
-pub returns-clause-kept : goal.returns-clause-kept
-returns-clause-kept c =
+pub returns-clause-state : goal.returns-clause-state
+returns-clause-state c =
     let r = c.self.inside in
     let is = items r.paths in
     let renewal = rw (c.new-none.ensures is) at c.in_ok-entries.ensures.renewed in

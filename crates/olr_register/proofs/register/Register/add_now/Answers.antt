@@ -1,6 +1,6 @@
 use Rattle.olr_register.proofs.Common.{[], refl, sym, ap, ◌∙◌, items, has_name, path_by, string_bytes, No_memory, Work}
 use Rattle.olr_register.proofs.Changing.{add_refused}
-use Rattle.olr_register.proofs.Singles.{may_refuse_now, kept_bounds, adds, given_right, given_done}
+use Rattle.olr_register.proofs.Singles.{may_refuse_now, bounds_right, adds, given_right, given_done}
 use Rattle.olr_register.proofs.register.Register.add_now.Goals as goal
 
 pub add-requires : goal.add-requires
@@ -35,7 +35,7 @@ invariant_of-self-2 c =
     (adds r c.self.view_is c.requires c.self.invariant n.made (rw c.in_ok-path.ensures.ok c.in_ok-path.ensures.good)
     (ap (has_name (items r.paths)) (sym c.deref.ensures) ∙ sym c.has-taken.ensures ∙ c.in_ok-path.ensures.right))
     (rw n.path at e.list)
-    (c.renew_bounds.ensures r.roads [] (items r.paths) (kept_bounds r c.self.view_is c.requires c.self.invariant) e.queries)
+    (c.renew_bounds.ensures r.roads [] (items r.paths) (bounds_right r c.self.view_is c.requires c.self.invariant) e.queries)
 
 pub returns : goal.returns
 returns c =

@@ -1,7 +1,7 @@
 use Rattle.olr_register.proofs.Common.{items, map_of, content_on, length, refl, ap, edit_of, at_once, ByState}
 use Rattle.olr_register.proofs.Common.{No_memory, ne_eqb}
 use Rattle.olr_register.proofs.Changing.{edit_refused, edit_lacks}
-use Rattle.olr_register.proofs.Singles.{refused_now, same_map, may_refuse_now, same_right, kept_bounds}
+use Rattle.olr_register.proofs.Singles.{refused_now, same_map, may_refuse_now, same_right, bounds_right}
 use Rattle.olr_register.proofs.Singles.{can_edit, edit_right, edit_done}
 use Rattle.olr_register.proofs.register.Register.edit_among_paths.Goals as goal
 
@@ -16,12 +16,12 @@ returns-in-Err c =
 pub invariant_of-self : goal.invariant_of-self
 invariant_of-self c =
     same_right c.self.inside c.self.view_is c.requires.open c.self.invariant refl refl
-    (kept_bounds c.self.inside c.self.view_is c.requires.open c.self.invariant)
+    (bounds_right c.self.inside c.self.view_is c.requires.open c.self.invariant)
 
 pub returns-in_err-note_only : goal.returns-in_err-note_only
 returns-in_err-note_only c =
     let r = c.self.inside in
-    let some = ne_eqb (length c.args.self.now.kept.content.paths) 0 c.requires.some in
+    let some = ne_eqb (length c.args.self.now.state.content.paths) 0 c.requires.some in
     may_refuse_now c.self.inside c.self.view_is c.requires.open No_memory
     (same_map r c.self.view_is c.requires.open r.roads refl) c.from_residual.ensures.1
     (rw some) (edit_lacks (content_on r.margin (map_of r.roads) (items r.paths)) _ c.in-Ok.ensures.plan.accepted)
@@ -34,7 +34,7 @@ invariant_of-self-in_err-renewed c =
 pub returns-in_err-renewed : goal.returns-in_err-renewed
 returns-in_err-renewed c =
     let r = c.self.inside in
-    let some = ne_eqb (length c.args.self.now.kept.content.paths) 0 c.requires.some in
+    let some = ne_eqb (length c.args.self.now.state.content.paths) 0 c.requires.some in
     let e = c.in_err-renewed.ensures in
     may_refuse_now c.self.inside c.self.view_is c.requires.open No_memory
     (rw e.same_list (same_map r c.self.view_is c.requires.open c.make_and_renew.new.roads e.same_map))
@@ -46,7 +46,7 @@ returns-in_err-renewed c =
 pub make_and_renew-requires : goal.make_and_renew-requires
 make_and_renew-requires c = record {
   plan = c.in-Ok.ensures.plan;
-  bounded = kept_bounds c.self.inside c.self.view_is c.requires.open c.self.invariant;
+  bounded = bounds_right c.self.inside c.self.view_is c.requires.open c.self.invariant;
   renewable =
       can_edit c.self.inside c.self.view_is c.requires.open c.self.invariant (edit_of c.args.edit) c.note_only.new.touched
       (c.in_ok-note_only.ensures _ _ _ c.in-Ok.ensures.plan);

@@ -2,7 +2,7 @@ use Rattle.olr_register.proofs.Common.{edit_of, map_of, content_on, ◌≡◌, [
 use Rattle.olr_register.proofs.Common.{items, No_memory}
 use Rattle.olr_register.proofs.Bounded.{bounds_stay}
 use Rattle.olr_register.proofs.Changing.{edit_refused, edit_lacks}
-use Rattle.olr_register.proofs.Singles.{refused_now, same_map, may_refuse_now, same_right, kept_bounds, bare_right}
+use Rattle.olr_register.proofs.Singles.{refused_now, same_map, may_refuse_now, same_right, bounds_right, bare_right}
 use Rattle.olr_register.proofs.Singles.{bare_done}
 use Rattle.olr_register.proofs.register.Register.edit_now.Goals as goal
 
@@ -17,13 +17,13 @@ invariant_of-self c =
     let same = c.in_err-make_kept.ensures.same in
     same_right c.self.inside c.self.view_is c.requires c.self.invariant same refl
     (bounds_stay c.self.inside.roads c.make_kept.new.self c.make_kept.ensures.slots same
-    (kept_bounds c.self.inside c.self.view_is c.requires c.self.invariant))
+    (bounds_right c.self.inside c.self.view_is c.requires c.self.invariant))
 
 pub returns-in_err-make_kept : goal.returns-in_err-make_kept
 returns-in_err-make_kept c =
     let r = c.self.inside in
     let e = c.in_err-make_kept.ensures in
-    let bare : length c.args.self.now.kept.content.paths ≡ 0 = omega arith in
+    let bare : length c.args.self.now.state.content.paths ≡ 0 = omega arith in
     may_refuse_now r c.self.view_is c.requires No_memory
     (same_map r c.self.view_is c.requires c.make_kept.new.self e.same) c.from_residual.ensures.1
     (rw bare e.lacks)

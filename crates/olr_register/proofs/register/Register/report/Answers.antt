@@ -1,18 +1,18 @@
-use Rattle.olr_register.proofs.Common.{refl, items, map_kept, No_memory, Lacks_memory}
-use Rattle.olr_register.proofs.Asking.{kept_encoded, some_named}
+use Rattle.olr_register.proofs.Common.{refl, items, accepted_map, No_memory, Lacks_memory}
+use Rattle.olr_register.proofs.Asking.{right_encoded, some_named}
 use Rattle.olr_register.proofs.Outcomes.{answered_same, refused_same}
 use Rattle.olr_register.proofs.Replies.{reported_all}
 use Rattle.olr_register.proofs.register.Register.report.Goals as goal
 
 pub entries-requires : goal.entries-requires
-entries-requires c = record { encoded = kept_encoded c.self.inside c.self.invariant }
+entries-requires c = record { encoded = right_encoded c.self.inside c.self.invariant }
 
 pub returns : goal.returns
 returns c =
     let r = c.self.inside in
     rw (← c.self.view_is) (answered_same _ _ _ refl (λ xs. refl) (λ o. (
       refl,
-      reported_all r.margin (map_kept r.roads r.batch) (items r.paths) _
+      reported_all r.margin (accepted_map r.roads r.batch) (items r.paths) _
           c.self.invariant.register.made c.in_ok-entries.ensures.reported,
     )))
 

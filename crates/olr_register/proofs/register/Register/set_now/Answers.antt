@@ -1,6 +1,6 @@
 use Rattle.olr_register.proofs.Common.{refl, sym, ap, ◌∙◌, not, not-false, items, path_by, [], No_memory, Work}
 use Rattle.olr_register.proofs.Changing.{set_refused}
-use Rattle.olr_register.proofs.Singles.{may_refuse_now, kept_bounds, sets, given_right, given_done}
+use Rattle.olr_register.proofs.Singles.{may_refuse_now, bounds_right, sets, given_right, given_done}
 use Rattle.olr_register.proofs.register.Register.set_now.Goals as goal
 
 pub returns-in_err-path : goal.returns-in_err-path
@@ -30,7 +30,7 @@ invariant_of-self-2 c =
     given_right r c.self.view_is c.requires c.self.invariant
     (sets r c.self.view_is c.requires c.self.invariant n.made (rw c.in_ok-path.ensures.ok c.in_ok-path.ensures.good)
     (sym c.has-missing.ensures ∙ not-false c.has-missing.result c.in_ok-path.ensures.right)) (rw n.path at e.list)
-    (c.renew_bounds.ensures r.roads [] (items r.paths) (kept_bounds r c.self.view_is c.requires c.self.invariant) e.queries)
+    (c.renew_bounds.ensures r.roads [] (items r.paths) (bounds_right r c.self.view_is c.requires c.self.invariant) e.queries)
 
 pub returns : goal.returns
 returns c =

@@ -1,4 +1,4 @@
-use Rattle.olr_register.proofs.Common.{refl, sym, items, map_kept, ByState}
+use Rattle.olr_register.proofs.Common.{refl, sym, items, accepted_map, ByState}
 use Rattle.olr_commands.specs.Reply.{Lacks}
 use Rattle.olr_commands.specs.declared.fault.CommandFault.TheVariants.{Memory}
 use Rattle.olr_register.proofs.Asking.{some_answer_in}
@@ -13,7 +13,7 @@ pub entry-requires : goal.entry-requires
 entry-requires c =
     let r = c.self.inside in
     record {
-      encoded = some_answer_in r.margin (map_kept r.roads r.batch) (items r.paths) c.args.name.now
+      encoded = some_answer_in r.margin (accepted_map r.roads r.batch) (items r.paths) c.args.name.now
           c.self.invariant.register.made (sym c.if-not-has.ensures);
     }
 
@@ -30,7 +30,7 @@ returns c =
       rw (← c.if-not-has.ensures),
       (
         returned.0,
-        (answer_held r.margin (map_kept r.roads r.batch) (items r.paths) h.content h.made c.args.name.now returned.0).1 returned.1,
+        (answer_held r.margin (accepted_map r.roads r.batch) (items r.paths) h.content h.made c.args.name.now returned.0).1 returned.1,
         rw (c.in_ok-one_entry.ensures, returned.2),
       ),
     )))

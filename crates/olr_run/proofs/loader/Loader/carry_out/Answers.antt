@@ -5,21 +5,21 @@ use Rattle.std.proofs.Common.{sym, subst}
 use Rattle.std.proofs.lemmas.Result.{IfOk-weaker, IfErr-weaker}
 use Rattle.olr_run.proofs.Refusing.{other_kind}
 use Rattle.olr_run.specs.declared.loader.Kind.TheVariants as kind
-use Rattle.olr_run.proofs.Restoring.{kept_loaded, kind_is, change_loaded}
+use Rattle.olr_run.proofs.Restoring.{logged_loaded, kind_is, change_loaded}
 use Rattle.olr_run.proofs.loader.Loader.carry_out.Goals as goal
 
 pub returns-in-Begin-clause-loaded : goal.returns-in-Begin-clause-loaded
 returns-in-Begin-clause-loaded c =
     let k = command_of c.args.command in
     IfOk-weaker c.begin.result (λ _. Loaded c.args.self.now Begin c.begin.new.self) _
-    (λ _ h. kept_loaded c.args.self.now c.begin.new.self k Begin (kind_is c.args.command kind.Begin c.in-Begin.ensures) tt h)
+    (λ _ h. logged_loaded c.args.self.now c.begin.new.self k Begin (kind_is c.args.command kind.Begin c.in-Begin.ensures) tt h)
     c.begin.ensures.loaded
 
 pub returns-in-Commit-clause-loaded : goal.returns-in-Commit-clause-loaded
 returns-in-Commit-clause-loaded c =
     let k = command_of c.args.command in
     IfOk-weaker c.commit.result (λ _. Loaded c.args.self.now (Commit c.in-Commit.count) c.commit.new.self) _
-    (λ _ h. kept_loaded c.args.self.now c.commit.new.self k (Commit c.in-Commit.count) (kind_is c.args.command (kind.Commit c.in-Commit.count) c.in-Commit.ensures) tt h)
+    (λ _ h. logged_loaded c.args.self.now c.commit.new.self k (Commit c.in-Commit.count) (kind_is c.args.command (kind.Commit c.in-Commit.count) c.in-Commit.ensures) tt h)
     c.commit.ensures.loaded
 
 pub change-requires : goal.change-requires
@@ -35,18 +35,18 @@ returns-in-Change-clause-loaded c =
 pub returns-in-Begin-clause-refused : goal.returns-in-Begin-clause-refused
 returns-in-Begin-clause-refused c =
     IfErr-weaker c.begin.result _ _
-    (λ e refuses is kept. subst (Refuses c.args.self.now) (sym (kind_is c.args.command kind.Begin c.in-Begin.ensures)) (refuses is))
+    (λ e refuses is stored. subst (Refuses c.args.self.now) (sym (kind_is c.args.command kind.Begin c.in-Begin.ensures)) (refuses is))
     c.begin.ensures.refused
 
 pub returns-in-Commit-clause-refused : goal.returns-in-Commit-clause-refused
 returns-in-Commit-clause-refused c =
     IfErr-weaker c.commit.result _ _
-    (λ e refuses is kept.
+    (λ e refuses is stored.
     subst (Refuses c.args.self.now) (sym (kind_is c.args.command (kind.Commit c.in-Commit.count) c.in-Commit.ensures)) (refuses is))
     c.commit.ensures.refused
 
 pub returns-in-Change-clause-refused : goal.returns-in-Change-clause-refused
-returns-in-Change-clause-refused c = IfErr-weaker c.change.result _ _ (λ e refuses is kept. refuses is) c.change.ensures.refused
+returns-in-Change-clause-refused c = IfErr-weaker c.change.result _ _ (λ e refuses is stored. refuses is) c.change.ensures.refused
 
 pub returns-in-Other-clause-refused : goal.returns-in-Other-clause-refused
-returns-in-Other-clause-refused c = λ is kept. absurd (other_kind c.args.command c.in-Other.ensures kept)
+returns-in-Other-clause-refused c = λ is stored. absurd (other_kind c.args.command c.in-Other.ensures stored)

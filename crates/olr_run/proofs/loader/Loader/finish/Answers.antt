@@ -7,4 +7,4 @@ returns-then-in_batch-clause-refused c = λ is. outside_closed c.args.self c.if-
 
 pub returns-in-Ok-clause-finished : goal.returns-in-Ok-clause-finished
 returns-in-Ok-clause-finished c = λ s a.
-    loads_finished c.args.self c.in-Ok.register s a c.if-in_batch.false c.in-Ok.ensures.kept
+    loads_finished c.args.self c.in-Ok.register s a c.if-in_batch.false c.in-Ok.ensures.state

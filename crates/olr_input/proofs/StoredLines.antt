@@ -1,0 +1,343 @@
+-- Which lines of records are whole.
+use Rattle.std.proofs.Common.{◌≡◌, ◌∙◌, ◌==◌, ℕ, Bool, true, false, not, ◌&&◌, List, [], ◌∷◌, ◌++◌, length, refl, sym}
+use Rattle.std.proofs.Common.{ap, subst, arith, ◌⊎◌, inl, inr, if◌then◌else◌, codes}
+use Rattle.std.proofs.lemmas.Bool.{cases_Bool, and_parts}
+use Rattle.std.proofs.lemmas.List.{append-nil, append_assoc, length-append, take-take, take_at}
+use Rattle.std.proofs.lemmas.List.Folds.{list_all-append}
+use Rattle.std.specs.List.{join_with_byte}
+use Rattle.std.proofs.Common.{◌<◌, ◌≤◌, ◌+◌, zero, suc, take, get_or, unwrap_or, Some, None}
+use Rattle.csv.specs.Records.{field_at}
+use Rattle.std.specs.Str.{bytes_eq}
+use Rattle.std.proofs.lemmas.Slice.Eq.{bytes_eq-Decides}
+use Rattle.olr_input.specs.Journals.{stays_open, is_empty, is_whole, is_whole_from, IsFront}
+use Rattle.olr_input.specs.StoredLines.{is_change, is_clean, is_clean_byte, effect_by, word_effect, has_line, line_of}
+use Rattle.olr_input.specs.StoredLines.{is_firm_from, firm_after, Turns, turned, IsLineFor}
+use Rattle.olr_input.specs.declared.unstored.Effect.{Effect}
+use Rattle.olr_input.specs.declared.unstored.Effect.TheVariants as effect
+
+-- ---- one line
+
+clean_parts : (b : ℕ) (bs : List ℕ) → is_clean (b ∷ bs) ≡ true →
+    ((b == 10) ≡ false) × ((b == 13) ≡ false) × (is_clean bs ≡ true)
+clean_parts b bs h = grind (arith, cases_Bool, and_parts)
+
+whole_line : (o : Bool) (p l more : List ℕ) → is_clean l ≡ true →
+    is_whole_from o p (l ++ 10 ∷ more) ≡ is_whole_from (stays_open o (p ++ l)) [] more
+whole_line o p [] more h = ap (λ (q : List ℕ). is_whole_from (stays_open o q) [] more) (sym (append-nil p))
+whole_line o p (b ∷ l) more h =
+    let c = clean_parts b l h in
+    let step : is_whole_from o p (b ∷ l ++ 10 ∷ more) ≡ is_whole_from o (p ++ b ∷ []) (l ++ 10 ∷ more) =
+    rw (c.0, c.1) refl in
+    step ∙ whole_line o (p ++ b ∷ []) l more c.2
+    ∙ ap (λ (q : List ℕ). is_whole_from (stays_open o q) [] more) (append_assoc p (b ∷ []) l)
+
+firm_line : (o : Bool) (p l more : List ℕ) → is_clean l ≡ true →
+    is_firm_from o p (l ++ 10 ∷ more) ≡ firm_after (stays_open o (p ++ l)) more
+firm_line o p [] more h = ap (λ (q : List ℕ). firm_after (stays_open o q) more) (sym (append-nil p))
+firm_line o p (b ∷ l) more h =
+    let c = clean_parts b l h in
+    let step : is_firm_from o p (b ∷ l ++ 10 ∷ more) ≡ is_firm_from o (p ++ b ∷ []) (l ++ 10 ∷ more) =
+    rw c.0 refl in
+    step ∙ firm_line o (p ++ b ∷ []) l more c.2
+    ∙ ap (λ (q : List ℕ). firm_after (stays_open o q) more) (append_assoc p (b ∷ []) l)
+
+line_turns : (o t : Bool) (l : List ℕ) → is_clean l ≡ true → stays_open o l ≡ t → Turns o t (l ++ 10 ∷ [])
+line_turns o t l clean is =
+    record {
+      whole = λ more. rw (append_assoc l (10 ∷ []) more) (whole_line o [] l more clean
+          ∙ ap (λ (b : Bool). is_whole_from b [] more) is);
+      firm = λ more. rw (append_assoc l (10 ∷ []) more) (firm_line o [] l more clean
+          ∙ ap (λ (b : Bool). firm_after b more) is);
+    }
+
+-- ---- the line of a record, without its end
+
+body_rest : List (List ℕ) → List ℕ
+body_rest [] = []
+body_rest (f ∷ fs) = 44 ∷ join_with_byte 44 (f ∷ fs)
+
+body_is : (word : List ℕ) (fs : List (List ℕ)) → join_with_byte 44 (word ∷ fs) ≡ word ++ body_rest fs
+unfolding body_rest
+body_is word [] = sym (append-nil word)
+body_is word (f ∷ fs) = refl
+
+-- ---- words
+
+-- no word of a change begins as those of batches do
+not_b : (x : List ℕ) → is_change (98 ∷ x) ≡ false
+not_b x = refl
+
+not_c : (x : List ℕ) → is_change (99 ∷ x) ≡ false
+not_c x = refl
+
+begins_otherwise : (o : Bool) (b : ℕ) (x : List ℕ) → (b == 98) ≡ false → (b == 99) ≡ false → stays_open o (b ∷ x) ≡ o
+begins_otherwise true b x nb nc = rw (nb, nc) refl
+begins_otherwise false b x nb nc = rw nb refl
+
+change_stays : (o : Bool) (word rest : List ℕ) → is_change word ≡ true → stays_open o (word ++ rest) ≡ o
+change_stays o [] rest h = absurd cc
+change_stays o (b ∷ x) rest h = by_b (b == 98) refl
+  where
+    by_c : (c : Bool) → (b == 99) ≡ c → (b == 98) ≡ false → stays_open o (b ∷ x ++ rest) ≡ o
+    by_c true is nb = absurd (grind (arith, not_c x))
+    by_c false is nb = begins_otherwise o b (x ++ rest) nb is
+
+    by_b : (c : Bool) → (b == 98) ≡ c → stays_open o (b ∷ x ++ rest) ≡ o
+    by_b true is = absurd (grind (arith, not_b x))
+    by_b false is = by_c (b == 99) refl is
+
+-- ---- by the effect of a record
+
+commit_closes : (o : Bool) (rest : List ℕ) → stays_open o (codes "commit" ++ 44 ∷ rest) ≡ false
+commit_closes true rest = refl
+commit_closes false rest = refl
+
+begin_opens : (o : Bool) → stays_open o (codes "begin") ≡ true
+begin_opens o = refl
+
+-- what an effect says of the tests of a word by which it was chosen
+IsOf : (change begin commit : Bool) → Effect → Type 0
+IsOf change begin commit effect.Change = change ≡ true
+IsOf change begin commit effect.Begin = begin ≡ true
+IsOf change begin commit effect.Commit = commit ≡ true
+IsOf change begin commit _ = Unit {0}
+
+by_tests : (change begin commit abort compact : Bool) → IsOf change begin commit
+    (if change then effect.Change
+    else if begin then effect.Begin
+    else if commit then effect.Commit
+    else if abort then effect.Abort
+    else if compact then effect.Compact
+    else effect.Nothing)
+unfolding IsOf
+by_tests true b m a p = refl
+by_tests false true m a p = refl
+by_tests false false true a p = refl
+by_tests false false false true p = tt
+by_tests false false false false true = tt
+by_tests false false false false false = tt
+
+by_word : (e : Effect) (word : List ℕ) (alone : Bool) → effect_by word alone ≡ e → IsOf (is_change word)
+    (bytes_eq word (codes "begin") && alone) (bytes_eq word (codes "commit") && not alone) e
+by_word e word alone is = subst (IsOf _ _ _) is (by_tests _ _ _ (bytes_eq word (codes "abort")) (bytes_eq word (codes "compact") && alone))
+
+pub same_text : (a b : List ℕ) → bytes_eq a b ≡ true → a ≡ b
+same_text a b h = grind (arith, bytes_eq-Decides a b)
+
+nonzero : (n : ℕ) → (suc n == 0) ≡ false
+nonzero n = grind arith
+
+one_more : (n : ℕ) → (suc n == 1) ≡ (n == 0)
+one_more zero = refl
+one_more (suc n) = grind arith
+
+stays_for : (e : Effect) (word : List ℕ) (fs : List (List ℕ)) → effect_by word (length fs == 0) ≡ e →
+    has_line e ≡ true → (o : Bool) → stays_open o (word ++ body_rest fs) ≡ turned e o
+unfolding body_rest IsOf
+stays_for effect.Nothing word fs is stored o = absurd cc
+stays_for effect.Abort word fs is stored o = absurd cc
+stays_for effect.Compact word fs is stored o = absurd cc
+stays_for effect.Change word fs is stored o = change_stays o word (body_rest fs) (by_word effect.Change word (length fs == 0) is)
+stays_for effect.Begin word [] is stored o =
+    let both = and_parts (bytes_eq word (codes "begin")) true (by_word effect.Begin word true is) in
+    ap (λ (w : List ℕ). stays_open o (w ++ [])) (same_text word (codes "begin") both.0) ∙ begin_opens o
+stays_for effect.Begin word (f ∷ fs) is stored o =
+    let both = and_parts (bytes_eq word (codes "begin")) false (by_word effect.Begin word false (ap (effect_by word) (sym (nonzero (length fs))) ∙ is)) in
+    absurd (let no = both.1 in cc)
+stays_for effect.Commit word [] is stored o =
+    let both = and_parts (bytes_eq word (codes "commit")) false (by_word effect.Commit word true is) in
+    absurd (let no = both.1 in cc)
+stays_for effect.Commit word (f ∷ fs) is stored o =
+    let both = and_parts (bytes_eq word (codes "commit")) true (by_word effect.Commit word false (ap (effect_by word) (sym (nonzero (length fs))) ∙ is)) in
+    ap (λ (w : List ℕ). stays_open o (w ++ 44 ∷ join_with_byte 44 (f ∷ fs))) (same_text word (codes "commit") both.0)
+    ∙ commit_closes o (join_with_byte 44 (f ∷ fs))
+
+pub line_for : (e : Effect) (fields : List (List ℕ)) → word_effect fields ≡ e → has_line e ≡ true →
+    is_clean (join_with_byte 44 fields) ≡ true → IsLineFor e (line_of fields)
+line_for e [] is stored clean = absurd (let no = ap has_line is ∙ stored in cc)
+line_for e (word ∷ fs) is stored clean =
+    record {
+      none = λ no. absurd (let never : true ≡ false = sym stored ∙ no in cc);
+      turns = λ _ o. line_turns o (turned e o) (join_with_byte 44 (word ∷ fs)) clean
+          (ap (stays_open o) (body_is word fs) ∙ stays_for e word fs is stored o);
+    }
+
+pub no_line : (e : Effect) → has_line e ≡ false → IsLineFor e []
+no_line e none = record { none = λ _. refl; turns = λ stored. absurd (let never : true ≡ false = sym stored ∙ none in cc) }
+
+-- ---- fields
+
+-- one more field
+pub join_more : (fs : List (List ℕ)) (i : ℕ) → i < length fs →
+    (join_with_byte 44 (take i fs) ++ (if i == 0 then [] else 44 ∷ [])) ++ get_or fs i []
+    ≡ join_with_byte 44 (take (suc i) fs)
+join_more [] i h = absurd (omega arith)
+join_more (f ∷ fs) zero h = refl
+join_more (f ∷ []) (suc i) h = absurd (omega arith)
+join_more (f ∷ g ∷ fs) (suc zero) h = append_assoc f (44 ∷ []) g
+join_more (f ∷ g ∷ fs) (suc (suc i)) h =
+    let more = rw (nonzero i) at (join_more (g ∷ fs) (suc i) (omega arith)) in
+    let joined = join_with_byte 44 (take (suc i) (g ∷ fs)) in
+    rw (nonzero (suc i)) (ap (λ (x : List ℕ). x ++ get_or fs i []) (append_assoc f (44 ∷ joined) (44 ∷ []))
+    ∙ append_assoc f (44 ∷ joined ++ 44 ∷ []) (get_or fs i []) ∙ ap (λ (x : List ℕ). f ++ 44 ∷ x) more)
+
+-- the same behind other lines
+pub text_more : (lines text : List ℕ) (fs : List (List ℕ)) (i : ℕ) → i < length fs →
+    text ≡ lines ++ join_with_byte 44 (take i fs)
+    → (text ++ (if i == 0 then [] else 44 ∷ [])) ++ get_or fs i [] ≡ lines ++ join_with_byte 44 (take (i + 1) fs)
+text_more lines text fs i h e =
+    let joined = join_with_byte 44 (take i fs) in
+    let comma : List ℕ = if i == 0 then [] else 44 ∷ [] in
+    let one : suc i ≡ i + 1 = omega arith in
+    ap (λ (x : List ℕ). (x ++ comma) ++ get_or fs i []) e
+    ∙ ap (λ (x : List ℕ). x ++ get_or fs i []) (append_assoc lines joined comma)
+    ∙ append_assoc lines (joined ++ comma) (get_or fs i [])
+    ∙ ap (λ (x : List ℕ). lines ++ x) (join_more fs i h ∙ ap (λ (k : ℕ). join_with_byte 44 (take k fs)) one)
+
+-- it holds no line end
+pub clean_more : (fs : List (List ℕ)) (i : ℕ) → i < length fs → is_clean (join_with_byte 44 (take i fs)) ≡ true →
+    is_clean (get_or fs i []) ≡ true → is_clean (join_with_byte 44 (take (i + 1) fs)) ≡ true
+clean_more fs i h before field =
+    let joined = join_with_byte 44 (take i fs) in
+    let comma : List ℕ = if i == 0 then [] else 44 ∷ [] in
+    let one : suc i ≡ i + 1 = omega arith in
+    let clean : is_clean comma ≡ true = by_first (i == 0) in
+    sym (ap is_clean (join_more fs i h ∙ ap (λ (k : ℕ). join_with_byte 44 (take k fs)) one))
+    ∙ list_all-append is_clean_byte (joined ++ comma) (get_or fs i [])
+    ∙ ap (λ (b : Bool). b && is_clean (get_or fs i [])) (list_all-append is_clean_byte joined comma)
+    ∙ (λ n. (before n && clean n) && field n)
+  where
+    by_first : (first : Bool) → is_clean (if first then [] else 44 ∷ []) ≡ true
+    by_first true = refl
+    by_first false = refl
+
+-- or one
+pub unclean : (fs : List (List ℕ)) (i : ℕ) → i < length fs → is_clean (get_or fs i []) ≡ false →
+    is_clean (join_with_byte 44 fs) ≡ false
+unfolding body_rest
+unclean [] i h e = absurd (omega arith)
+unclean (f ∷ fs) zero h e =
+    ap is_clean (body_is f fs) ∙ list_all-append is_clean_byte f (body_rest fs) ∙ ap (λ (b : Bool). b && is_clean (body_rest fs)) e
+unclean (f ∷ []) (suc i) h e = absurd (omega arith)
+unclean (f ∷ g ∷ fs) (suc i) h e =
+    list_all-append is_clean_byte f (44 ∷ join_with_byte 44 (g ∷ fs))
+    ∙ ap (λ (b : Bool). is_clean f && b) (unclean (g ∷ fs) i (omega arith) e) ∙ and_false (is_clean f)
+  where
+    and_false : (b : Bool) → (b && false) ≡ false
+    and_false true = refl
+    and_false false = refl
+
+-- the lines before it stay
+pub lines_stay : (lines text more longer : List ℕ) (n k : ℕ) → n ≡ length lines → k ≡ length (text ++ more) →
+    (rest : List ℕ) → text ≡ lines ++ rest → take k longer ≡ text ++ more → take n longer ≡ lines
+lines_stay lines text more longer n k size sizes rest e front =
+    let all : text ++ more ≡ lines ++ (rest ++ more) =
+    ap (λ (x : List ℕ). x ++ more) e ∙ append_assoc lines rest more in
+    let less : n ≤ k = let long = ap length all in let longs = length-append lines (rest ++ more) in omega arith in
+    sym (take-take n k longer less) ∙ ap (take n) (front ∙ all) ∙ take_at lines (rest ++ more) n (sym size)
+
+pub field_is : (fs : List (List ℕ)) (k : ℕ) → unwrap_or (field_at fs k) [] ≡ get_or fs k []
+unfolding field_at
+field_is [] k = refl
+field_is (f ∷ fs) zero = refl
+field_is (f ∷ fs) (suc k) = field_is fs k
+
+-- ---- texts that follow each other
+
+pub turns_join : (o t : Bool) (x y : List ℕ) → Turns o true x → Turns true t y → Turns o t (x ++ y)
+turns_join o t x y h k =
+    record {
+      whole = λ more. rw (append_assoc x y more) (h.whole (y ++ more) ∙ k.whole more);
+      firm = λ more. rw (append_assoc x y more) (h.firm (y ++ more) ∙ k.firm more);
+    }
+
+pub whole_join : (o : Bool) (p a m : List ℕ) → is_whole_from o p a ≡ true →
+    is_whole_from o p (a ++ m) ≡ is_whole_from false [] m
+whole_join true p [] m h = absurd cc
+whole_join false [] [] m h = refl
+whole_join false (b ∷ p) [] m h = absurd cc
+whole_join o p (b ∷ a) m h =
+    by_end (b == 10) (b == 13) refl refl (λ t q k. whole_join t q a m k)
+  where
+    by_end : (end return : Bool) → (b == 10) ≡ end → (b == 13) ≡ return →
+        ((t : Bool) (q : List ℕ) → is_whole_from t q a ≡ true → is_whole_from t q (a ++ m) ≡ is_whole_from false [] m)
+        → is_whole_from o p (b ∷ a ++ m) ≡ is_whole_from false [] m
+    by_end true r e f next = rw e (next (stays_open o p) [] (rw e at h))
+    by_end false true e f next = let no = rw (e, f) at h in absurd cc
+    by_end false false e f next = rw (e, f) (next o (p ++ b ∷ []) (rw (e, f) at h))
+
+firm_front : (o : Bool) (p m r : List ℕ) → is_firm_from o p (m ++ r) ≡ true → is_whole_from o p m ≡ true →
+    (m ≡ []) ⊎ (r ≡ [])
+firm_front o p [] r h k = inl refl
+firm_front o p (b ∷ m) r h k =
+    by_end (b == 10) (b == 13) (stays_open o p) refl refl refl (λ t q firm whole. firm_front t q m r firm whole)
+  where
+    none_left : (q : List ℕ) → is_empty q ≡ true → q ≡ []
+    none_left [] e = refl
+    none_left (c ∷ q) e = absurd cc
+
+    rest_of : (a c : List ℕ) → a ++ c ≡ [] → c ≡ []
+    rest_of [] c e = e
+    rest_of (x ∷ a) c e = absurd cc
+
+    never_open : (t : Bool) (q : List ℕ) → (m ≡ []) ⊎ (r ≡ []) → is_whole_from t q m ≡ true →
+        (is_whole_from t q [] ≡ true → ⊥) → (b ∷ m ≡ []) ⊎ (r ≡ [])
+    never_open t q (inl e) w never = absurd (never (sym (ap (is_whole_from t q) e) ∙ w))
+    never_open t q (inr e) w never = inr e
+
+    no_end : (t : Bool) (q : List ℕ) → is_whole_from t (q ++ b ∷ []) [] ≡ true → ⊥
+    no_end true q w = cc
+    no_end false [] w = cc
+    no_end false (x ∷ q) w = cc
+
+    by_end : (end return left : Bool) → (b == 10) ≡ end → (b == 13) ≡ return → stays_open o p ≡ left →
+        ((t : Bool) (q : List ℕ) → is_firm_from t q (m ++ r) ≡ true → is_whole_from t q m ≡ true → (m ≡ []) ⊎ (r ≡ []))
+        → (b ∷ m ≡ []) ⊎ (r ≡ [])
+    by_end true c true e f g next =
+        let firm : is_firm_from true [] (m ++ r) ≡ true = rw (e, g) at h in
+        let whole : is_whole_from true [] m ≡ true = rw (e, g) at k in
+        never_open true [] (next true [] firm whole) whole (λ w. cc)
+    by_end true c false e f g next =
+        let firm : is_empty (m ++ r) ≡ true = rw (e, g) at h in inr (rest_of m r (none_left (m ++ r) firm))
+    by_end false true left e f g next = absurd (let no = rw (e, f) at k in cc)
+    by_end false false left e f g next =
+        let firm : is_firm_from o (p ++ b ∷ []) (m ++ r) ≡ true = rw e at h in
+        let whole : is_whole_from o (p ++ b ∷ []) m ≡ true = rw (e, f) at k in
+        never_open o (p ++ b ∷ []) (next o (p ++ b ∷ []) firm whole) whole (λ w. no_end o p w)
+
+split_either : (a x f r : List ℕ) → a ++ x ≡ f ++ r →
+    ((m : List ℕ) × (a ≡ f ++ m)) ⊎ ((m : List ℕ) × (f ≡ a ++ m) × (x ≡ m ++ r))
+split_either [] x f r e = inr (f, refl, e)
+split_either (c ∷ a) x [] r e = inl (c ∷ a, refl)
+split_either (c ∷ a) x (d ∷ f) r e = grind (arith, split_either a x f r)
+
+pub front_either : (a x front : List ℕ) → is_whole a ≡ true → is_firm_from false [] x ≡ true →
+    IsFront (a ++ x) front → IsFront a front ⊎ (front ≡ a ++ x)
+front_either a x front whole firm h = by_split (split_either a x front h.rest h.splits)
+  where
+    by_rest : (m : List ℕ) → front ≡ a ++ m → x ≡ m ++ h.rest → (m ≡ []) ⊎ (h.rest ≡ []) →
+        IsFront a front ⊎ (front ≡ a ++ x)
+    by_rest m e f (inl none) =
+        inl (record { rest = []; splits = sym (ap (λ (y : List ℕ). y ++ []) (e ∙ ap (λ (y : List ℕ). a ++ y) none) ∙ append-nil (a ++ []) ∙ append-nil a); whole = h.whole })
+    by_rest m e f (inr none) =
+        inr (e ∙ ap (λ (y : List ℕ). a ++ y) (sym (append-nil m) ∙ ap (λ (y : List ℕ). m ++ y) (sym none) ∙ sym f))
+
+    by_split : ((m : List ℕ) × (a ≡ front ++ m)) ⊎ ((m : List ℕ) × (front ≡ a ++ m) × (x ≡ m ++ h.rest)) →
+        IsFront a front ⊎ (front ≡ a ++ x)
+    by_split (inl s) = inl (record { rest = s.0; splits = s.1; whole = h.whole })
+    by_split (inr s) =
+        by_rest s.0 s.1 s.2 (firm_front false [] s.0 h.rest (rw s.2 at firm)
+        (sym (whole_join false [] a s.0 whole) ∙ ap is_whole (sym s.1) ∙ h.whole))
+
+-- the first field
+pub first_field : (fs : List (List ℕ)) (word : List ℕ) → field_at fs 0 ≡ Some word →
+    effect_by word (length fs == 1) ≡ word_effect fs
+unfolding field_at
+first_field [] word e = absurd cc
+first_field (f ∷ fs) word e =
+    let same : f ≡ word = cc in λ i. effect_by (sym same i) (one_more (length fs) i)
+
+pub no_field : (fs : List (List ℕ)) → field_at fs 0 ≡ None → word_effect fs ≡ effect.Nothing
+unfolding field_at
+no_field [] e = refl
+no_field (f ∷ fs) e = absurd cc

@@ -1,8 +1,0 @@
-use Rattle.std.proofs.Common.{◌≡◌, ◌++◌, take, vec_capacity, true}
-use Rattle.olr_input.specs.KeptLines.{is_clean}
-use Rattle.olr_input.proofs.unkept.push_bytes.Given as goal
-
-abbrev pub invariant-loop-i : goal.invariant-loop-i
-invariant-loop-i l =
-    (l.text.items ≡ l.initial.text.items ++ take l.i l.bytes) × (vec_capacity l.text ≡ vec_capacity l.initial.text)
-    × (is_clean (take l.i l.bytes) ≡ true)
