@@ -7,7 +7,6 @@ pub mod PartLemmas
 pub mod FormLemmas
 pub mod TextLemmas
 pub mod ReadLemmas
-pub mod FirstFields
 pub mod PlainLemmas
 pub mod WrittenLemmas
 pub mod RecordLines

@@ -49,6 +49,12 @@ short (a ∷ b ∷ c ∷ fs) some few = absurd (omega arith)
 short fs some few = refl
 
 module _ (fs : List Field) (k : ℕ) where
+  -- no field is left
+  pub at_end : {A : Type 0} (of : List Field → Read (List A)) (x w : Read (List A)) → of [] ≡ Ok [] → length fs ≤ k →
+      onto x (of (drop k fs)) ≡ w → x ≡ w
+  at_end of x w none past e =
+      sym (onto-nothing x) ∙ ap (λ y. onto x y) (sym none ∙ ap (λ y. of y) (sym (drop_all k fs past))) ∙ e
+
   module _ {A : Type 0} (one : Field → Read A) where
     items_next : k < length fs → items one (drop k fs) ≡ Ok (λ x xs. x ∷ xs) ⊛ one (at fs k) ⊛ items one (drop (k + 1) fs)
     items_next lt = grind (arith, drop-cons)
@@ -56,9 +62,6 @@ module _ (fs : List Field) (k : ℕ) where
     pub items-more : (x w : Read (List A)) → k < length fs → onto x (items one (drop k fs)) ≡ w →
         onto (with x (one (at fs k))) (items one (drop (k + 1) fs)) ≡ w
     items-more x w lt e = grind (arith, onto_more, items_next)
-
-    pub items-end : (x w : Read (List A)) → length fs ≤ k → onto x (items one (drop k fs)) ≡ w → x ≡ w
-    items-end x w past e = sym (onto-nothing x) ∙ ap (λ y. onto x (items one y)) (sym (drop_all k fs past)) ∙ e
 
   -- three fields, and those after them
   three : k + 3 ≤ length fs → drop k fs ≡ at fs k ∷ at fs (k + 1) ∷ at fs (k + 2) ∷ drop (k + 3) fs
@@ -74,9 +77,6 @@ module _ (fs : List Field) (k : ℕ) where
   pub shape-more : (x w : Read (List ShapePoint)) → k + 3 ≤ length fs → onto x (shape (drop k fs)) ≡ w
       → onto (with x (point (at fs k) (at fs (k + 1)) (at fs (k + 2)))) (shape (drop (k + 3) fs)) ≡ w
   shape-more x w few e = grind (arith, onto_more, shape_next)
-
-  pub shape-end : (x w : Read (List ShapePoint)) → length fs ≤ k → onto x (shape (drop k fs)) ≡ w → x ≡ w
-  shape-end x w past e = sym (onto-nothing x) ∙ ap (λ y. onto x (shape y)) (sym (drop_all k fs past)) ∙ e
 
   -- one or two fields are left over
   pub shape-over : (x w : Read (List ShapePoint)) → k < length fs → length fs < k + 3 → onto x (shape (drop k fs)) ≡ w →

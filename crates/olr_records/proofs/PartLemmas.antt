@@ -1,40 +1,37 @@
 -- Two parts of one record, where reading one of them or both may take memory.
-use Rattle.olr_records.proofs.Common.{IsOkAnd, Read, ◌⊛◌, Reads, Gathers, ReadFault, Memory, both}
+--     Part P view x r      r is x, seen through `view`, or out of memory, only if the value of x satisfies P
+use Rattle.olr_records.proofs.Common.{IsOkAnd, Field, Read, ◌⊛◌, Reads, Gathers, ReadFault, Memory, both}
 use Rattle.std.proofs.Common.{arith, ◌≡◌, Ok, Err, Result, sym, ap, subst}
 
--- a part that takes no memory
-pub no-memory : {A B : Type 0} (P : B → Type 0) (view : A → B) (x : Read B) (r : Result A ReadFault) → Reads view x r →
-    Gathers P view x r
-no-memory P view x (Err Memory) h = absurd h
-no-memory P view x r h = h
+pub record Part {A B : Type 0} (P : B → Type 0) (view : A → B) (x : Read B) (r : Result A ReadFault) : Type 0 where
+  pub is : Gathers P view x r
 
--- the first part
-pub first-part : {A Y Z : Type 0} (g : Y → Z) (v : A → Y) (y : Read Y) (r : Result A ReadFault) → Reads v y r →
-    Reads (λ a. g (v a)) (Ok g ⊛ y) r
-first-part g v y (Err Memory) h = h
-first-part g v y r h = ap (λ (q : Read _). Ok g ⊛ q) h
+abbrev pub Never : {A : Type 0} → A → Type 0
+Never a = ⊥
+
+no_memory : {A B : Type 0} (P : B → Type 0) (view : A → B) (x : Read B) (r : Result A ReadFault) → Reads view x r →
+    Gathers P view x r
+no_memory P view x (Err Memory) h = absurd h
+no_memory P view x r h = h
+
+-- a field, which takes no memory
+pub of_field : {A B : Type 0} (read : Field → Read B) (view : A → B) (f g : Field) (r : Result A ReadFault) → f ≡ g →
+    Reads view (read f) r → Part Never view (read g) r
+of_field read view f g r e h =
+    record { is = no_memory Never view (read g) r (subst (λ (k : Field). Reads view (read k) r) e h) }
+
+made_of : {A Y Z : Type 0} (P : Y → Type 0) (R : Z → Type 0) (g : Y → Z) (v : A → Y) (y : Read Y) (r : Result A ReadFault) →
+    ((b : Y) → P b → R (g b)) → Gathers P v y r → Gathers R (λ a. g (v a)) (Ok g ⊛ y) r
+made_of P R g v (Ok b) (Err Memory) makes h = makes b h
+made_of P R g v (Err f) (Err Memory) makes h = h
+made_of P R g v y r makes h = ap (λ (q : Read _). Ok g ⊛ q) h
 
 -- one part, converted
-pub made-part : {A Y Z : Type 0} (P : Y → Type 0) (R : Z → Type 0) (g : Y → Z) (v : A → Y) (y : Read Y)
-    (r : Result A ReadFault) → ((b : Y) → P b → R (g b))
-    → Gathers P v y r → Gathers R (λ a. g (v a)) (Ok g ⊛ y) r
-made-part P R g v (Ok b) (Err Memory) makes h = makes b h
-made-part P R g v (Err f) (Err Memory) makes h = h
-made-part P R g v y r makes h = ap (λ (q : Read _). Ok g ⊛ q) h
+pub made : {A Y Z : Type 0} {P : Y → Type 0} {v : A → Y} {y : Read Y} {r : Result A ReadFault} (R : Z → Type 0) (g : Y → Z) →
+    Part P v y r → ((b : Y) → P b → R (g b)) → Part R (λ a. g (v a)) (Ok g ⊛ y) r
+made {A} {Y} {Z} {P} {v} {y} {r} R g h makes = record { is = made_of P R g v y r makes h.is }
 
 -- ---- two parts
-
--- neither takes memory
-pub parts : {A B Y Z : Type 0} (u : A → Y → Z) (v : B → Y) (x : Read (Y → Z)) (y : Read Y) (r : Result A ReadFault)
-    (s : Result B ReadFault) (q : Result (A × B) ReadFault) → q ≡ both r s
-    → Reads u x r → Reads v y s → Reads (λ p. u p.0 (v p.1)) (x ⊛ y) q
-parts {A} {B} u v x y r s q is h k =
-    subst (λ (t : Result (A × B) ReadFault). Reads (λ p. u p.0 (v p.1)) (x ⊛ y) t) (sym is) (by r s h k) where
-      by : (r : Result A ReadFault) (s : Result B ReadFault) → Reads u x r → Reads v y s →
-          Reads (λ p. u p.0 (v p.1)) (x ⊛ y) (both r s)
-      by (Err Memory) s h k = absurd h
-      by r (Err Memory) h k = absurd k
-      by r s h k = (λ i. h i ⊛ k i)
 
 module _ {A B Y Z : Type 0} (P : (Y → Z) → Type 0) (Q : Y → Type 0) (R : Z → Type 0) (u : A → Y → Z) (v : B → Y) where
   reported : (x : Read (Y → Z)) (y : Read Y) (r : Result A ReadFault) (s : Result B ReadFault) →
@@ -50,12 +47,16 @@ module _ {A B Y Z : Type 0} (P : (Y → Z) → Type 0) (Q : Y → Type 0) (R : Z
   reported x (Ok b) r (Err Memory) first second h k = ap (λ (q : Read (Y → Z)). q ⊛ Ok b) h
   reported x y r s first second h k = (λ i. h i ⊛ k i)
 
-  -- the results of both
-  pub both-parts : (x : Read (Y → Z)) (y : Read Y) (r : Result A ReadFault) (s : Result B ReadFault)
-      (q : Result (A × B) ReadFault) → q ≡ both r s
-      → ((g : Y → Z) (b : Y) → P g → R (g b)) → ((a : A) (b : Y) → Q b → R (u a b))
-      → Gathers P u x r → Gathers Q v y s → Gathers R (λ p. u p.0 (v p.1)) (x ⊛ y) q
-  both-parts x y r s q is first second h k = grind (arith, reported)
+-- the results of both
+pub joins : {A B Y Z : Type 0} {P : (Y → Z) → Type 0} {Q : Y → Type 0} {u : A → Y → Z} {v : B → Y} {x : Read (Y → Z)}
+    {y : Read Y} {r : Result A ReadFault} {s : Result B ReadFault} {q : Result (A × B) ReadFault} (R : Z → Type 0) → q ≡ both r s →
+    Part P u x r → Part Q v y s → ((g : Y → Z) (b : Y) → P g → R (g b)) → ((a : A) (b : Y) → Q b → R (u a b)) →
+    Part R (λ p. u p.0 (v p.1)) (x ⊛ y) q
+joins {A} {B} {Y} {Z} {P} {Q} {u} {v} {x} {y} {r} {s} {q} R is h k first second =
+    record {
+      is = subst (λ (t : Result (A × B) ReadFault). Gathers R (λ p. u p.0 (v p.1)) (x ⊛ y) t) (sym is)
+          (reported P Q R u v x y r s first second h.is k.is);
+    }
 
 -- and a fault that is passed on
 handed : {A C B : Type 0} (P : B → Type 0) (view : A → B) (query : C → B) (x : Read B) (f : ReadFault) →
@@ -63,7 +64,8 @@ handed : {A C B : Type 0} (P : B → Type 0) (view : A → B) (query : C → B) 
 handed P view query x Memory h = h
 handed P view query x f h = h
 
-pub handed-on : {A C B : Type 0} (P : B → Type 0) (view : A → B) (query : C → B) (x : Read B) (r : Result A ReadFault)
-    (q : Result C ReadFault) (f : ReadFault)
-    → r ≡ Err f → q ≡ Err f → Gathers P view x r → Gathers P query x q
-handed-on P view query x r q f is that h = grind (arith, handed)
+pub passed_on : {A B C : Type 0} {P : B → Type 0} {view : A → B} {x : Read B} {r : Result A ReadFault} (query : C → B)
+    (q : Result C ReadFault) (f : ReadFault) → r ≡ Err f → q ≡ Err f → Part P view x r → Gathers P query x q
+passed_on {A} {B} {C} {P} {view} {x} {r} query q f is that h =
+    subst (λ (t : Result C ReadFault). Gathers P query x t) (sym that)
+    (handed P view query x f (subst (λ (t : Result A ReadFault). Gathers P view x t) is h.is))

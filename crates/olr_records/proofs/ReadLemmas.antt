@@ -4,28 +4,25 @@ use Rattle.olr_records.proofs.Common.{nat_tests, Coord, is_coord, degrees, Shape
 use Rattle.olr_records.proofs.Common.{Drop_node, Add_line, Set_line, Drop_line, Path, has_degrees_text, Change, On_map}
 use Rattle.olr_records.proofs.Common.{Add_path, Set_path, Drop_path, Make, is_name, Field, Read, ◌⊛◌, value_or_fault}
 use Rattle.olr_records.proofs.Common.{max32, number, amount, coordinate, place, name, numbers, point, shape}
-use Rattle.olr_records.proofs.Common.{node_fields, edit, node_record, line_between, attributes, whole_line, line_record}
-use Rattle.olr_records.proofs.Common.{set_line_record, path_fields, read, is_number, is_amount, is_place, is_point}
+use Rattle.olr_records.proofs.Common.{node_fields, edit, node_record, line_between, attributes, whole_line}
+use Rattle.olr_records.proofs.Common.{line_record, set_line_record, path_fields, read, is_number, is_place, is_point}
 use Rattle.olr_records.proofs.Common.{are_attributes, is_named_path, has_record, Recorded, nat_abs, is_longitude}
 use Rattle.olr_records.proofs.Common.{is_latitude, unit7, are_coords, HasCoord, degrees-whole, Set_margin, Show_margin}
 use Rattle.olr_records.proofs.Common.{class}
 use Rattle.std.proofs.Common.{◌≡◌, ℕ, ℤ, Bool, true, false, List, [], ◌∷◌, Option, Some, None, Ok, Err, IsTrue, refl}
-use Rattle.std.proofs.Common.{subst, length, nat_le, ◌&&◌, pos, negsuc, arith, ◌%◌}
+use Rattle.std.proofs.Common.{subst, length, nat_le, ◌&&◌, pos, negsuc, arith, ◌%◌, sym, ap, suc}
+use Rattle.std.proofs.lemmas.Result.{IfOk-at_ok, IfOk-weaker}
 use Rattle.std.specs.Prelude.{codes, slice_index_or}
 use Rattle.olr_commands.specs.State.{Command, Show, Show_node, Show_line, Depends, Report, Dump, Compact, Explain}
-use Rattle.olr_commands.specs.State.{Begin, Preview, Commit, Abort, Ambiguous, HasCoords}
+use Rattle.olr_commands.specs.State.{Begin, Preview, Commit, Abort, Ambiguous, HasCoords, same_name}
+use Rattle.olr_commands.proofs.NameLemmas.{same_is}
 use Rattle.olr_coords.specs.Bounds.{is_degrees}
 use Rattle.olr_records.specs.Records.{digits, longitude, latitude, one, none, path_record, forms, read_by}
 use Rattle.olr_records.specs.Records.{depends_record, few_nodes, ambiguous_record, margin_record}
 use Rattle.olr_records.proofs.TestLemmas.{all_weaker, ◌also◌}
+use Rattle.olr_records.proofs.FieldLemmas.{Plain, AllPlain, digits_plain, name_plain, place_plain}
 
--- a record of the word report alone
-pub report_record : (fs : List Field) → length fs ≡ 1 → slice_index_or fs 0 [] ≡ codes "report" → read fs ≡ Ok Report
-report_record [] one e = absurd (omega arith)
-report_record (w ∷ []) one e = let is : w ≡ codes "report" = e in rw is refl
-report_record (w ∷ x ∷ fs) one e = absurd (omega arith)
-
-pub if_read : {A : Type 0} (P : A → Type 0) (b : Bool) (r q : Read A) → IfOk r P → IfOk q P → IfOk (if b then r else q) P
+if_read : {A : Type 0} (P : A → Type 0) (b : Bool) (r q : Read A) → IfOk r P → IfOk q P → IfOk (if b then r else q) P
 if_read P true r q h g = h
 if_read P false r q h g = g
 
@@ -53,9 +50,6 @@ bounded_passes {A} test a = grind arith
 digits_pass : (low high : ℕ) (f : Field) → IfOk (digits low high f) (λ n. IsTrue (nat_le low n && nat_le n high))
 digits_pass low high f = grind (arith, if_read, nat_le, bounded_passes)
 
-at_most_pass : (low high : ℕ) (f : Field) → IfOk (digits low high f) (λ n. IsTrue (nat_le n high))
-at_most_pass low high f = grind (arith, nat_le, and_parts, digits_pass)
-
 -- a coordinate in range, with a text of degrees
 abbrev Written : (ℤ → Bool) → ℤ → Type 0
 Written test z = IsTrue (test z) × IsTrue (has_degrees_text z)
@@ -80,206 +74,288 @@ longitude_passes f = found_passes is_longitude longitude_wide (degrees f) (degre
 latitude_passes : (f : Field) → IfOk (latitude f) (Written is_latitude)
 latitude_passes f = grind (arith, found_passes, longitude_wide, latitude_within, degrees-whole)
 
-abbrev Place : Coord → Type 0
-Place p = IsTrue (is_place p)
-
-place_passes : (lon lat : Field) → IfOk (place lon lat) Place
+place_passes : (lon lat : Field) → IfOk (place lon lat) (λ p. IsTrue (is_place p))
 place_passes lon lat = grind (arith, longitude_passes lon, latitude_passes lat)
 
-abbrev Name : List ℕ → Type 0
-Name n = IsTrue (is_name n)
-
-name_passes : (f : Field) → IfOk (name f) Name
+name_passes : (f : Field) → IfOk (name f) (λ n. IsTrue (is_name n))
 name_passes f = grind arith
 
-abbrev Number : ℕ → Type 0
-Number n = IsTrue (is_number n)
+-- ---- fields that are plain, too
 
-abbrev Numbers : List ℕ → Type 0
-Numbers xs = IsTrue (list_all is_number xs)
+also_holds : {A : Type 0} (r : Read A) (P Q : A → Type 0) → IfOk r P → IfOk r Q → IfOk r (λ a. P a × Q a)
+also_holds (Ok a) P Q h k = (h, k)
+also_holds (Err f) P Q h k = tt
 
-number_passes : (f : Field) → IfOk (number f) Number
-number_passes f = digits_pass 1 max32 f
+abbrev Ranged : ℕ → ℕ → Field → ℕ → Type 0
+Ranged low high f n = IsTrue (nat_le low n && nat_le n high) × Plain f
 
-numbers_pass : (fs : List Field) → IfOk (numbers fs) Numbers
-numbers_pass [] = refl
-numbers_pass (f ∷ fs) = grind (arith, number_passes f, numbers_pass fs)
+ranged : (low high : ℕ) (f : Field) → IfOk (digits low high f) (Ranged low high f)
+ranged low high f =
+    also_holds (digits low high f) (λ n. IsTrue (nat_le low n && nat_le n high)) (λ _. Plain f) (digits_pass low high f)
+    (digits_plain low high f)
+
+abbrev AtMost : ℕ → Field → ℕ → Type 0
+AtMost high f n = IsTrue (nat_le n high) × Plain f
+
+at_most : (high : ℕ) (f : Field) → IfOk (digits 0 high f) (AtMost high f)
+at_most high f =
+    IfOk-weaker (digits 0 high f) (Ranged 0 high f) (AtMost high f)
+    (λ n h. ((and_parts (nat_le 0 n) (nat_le n high) h.0).1, h.1)) (ranged 0 high f)
+
+abbrev NameOf : Field → Field → Type 0
+NameOf f n = IsTrue (is_name n) × Plain f
+
+name_of : (f : Field) → IfOk (name f) (NameOf f)
+name_of f = also_holds (name f) (λ n. IsTrue (is_name n)) (λ _. Plain f) (name_passes f) (name_plain f)
+
+abbrev PlaceOf : Field → Field → Coord → Type 0
+PlaceOf lon lat p = IsTrue (is_place p) × (Plain lon × Plain lat)
+
+place_of : (lon lat : Field) → IfOk (place lon lat) (PlaceOf lon lat)
+place_of lon lat =
+    also_holds (place lon lat) (λ p. IsTrue (is_place p)) (λ _. Plain lon × Plain lat) (place_passes lon lat)
+    (place_plain lon lat)
 
 -- ---- parts of records
 
-abbrev Node : ℕ × Coord → Type 0
-Node p = IsTrue (is_number p.0 && is_place p.1)
+abbrev NumbersOf : List Field → List ℕ → Type 0
+NumbersOf fs xs = IsTrue (list_all is_number xs) × AllPlain fs
 
-node_passes : (fs : List Field) → IfOk (node_fields fs) Node
-node_passes (node ∷ lon ∷ lat ∷ []) = grind (arith, number_passes node, place_passes lon lat)
+numbers_pass : (fs : List Field) → IfOk (numbers fs) (NumbersOf fs)
+numbers_pass [] = (refl, tt)
+numbers_pass (f ∷ fs) =
+    two (NumbersOf (f ∷ fs)) (Ranged 1 max32 f) (NumbersOf fs) (Ok (λ x xs. x ∷ xs)) (number f) (numbers fs)
+    (ranged 1 max32 f) (numbers_pass fs) (λ x h xs k. ((λ i. h.0 i && k.0 i), (h.1, k.1)))
+
+abbrev pub NodeOf : List Field → ℕ × Coord → Type 0
+NodeOf fs p = IsTrue (is_number p.0 && is_place p.1) × AllPlain fs
+
+pub node_passes : (fs : List Field) → IfOk (node_fields fs) (NodeOf fs)
+node_passes (node ∷ lon ∷ lat ∷ []) =
+    two (NodeOf (node ∷ lon ∷ lat ∷ [])) (Ranged 1 max32 node) (PlaceOf lon lat) (Ok (λ x p. (x, p))) (number node)
+    (place lon lat) (ranged 1 max32 node) (place_of lon lat)
+    (λ x h p k. ((λ i. h.0 i && k.0 i), (h.1, (k.1.0, (k.1.1, tt)))))
 node_passes fs = tt
 
-abbrev Shape : List ShapePoint → Type 0
-Shape ss = IsTrue (list_all is_point ss)
+abbrev PointOf : Field → Field → Field → ShapePoint → Type 0
+PointOf at lon lat s = IsTrue (is_point s) × (Plain at × (Plain lon × Plain lat))
 
-abbrev Point : ShapePoint → Type 0
-Point s = IsTrue (is_point s)
+point_passes : (at lon lat : Field) → IfOk (point at lon lat) (PointOf at lon lat)
+point_passes at lon lat =
+    two (PointOf at lon lat) (Ranged 1 999999 at) (PlaceOf lon lat) (Ok (λ x p. record { at = x; place = p }))
+    (digits 1 999999 at) (place lon lat) (ranged 1 999999 at) (place_of lon lat)
+    (λ x h p k. ((λ i. h.0 i && k.0 i), (h.1, k.1)))
 
-point_passes : (at lon lat : Field) → IfOk (point at lon lat) Point
-point_passes at lon lat = grind (arith, digits_pass 1 999999 at, place_passes lon lat)
+abbrev ShapeOf : List Field → List ShapePoint → Type 0
+ShapeOf fs ss = IsTrue (list_all is_point ss) × AllPlain fs
 
-shape_passes : (fs : List Field) → IfOk (shape fs) Shape
-shape_passes [] = refl
+shape_passes : (fs : List Field) → IfOk (shape fs) (ShapeOf fs)
+shape_passes [] = (refl, tt)
 shape_passes (at ∷ lon ∷ lat ∷ fs) =
-    two Shape Point Shape (Ok (λ p ps. p ∷ ps)) (point at lon lat) (shape fs) (point_passes at lon lat) (shape_passes fs)
-    (λ p h ps g i. h i && g i)
+    two (ShapeOf (at ∷ lon ∷ lat ∷ fs)) (PointOf at lon lat) (ShapeOf fs) (Ok (λ p ps. p ∷ ps)) (point at lon lat)
+    (shape fs) (point_passes at lon lat) (shape_passes fs)
+    (λ p h ps k. ((λ i. h.0 i && k.0 i), (h.1.0, (h.1.1.0, (h.1.1.1, k.1)))))
 shape_passes fs = tt
 
-abbrev Class : ℕ → Type 0
-Class n = IsTrue (nat_le n 7)
+abbrev AttributesOf : List Field → ℕ × ℕ × ℕ × List ShapePoint → Type 0
+AttributesOf fs c = IsTrue (are_attributes c.0 c.1 c.2 c.3) × AllPlain fs
 
-abbrev Long : ℕ → Type 0
-Long n = IsTrue (nat_le 1 n && nat_le n 1000000)
-
-abbrev Attributes : ℕ × ℕ × ℕ × List ShapePoint → Type 0
-Attributes c = IsTrue (are_attributes c.0 c.1 c.2 c.3)
-
-attributes_pass : (frc fow len : Field) (fs : List Field) → IfOk (attributes frc fow len fs) Attributes
+attributes_pass : (frc fow len : Field) (fs : List Field) →
+    IfOk (attributes frc fow len fs) (AttributesOf (frc ∷ fow ∷ len ∷ fs))
 attributes_pass frc fow len fs =
-    grind (
-      arith,
-      two Attributes Long Shape,
-      digits_pass 1 1000000 len,
-      shape_passes fs,
-      two (Takes Long (Takes Shape Attributes)) Class Class,
-      at_most_pass 0 7 frc,
-      at_most_pass 0 7 fow,
-      and_parts,
-      nat_le 1,
-      nat_le,
-    )
+    let g : Read (ℕ → ℕ → ℕ → List ShapePoint → ℕ × ℕ × ℕ × List ShapePoint) = Ok (λ a b c d. (a, b, c, d)) in
+    two (AttributesOf (frc ∷ fow ∷ len ∷ fs)) (Ranged 1 1000000 len) (ShapeOf fs) (g ⊛ class frc ⊛ class fow)
+    (digits 1 1000000 len) (shape fs) (ranged 1 1000000 len) (shape_passes fs)
+    (two (Takes (Ranged 1 1000000 len) (Takes (ShapeOf fs) (AttributesOf (frc ∷ fow ∷ len ∷ fs)))) (AtMost 7 frc)
+    (AtMost 7 fow) g (class frc) (class fow) (at_most 7 frc) (at_most 7 fow)
+    (λ a h b k c l d m. let p = and_parts (nat_le 1 c) (nat_le c 1000000) l.0 in
+    ((λ i. h.0 i && k.0 i && p.0 i && p.1 i && m.0 i), (h.1, (k.1, (l.1, m.1))))))
 
-abbrev Ends : Line → Type 0
-Ends l = IsTrue (is_number l.from) × IsTrue (is_number l.to) × IsTrue (are_attributes l.frc l.fow l.len l.shape)
+abbrev LineOf : List Field → Line → Type 0
+LineOf fs l =
+    (IsTrue (is_number l.from) × IsTrue (is_number l.to) × IsTrue (are_attributes l.frc l.fow l.len l.shape)) × AllPlain fs
 
 line_passes : (from to frc fow len : Field) (fs : List Field) →
-    IfOk (whole_line from to (attributes frc fow len fs)) Ends
+    IfOk (whole_line from to (attributes frc fow len fs)) (LineOf (from ∷ to ∷ frc ∷ fow ∷ len ∷ fs))
 line_passes from to frc fow len fs =
-    given Ends Attributes (Ok (λ a b c. line_between a b c.0 c.1 c.2 c.3) ⊛ number from ⊛ number to)
-    (attributes frc fow len fs) (attributes_pass frc fow len fs)
-    (two (Takes Attributes Ends) Number Number (Ok (λ a b c. line_between a b c.0 c.1 c.2 c.3)) (number from) (number to)
-    (number_passes from) (number_passes to) (λ a h b g c d. (h, g, d)))
+    let g : Read (ℕ → ℕ → ℕ × ℕ × ℕ × List ShapePoint → Line) = Ok (λ a b c. line_between a b c.0 c.1 c.2 c.3) in
+    let rest = AttributesOf (frc ∷ fow ∷ len ∷ fs) in
+    let whole = LineOf (from ∷ to ∷ frc ∷ fow ∷ len ∷ fs) in
+    given whole rest (g ⊛ number from ⊛ number to) (attributes frc fow len fs) (attributes_pass frc fow len fs)
+    (two (Takes rest whole) (Ranged 1 max32 from) (Ranged 1 max32 to) g (number from) (number to) (ranged 1 max32 from)
+    (ranged 1 max32 to) (λ a h b k c l. ((h.0, k.0, l.0), (h.1, (k.1, l.1)))))
 
 -- ---- records
 
 -- an edit that has a record
-abbrev OfEdit : Edit → Type 0
-OfEdit e = IsTrue (has_record (On_map e))
+abbrev pub EditOf : List Field → Edit → Type 0
+EditOf fs e = IsTrue (has_record (On_map e)) × AllPlain fs
 
-node_record_passes : (g : ℕ → Coord → Edit) → ((n : ℕ) (c : Coord) → Node (n, c) → OfEdit (g n c)) →
-    (fs : List Field) → IfOk (node_record g fs) OfEdit
-node_record_passes g h fs = grind (arith, given OfEdit Node, node_passes fs)
+node_record_passes : (g : ℕ → Coord → Edit) →
+    ((n : ℕ) (c : Coord) → IsTrue (is_number n && is_place c) → IsTrue (has_record (On_map (g n c)))) →
+    (fs : List Field) → IfOk (node_record g fs) (EditOf fs)
+node_record_passes g h fs =
+    given (EditOf fs) (NodeOf fs) (Ok (λ p. g p.0 p.1)) (node_fields fs) (node_passes fs) (λ p k. (h p.0 p.1 k.0, k.1))
 
-line_record_passes : (fs : List Field) → IfOk (line_record fs) OfEdit
+pub line_record_passes : (fs : List Field) → IfOk (line_record fs) (EditOf fs)
 line_record_passes (x ∷ from ∷ to ∷ frc ∷ fow ∷ len ∷ fs) =
-    two OfEdit Number Ends (Ok (λ x l. Add_line x l)) (number x) (whole_line from to (attributes frc fow len fs))
-    (number_passes x) (line_passes from to frc fow len fs) (λ x h l g i. h i && g.0 i && g.1 i && g.2 i)
+    two (EditOf (x ∷ from ∷ to ∷ frc ∷ fow ∷ len ∷ fs)) (Ranged 1 max32 x) (LineOf (from ∷ to ∷ frc ∷ fow ∷ len ∷ fs))
+    (Ok (λ x l. Add_line x l)) (number x) (whole_line from to (attributes frc fow len fs)) (ranged 1 max32 x)
+    (line_passes from to frc fow len fs)
+    (λ x h l k. ((λ i. h.0 i && k.0.0 i && k.0.1 i && k.0.2 i), (h.1, k.1)))
 line_record_passes fs = tt
 
-set_line_record_passes : (fs : List Field) → IfOk (set_line_record fs) OfEdit
+pub set_line_record_passes : (fs : List Field) → IfOk (set_line_record fs) (EditOf fs)
 set_line_record_passes (x ∷ frc ∷ fow ∷ len ∷ fs) =
-    two OfEdit Number Attributes (Ok (λ x c. Set_line x c.0 c.1 c.2 c.3)) (number x) (attributes frc fow len fs)
-    (number_passes x) (attributes_pass frc fow len fs) (λ x h c g i. h i && g i)
+    two (EditOf (x ∷ frc ∷ fow ∷ len ∷ fs)) (Ranged 1 max32 x) (AttributesOf (frc ∷ fow ∷ len ∷ fs))
+    (Ok (λ x c. Set_line x c.0 c.1 c.2 c.3)) (number x) (attributes frc fow len fs) (ranged 1 max32 x)
+    (attributes_pass frc fow len fs) (λ x h c k. ((λ i. h.0 i && k.0 i), (h.1, k.1)))
 set_line_record_passes fs = tt
 
-edit_passes : (r : List Field → Read Edit) → ((fs : List Field) → IfOk (r fs) OfEdit) → (fs : List Field) →
-    IfOk (edit (r fs)) Recorded
-edit_passes r h fs = given Recorded OfEdit (Ok (λ x. Make (On_map x))) (r fs) (h fs) (λ e i. i)
-
-pub one_passes : {A B : Type 0} (P : B → Type 0) (Q : A → Type 0) (g : A → B) (r : Field → Read A) →
-    ((f : Field) → IfOk (r f) Q) → ((a : A) → Q a → P (g a)) → (fs : List Field) → IfOk (one g r fs) P
-one_passes P Q g r q h (f ∷ []) = given P Q (Ok g) (r f) (q f) h
+pub one_passes : {A B : Type 0} (P : List Field → B → Type 0) (Q : Field → A → Type 0) (g : A → B) (r : Field → Read A) →
+    ((f : Field) → IfOk (r f) (Q f)) → ((f : Field) (a : A) → Q f a → P (f ∷ []) (g a)) → (fs : List Field) →
+    IfOk (one g r fs) (P fs)
+one_passes P Q g r q h (f ∷ []) = given (P (f ∷ [])) (Q f) (Ok g) (r f) (q f) (h f)
 one_passes P Q g r q h fs = tt
 
-none_passes : (c : Command) → Recorded c → (fs : List Field) → IfOk (none c fs) Recorded
-none_passes c h [] = h
-none_passes c h fs = tt
+abbrev pub PathOf : List Field → List ℕ × Path → Type 0
+PathOf fs p = IsTrue (is_named_path p.0 p.1) × AllPlain fs
 
-abbrev NamedPath : List ℕ × Path → Type 0
-NamedPath p = IsTrue (is_named_path p.0 p.1)
-
-abbrev Amount : ℕ → Type 0
-Amount n = IsTrue (is_amount n)
-
-path_fields_pass : (fs : List Field) → IfOk (path_fields fs) NamedPath
-path_fields_pass (n ∷ first ∷ last ∷ fs) =
-    grind (arith, name_passes n, at_most_pass 0 max32 first, at_most_pass 0 max32 last, numbers_pass fs)
+pub path_fields_pass : (fs : List Field) → IfOk (path_fields fs) (PathOf fs)
+path_fields_pass (n ∷ a ∷ b ∷ fs) =
+    let g : Read (List ℕ → ℕ → ℕ → List ℕ → List ℕ × Path) =
+    Ok (λ n p q ls. (n, record { lines = ls; pos = p; neg = q })) in
+    two (PathOf (n ∷ a ∷ b ∷ fs)) (AtMost max32 b) (NumbersOf fs) (g ⊛ name n ⊛ amount a) (amount b) (numbers fs)
+    (at_most max32 b) (numbers_pass fs)
+    (two (Takes (AtMost max32 b) (Takes (NumbersOf fs) (PathOf (n ∷ a ∷ b ∷ fs)))) (NameOf n) (AtMost max32 a) g (name n)
+    (amount a) (name_of n) (at_most max32 a)
+    (λ n h p k q l ls m. ((λ i. h.0 i && k.0 i && l.0 i && m.0 i), (h.1, (k.1, (l.1, m.1))))))
 path_fields_pass fs = tt
 
-path_record_passes : (g : List ℕ → Path → Change) →
-    ((n : List ℕ) (p : Path) → NamedPath (n, p) → IsTrue (has_record (g n p))) → (fs : List Field) →
-    IfOk (path_record g fs) Recorded
-path_record_passes g h fs = grind (arith, given Recorded NamedPath, path_fields_pass fs)
+-- ---- commands
+
+-- what is known of a word, the fields after it, and the command that they are read as
+abbrev Fits : Field → List Field → Command → Type 0
+Fits w fs (Make x) = IsTrue (has_record x) × AllPlain (w ∷ fs)
+Fits w fs Report = (w ≡ codes "report") × (length fs ≡ 0)
+Fits w fs c = ⊤
+
+edit_fits : (w : Field) (r : List Field → Read Edit) → Plain w → ((fs : List Field) → IfOk (r fs) (EditOf fs)) →
+    (fs : List Field) → IfOk (edit (r fs)) (Fits w fs)
+edit_fits w r p h fs =
+    given (Fits w fs) (EditOf fs) (Ok (λ x. Make (On_map x))) (r fs) (h fs) (λ e k. (k.0, (p, k.1)))
 
 pub any_passes : {A : Type 0} (x : Read A) → IfOk x (λ _. ⊤)
 any_passes (Ok a) = tt
 any_passes (Err f) = tt
 
-depends_passes : (fs : List Field) → IfOk (depends_record fs) Recorded
-depends_passes [] = tt
-depends_passes (f ∷ fs) =
-    two Recorded (λ _. ⊤) (λ _. ⊤) (Ok (λ n nodes. Depends nodes)) (few_nodes (length (f ∷ fs))) (numbers (f ∷ fs))
+-- a command with a field, of whose value nothing is known
+asked_fits : {A : Type 0} (w : Field) (g : A → Command) (r : Field → Read A) →
+    ((f : Field) (a : A) → Fits w (f ∷ []) (g a)) → (fs : List Field) → IfOk (one g r fs) (Fits w fs)
+asked_fits w g r h fs = one_passes (Fits w) (λ _ _. ⊤) g r (λ f. any_passes (r f)) (λ f a _. h f a) fs
+
+none_fits : (w : Field) (c : Command) → Fits w [] c → (fs : List Field) → IfOk (none c fs) (Fits w fs)
+none_fits w c h [] = h
+none_fits w c h fs = tt
+
+path_fits : (w : Field) (g : List ℕ → Path → Change) → Plain w →
+    ((n : List ℕ) (p : Path) → IsTrue (is_named_path n p) → IsTrue (has_record (g n p))) → (fs : List Field) →
+    IfOk (path_record g fs) (Fits w fs)
+path_fits w g p h fs =
+    given (Fits w fs) (PathOf fs) (Ok (λ q. Make (g q.0 q.1))) (path_fields fs) (path_fields_pass fs)
+    (λ q k. (h q.0 q.1 k.0, (p, k.1)))
+
+depends_fits : (w : Field) (fs : List Field) → IfOk (depends_record fs) (Fits w fs)
+depends_fits w [] = tt
+depends_fits w (f ∷ fs) =
+    two (Fits w (f ∷ fs)) (λ _. ⊤) (λ _. ⊤) (Ok (λ n nodes. Depends nodes)) (few_nodes (length (f ∷ fs))) (numbers (f ∷ fs))
     (any_passes (few_nodes (length (f ∷ fs)))) (any_passes (numbers (f ∷ fs))) (λ n _ nodes _. tt)
 
-ambiguous_passes : (fs : List Field) → IfOk (ambiguous_record fs) Recorded
-ambiguous_passes [] = tt
-ambiguous_passes (f ∷ fs) = one_passes Recorded Name (λ n. Ambiguous (Some n)) name name_passes (λ n h. tt) (f ∷ fs)
+ambiguous_fits : (w : Field) (fs : List Field) → IfOk (ambiguous_record fs) (Fits w fs)
+ambiguous_fits w [] = tt
+ambiguous_fits w (f ∷ fs) = asked_fits w (λ n. Ambiguous (Some n)) name (λ f n. tt) (f ∷ fs)
 
-Passes : (List Field → Read Command) → Type 0
-Passes form = (fs : List Field) → IfOk (form fs) Recorded
+margin_fits : (w : Field) → Plain w → (fs : List Field) → IfOk (margin_record fs) (Fits w fs)
+margin_fits w p (r ∷ c ∷ []) =
+    two (Fits w (r ∷ c ∷ [])) (AtMost 1000 r) (AtMost 7 c) (Ok (λ r c. Make (Set_margin (record { routes = r; classes = c }))))
+    (digits 0 1000 r) (class c) (at_most 1000 r) (at_most 7 c) (λ r h c k. ((λ i. h.0 i && k.0 i), (p, (h.1, (k.1, tt)))))
+margin_fits w p fs = tt
 
-by_passes : (rs : List (Field × (List Field → Read Command))) → AllByRecursion (λ r. Passes r.1) rs →
-    (word : Field) (fs : List Field) → IfOk (read_by rs word fs) Recorded
-unfolding Passes
-by_passes [] h word fs = tt
-by_passes (r ∷ rs) h word fs = grind (arith, if_read, by_passes rs h.1 word fs)
+-- ---- what a record is read as
 
-margin_passes : (fs : List Field) → IfOk (margin_record fs) Recorded
-margin_passes (r ∷ c ∷ []) =
-    two Recorded (λ n. IsTrue (nat_le n 1000)) Class (Ok (λ r c. Make (Set_margin (record { routes = r; classes = c })))) (digits 0 1000 r)
-    (class c) (at_most_pass 0 1000 r) (at_most_pass 0 7 c) (λ r h c g i. h i && g i)
-margin_passes fs = tt
+module _ (P : Field → List Field → Command → Type 0) where
+  chosen : (b : Bool) (v w : Field) (fs : List Field) (x y : Read Command) → same_name w v ≡ b → IfOk x (P v fs) →
+      IfOk y (P w fs) → IfOk (if b then x else y) (P w fs)
+  chosen true v w fs x y e h g = subst (λ (u : Field). IfOk x (P u fs)) (sym (same_is w v e)) h
+  chosen false v w fs x y e h g = g
 
-forms_pass : AllByRecursion (λ r. Passes r.1) forms
-unfolding Passes
-forms_pass =
-    edit_passes (node_record Add_node) (node_record_passes Add_node (λ n c h. h))
-    also edit_passes (node_record Move_node) (node_record_passes Move_node (λ n c h. h))
-    also edit_passes (one Drop_node number) (one_passes OfEdit Number Drop_node number number_passes (λ n h. h))
-    also edit_passes line_record line_record_passes
-    also edit_passes set_line_record set_line_record_passes
-    also edit_passes (one Drop_line number) (one_passes OfEdit Number Drop_line number number_passes (λ n h. h))
-    also path_record_passes Add_path (λ n p h. h)
-    also one_passes Recorded (λ f. ⊤) Explain (λ f. Ok f) (λ f. tt) (λ f h. tt)
-    also path_record_passes Set_path (λ n p h. h)
-    also one_passes Recorded Name (λ n. Make (Drop_path n)) name name_passes (λ n h. h)
-    also none_passes Begin tt
-    also one_passes Recorded Amount Commit amount (at_most_pass 0 max32) (λ n h. tt)
-    also none_passes Abort tt
-    also one_passes Recorded Name Show name name_passes (λ n h. tt)
-    also one_passes Recorded Number Show_node number number_passes (λ n h. tt)
-    also one_passes Recorded Number Show_line number number_passes (λ n h. tt)
-    also depends_passes
-    also none_passes Report tt
-    also none_passes Dump tt
-    also none_passes Compact tt
-    also none_passes Preview tt
-    also ambiguous_passes
-    also margin_passes
-    also none_passes Show_margin tt
+  by_forms : (rs : List (Field × (List Field → Read Command))) →
+      AllByRecursion (λ r. (fs : List Field) → IfOk (r.1 fs) (P r.0 fs)) rs → (w : Field) (fs : List Field) →
+      IfOk (read_by rs w fs) (P w fs)
+  by_forms [] h w fs = tt
+  by_forms (r ∷ rs) h w fs =
+      chosen (same_name w r.0) r.0 w fs (r.1 fs) (read_by rs w fs) refl (h.0 fs) (by_forms rs h.1 w fs)
+
+  -- what holds of the commands of each form, with its word, holds of what is read
+  pub of_forms : AllByRecursion (λ r. (fs : List Field) → IfOk (r.1 fs) (P r.0 fs)) forms → (w : Field)
+      (fs : List Field) (c : Command) → read (w ∷ fs) ≡ Ok c → P w fs c
+  of_forms h w fs c e = IfOk-at_ok (P w fs) e (by_forms forms h w fs)
+
+forms_fit : AllByRecursion (λ r. (fs : List Field) → IfOk (r.1 fs) (Fits r.0 fs)) forms
+forms_fit =
+    edit_fits (codes "node") (node_record Add_node) refl (node_record_passes Add_node (λ n c h. h))
+    also edit_fits (codes "move") (node_record Move_node) refl (node_record_passes Move_node (λ n c h. h))
+    also edit_fits (codes "drop-node") (one Drop_node number) refl
+    (one_passes EditOf (Ranged 1 max32) Drop_node number (ranged 1 max32) (λ f n h. (h.0, (h.1, tt))))
+    also edit_fits (codes "line") line_record refl line_record_passes
+    also edit_fits (codes "set-line") set_line_record refl set_line_record_passes
+    also edit_fits (codes "drop-line") (one Drop_line number) refl
+    (one_passes EditOf (Ranged 1 max32) Drop_line number (ranged 1 max32) (λ f n h. (h.0, (h.1, tt))))
+    also path_fits (codes "path") Add_path refl (λ n p h. h)
+    also asked_fits (codes "explain") Explain (λ f. Ok f) (λ f g. tt)
+    also path_fits (codes "repath") Set_path refl (λ n p h. h)
+    also one_passes (Fits (codes "drop-path")) NameOf (λ n. Make (Drop_path n)) name name_of (λ f n h. (h.0, (refl, (h.1, tt))))
+    also none_fits (codes "begin") Begin tt
+    also asked_fits (codes "commit") Commit amount (λ f n. tt)
+    also none_fits (codes "abort") Abort tt
+    also asked_fits (codes "show") Show name (λ f n. tt)
+    also asked_fits (codes "show-node") Show_node number (λ f n. tt)
+    also asked_fits (codes "show-line") Show_line number (λ f n. tt)
+    also depends_fits (codes "depends")
+    also none_fits (codes "report") Report (refl, refl)
+    also none_fits (codes "dump") Dump tt
+    also none_fits (codes "compact") Compact tt
+    also none_fits (codes "preview") Preview tt
+    also ambiguous_fits (codes "ambiguous")
+    also margin_fits (codes "margin") refl
+    also none_fits (codes "show-margin") Show_margin tt
     also tt
 
-recorded : (fields : List Field) → IfOk (read fields) Recorded
-recorded [] = tt
-recorded (word ∷ fs) = by_passes forms forms_pass word fs
+fits : (w : Field) (fs : List Field) (c : Command) → read (w ∷ fs) ≡ Ok c → Fits w fs c
+fits = of_forms Fits forms_fit
 
 pub read_recorded : (fields : List Field) (c : Command) → read fields ≡ Ok c → Recorded c
-read_recorded fields c e = subst (λ (r : Read Command). IfOk r Recorded) e (recorded fields)
+read_recorded [] c e = absurd cc
+read_recorded (w ∷ fs) (Make x) e = (fits w fs (Make x) e).0
+read_recorded (w ∷ fs) c e = tt
+
+-- the fields of a change are plain
+pub change_plain : (fields : List Field) (x : Change) → read fields ≡ Ok (Make x) → AllPlain fields
+change_plain [] x e = absurd cc
+change_plain (w ∷ fs) x e = (fits w fs (Make x) e).1
+
+-- a record that decodes to `report` is this word alone
+pub report_record : (fs : List Field) → length fs ≡ 1 → slice_index_or fs 0 [] ≡ codes "report" → read fs ≡ Ok Report
+report_record (w ∷ []) one e = let is : w ≡ codes "report" = e in rw is refl
+report_record fs one e = absurd (omega arith)
+
+pub report_word : (fs : List Field) → read fs ≡ Ok Report → slice_index_or fs 0 [] ≡ codes "report"
+report_word [] e = absurd cc
+report_word (w ∷ fs) e = (fits w fs Report e).0
+
+pub report_len : (fs : List Field) → read fs ≡ Ok Report → length fs ≡ 1
+report_len [] e = absurd cc
+report_len (w ∷ fs) e = ap suc (fits w fs Report e).1
 
 -- ---- its coordinates are in range
 
@@ -290,7 +366,7 @@ attributes_coords : (frc fow len : ℕ) (ss : List ShapePoint) → IsTrue (are_a
     IsTrue (are_coords ss)
 attributes_coords frc fow len ss h = grind (arith, all_weaker, place_coord, and_parts)
 
-edit_coords : (e : Edit) → OfEdit e → HasCoord e
+edit_coords : (e : Edit) → IsTrue (has_record (On_map e)) → HasCoord e
 edit_coords (Add_node v p) h = place_coord p (and_parts (is_number v) (is_place p) h).1
 edit_coords (Move_node v p) h = place_coord p (and_parts (is_number v) (is_place p) h).1
 edit_coords (Add_line x l) h = grind (arith, attributes_coords, and_parts)

@@ -4,7 +4,7 @@
 use Rattle.std.specs.Prelude.{◌≡◌, ◌≤◌, ◌+◌, ℕ, List, [], ◌∷◌, ◌++◌, drop, map, length, Option, Some, None, Result, Ok, Err, codes, decimal}
 use Rattle.std.specs.List.{concat}
 use Rattle.std.specs.Fmt.{signed_decimal}
-use Rattle.olr_spec.specs.Map.{MapFault, Node_exists, No_node, Line_exists, No_line, Node_in_use, Bad_shape}
+use Rattle.olr_spec.specs.Map.{Node_exists, No_node, Line_exists, No_line, Node_in_use, Bad_shape}
 use Rattle.olr_spec.specs.Reference.{Attrs, First, Middle, Last, Reference}
 use Rattle.olr_spec.specs.Encoding.{Refusal, Unknown_line, Broken, Offset_too_long, No_next_point}
 use Rattle.olr_spec.specs.Bytes.{Length, Flags, Reserved}
@@ -111,18 +111,15 @@ cause (Not_v3 Flags) = 3
 cause (Not_v3 Reserved) = 4
 cause Not_base64 = 6
 
-abbrev pub map_fault_text : MapFault → List ℕ
-map_fault_text Node_exists = fault_line 3 (codes "NodeExists") []
-map_fault_text No_node = fault_line 4 (codes "NoNode") []
-map_fault_text Line_exists = fault_line 5 (codes "LineExists") []
-map_fault_text No_line = fault_line 6 (codes "NoLine") []
-map_fault_text Node_in_use = fault_line 7 (codes "NodeInUse") []
-map_fault_text Bad_shape = fault_line 8 (codes "BadShape") []
-
 abbrev pub fault_text : Fault → List ℕ
 fault_text Syntax = fault_line 1 (codes "Syntax") []
 fault_text Range = fault_line 2 (codes "Range") []
-fault_text (Map_fault fault) = map_fault_text fault
+fault_text (Map_fault Node_exists) = fault_line 3 (codes "NodeExists") []
+fault_text (Map_fault No_node) = fault_line 4 (codes "NoNode") []
+fault_text (Map_fault Line_exists) = fault_line 5 (codes "LineExists") []
+fault_text (Map_fault No_line) = fault_line 6 (codes "NoLine") []
+fault_text (Map_fault Node_in_use) = fault_line 7 (codes "NodeInUse") []
+fault_text (Map_fault Bad_shape) = fault_line 8 (codes "BadShape") []
 fault_text Path_exists = fault_line 9 (codes "PathExists") []
 fault_text No_path = fault_line 10 (codes "NoPath") []
 fault_text Bad_path = fault_line 11 (codes "BadPath") []

@@ -3,12 +3,10 @@ ghost use Rattle.std.specs.Prelude.{◌≡◌};
 ghost use Rattle.olr_commands.specs.Words.{command_fault_of, map_fault_of, text_fault_of};
 ghost use Rattle.olr_records.specs.ReplyText as texts;
 ghost use Rattle.olr_records.specs.Words.{read_fault_of};
-ghost use Rattle.olr_records.specs.declared.faults.ReadFault.TheVariants.{Memory};
 
 use olr_binary::{TextFault, V3Fault};
 use olr_commands::CommandFault;
 use olr_model::EditFault;
-use std::alloc::{AllocError, AllocFailed};
 use thiserror::Error;
 
 /// Why a record decodes to no command.
@@ -23,22 +21,6 @@ pub enum ReadFault {
     /// Out of memory while reading it.
     #[error("Memory")]
     Memory,
-}
-
-impl From<AllocError> for ReadFault {
-    ghost from_gives = { λ _ fault. fault ≡ Memory };
-
-    fn from(_error: AllocError) -> ReadFault {
-        ReadFault::Memory
-    }
-}
-
-impl<T: Drop> From<AllocFailed<T>> for ReadFault {
-    ghost from_gives = { λ _ fault. fault ≡ Memory };
-
-    fn from(_error: AllocFailed<T>) -> ReadFault {
-        ReadFault::Memory
-    }
 }
 
 /// The line of out of memory, which has one number wherever it was reported.

@@ -28,6 +28,7 @@ const TOO_GREAT: u64 = 1 << 32;
 const FEW_DIGITS: usize = 18;
 
 /// The field at index `k`, or no bytes past the last one.
+#[tactic(auto, using(crate::proofs::FieldLemmas::field_is))]
 pub(crate) fn field(fields: &ByteRecord, k: usize) -> &[u8]
     ensures { result.now ≡ slice_index_or (fields_of fields.now) k [] }
 {
@@ -155,5 +156,5 @@ pub(crate) fn name(alloc: Global, field: &[u8]) -> Result<String, ReadFault>
     }
     // The bytes of a name are ASCII.
     let text = unsafe { std::str::from_utf8_unchecked(field) };
-    Ok(String::from_str(alloc, text)?)
+    String::from_str(alloc, text).or(Err(ReadFault::Memory))
 }

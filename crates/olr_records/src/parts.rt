@@ -32,10 +32,10 @@ pub(crate) fn both<A: Drop, B: Drop>(
 }
 
 /// No items yet, with capacity for `count` of them.
-pub(crate) fn room<T>(alloc: Global, count: usize) -> Result<Vec<T>, ReadFault>
+pub(crate) fn room<T: Drop>(alloc: Global, count: usize) -> Result<Vec<T>, ReadFault>
     ensures { Gathers (λ _. ⊤) (λ v. v.items) (Ok []) result }
 {
-    Ok(Vec::with_capacity(alloc, count)?)
+    Vec::with_capacity(alloc, count).or(Err(ReadFault::Memory))
 }
 
 /// The items read so far, with one more.
@@ -48,6 +48,6 @@ pub(crate) fn with_item<T: Drop>(
         → Gathers (λ _. ⊤) (λ v. v.items) (Ok (λ ts t. ts ++ t ∷ []) ⊛ xs ⊛ x) result }
 {
     let (mut items, item) = both(items, item)?;
-    items.push(item)?;
+    items.push(item).or(Err(ReadFault::Memory))?;
     Ok(items)
 }

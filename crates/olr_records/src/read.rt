@@ -28,7 +28,7 @@ pub fn read_command(alloc: Global, fields: &ByteRecord) -> Result<Command, ReadF
 }
 
 /// Whether a record decodes to the command `report`.
-#[tactic(auto, using(crate::proofs::ReadLemmas::report_record, crate::proofs::FirstFields::report_len, crate::proofs::FirstFields::report_word))]
+#[tactic(auto, using(crate::proofs::ReadLemmas::report_record, crate::proofs::ReadLemmas::report_len, crate::proofs::ReadLemmas::report_word))]
 pub fn is_report(fields: &ByteRecord) -> bool
     ensures { IsTrue result ↔ (records.read (fields_of fields.now) ≡ Ok Report) }
 {
@@ -136,7 +136,7 @@ fn explain(alloc: Global, fields: &ByteRecord) -> Result<Command, ReadFault>
 {
     let field = only_field(fields)?;
     let mut text = Vec::new(alloc);
-    text.extend_from_slice(field)?;
+    text.extend_from_slice(field).or(Err(ReadFault::Memory))?;
     Ok(Command::Explain(text))
 }
 

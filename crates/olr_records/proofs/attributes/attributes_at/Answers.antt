@@ -1,29 +1,22 @@
-use Rattle.olr_records.proofs.Common.{fields_of, ShapePoint, Field, Read, ◌⊛◌, class, shape, Reads}
-use Rattle.std.proofs.Common.{rules, ℕ, ◌+◌, ◌<◌, List, drop, length, Ok, subst}
+use Rattle.olr_records.proofs.Common.{fields_of, ShapePoint, class, shape}
+use Rattle.std.proofs.Common.{rules, ℕ, ◌+◌, ◌<◌, List, drop, length}
 use Rattle.olr_records.specs.Records.{digits}
 use Rattle.olr_records.proofs.LoopLemmas.{at}
-use Rattle.olr_records.proofs.PartLemmas.{no-memory, first-part, parts, both-parts, handed-on}
+use Rattle.olr_records.proofs.PartLemmas.{Part, Never, of_field, made, joins, passed_on}
 use Rattle.olr_records.proofs.attributes.attributes_at.Goals as goal
 
 pub returns-in_err-frc : goal.returns-in_err-frc
 returns-in_err-frc c =
     let fs = fields_of c.args.fields.now in
     let k : ℕ = c.args.k in
-    let front : Read (List ShapePoint → ℕ × ℕ × ℕ × List ShapePoint) =
-    Ok (λ a b c d. (a, b, c, d)) ⊛ class (at fs k) ⊛ class (at fs (k + 1)) ⊛ digits 1 1000000 (at fs (k + 2)) in
-    let frc = subst (λ (f : Field). Reads (λ n. n) (class f) c.class.result) c.field.ensures c.class.ensures in
-    let fow = subst (λ (f : Field). Reads (λ n. n) (class f) c.class-2.result) c.field-2.ensures c.class-2.ensures in
-    let len =
-    subst (λ (f : Field). Reads (λ n. n) (digits 1 1000000 f) c.length.result) c.field-3.ensures c.length.ensures in
-    let classes =
-    parts _ _ _ (class (at fs (k + 1))) c.class.result c.class-2.result c.both-classes.result c.both-classes.ensures
-    (first-part (λ a b c d. (a, b, c, d)) (λ n. n) (class (at fs k)) c.class.result frc) fow in
-    let measured =
-    parts _ _ _ (digits 1 1000000 (at fs (k + 2))) c.both-classes.result c.length.result c.both-measured.result
-    c.both-measured.ensures classes len in
-    handed-on (λ p. 0 < length p.3) _ _ (front ⊛ shape (drop (k + 3) fs)) c.both.result c.from_residual.result
-    c.in_err-frc.field-0.0 c.in_err-frc.was (search rules)
-    (both-parts (λ _. ⊥) (λ ps. 0 < length ps) (λ p. 0 < length p.3) _ (λ v. v.items) front (shape (drop (k + 3) fs))
-    c.both-measured.result c.shape.result c.both.result c.both.ensures
-    (λ g b never. absurd never) (λ a b some. some) (no-memory (λ _. ⊥) _ front c.both-measured.result measured)
-    c.shape.ensures)
+    let all : ℕ → ℕ → ℕ → List ShapePoint → ℕ × ℕ × ℕ × List ShapePoint = λ a b c d. (a, b, c, d) in
+    let frc = of_field class (λ n. n) _ (at fs k) c.class.result c.field.ensures c.class.ensures in
+    let fow = of_field class (λ n. n) _ (at fs (k + 1)) c.class-2.result c.field-2.ensures c.class-2.ensures in
+    let len = of_field (digits 1 1000000) (λ n. n) _ (at fs (k + 2)) c.length.result c.field-3.ensures c.length.ensures in
+    let points : Part (λ ps. 0 < length ps) (λ v. v.items) (shape (drop (k + 3) fs)) c.shape.result =
+    record { is = c.shape.ensures } in
+    let classes = joins Never c.both-classes.ensures (made Never all frc (λ b never. never)) fow (λ g b never. never)
+    (λ a b never. never) in
+    let measured = joins Never c.both-measured.ensures classes len (λ g b never. never) (λ a b never. never) in
+    passed_on _ c.from_residual.result c.in_err-frc.field-0.0 c.in_err-frc.was (search rules)
+    (joins (λ p. 0 < length p.3) c.both.ensures measured points (λ g b never. absurd never) (λ a b some. some))

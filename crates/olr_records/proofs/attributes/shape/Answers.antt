@@ -1,6 +1,6 @@
 use Rattle.olr_records.proofs.Common.{⊤, length-drop, fields_of, ShapePoint, Read, point, shape, Gathers, Reads}
-use Rattle.std.proofs.Common.{rules, List, ℕ, ◌+◌, ◌<◌, ◌≤◌, drop, length, subst, arith}
-use Rattle.olr_records.proofs.LoopLemmas.{at, with, nothing-onto, shape-end, shape-more, shape-over, gathers-only}
+use Rattle.std.proofs.Common.{rules, List, ℕ, ◌+◌, ◌<◌, ◌≤◌, drop, length, subst, arith, refl}
+use Rattle.olr_records.proofs.LoopLemmas.{at, with, nothing-onto, at_end, shape-more, shape-over, gathers-only}
 use Rattle.olr_records.proofs.LoopLemmas.{some-points}
 use Rattle.olr_records.proofs.attributes.shape.Goals as goal
 
@@ -38,7 +38,7 @@ returns c =
     let fs = fields_of c.args.fields.now in
     let whole = shape (drop c.args.start fs) in
     let read = subst (λ (x : Read (List ShapePoint)). Gathers (λ _. ⊤) (λ v. v.items) x c.loop-k.points)
-    (shape-end fs c.loop-k.k c.loop-k.invariant.gathered.0 whole (omega arith) c.loop-k.invariant.gathered.2)
+    (at_end fs c.loop-k.k shape c.loop-k.invariant.gathered.0 whole refl (omega arith) c.loop-k.invariant.gathered.2)
     c.loop-k.invariant.gathered.1
     in
     gathers-only (λ _. ⊤) (λ ps. 0 < length ps) (λ v. v.items) whole c.loop-k.points

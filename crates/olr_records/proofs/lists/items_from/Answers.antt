@@ -1,7 +1,7 @@
 use Rattle.olr_records.proofs.Common.{⊤, fields_of, Field, Read, Gathers, Reads, items}
 use Rattle.std.proofs.Common.{arith, refl, subst, drop, List, Ok, []}
 use Rattle.std.proofs.lemmas.Fn.{says_at}
-use Rattle.olr_records.proofs.LoopLemmas.{at, with, nothing-onto, items-more, items-end}
+use Rattle.olr_records.proofs.LoopLemmas.{at, with, nothing-onto, items-more, at_end}
 use Rattle.olr_records.proofs.lists.items_from.Goals as goal
 
 pub loop-k-init : goal.loop-k-init
@@ -25,4 +25,4 @@ returns g c =
     let fs = fields_of c.args.fields.now in
     let so_far = c.loop-k.invariant one by in
     subst (λ (x : Read (List _)). Gathers (λ _. ⊤) (λ v. v.items) x c.loop-k.items)
-    (items-end fs c.loop-k.k one so_far.0 (items one (drop c.args.start fs)) (omega arith) so_far.2) so_far.1
+    (at_end fs c.loop-k.k (items one) so_far.0 (items one (drop c.args.start fs)) refl (omega arith) so_far.2) so_far.1

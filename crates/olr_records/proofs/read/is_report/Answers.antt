@@ -1,6 +1,6 @@
 use Rattle.std.proofs.Common.{arith}
 use Rattle.csv.specs.Records.{fields_of}
-use Rattle.olr_records.proofs.FirstFields.{report_len}
+use Rattle.olr_records.proofs.ReadLemmas.{report_len}
 use Rattle.olr_records.proofs.read.is_report.Goals as goal
 
 -- src/read.rt:44:1
