@@ -1,9 +1,9 @@
 -- The values of the worked rows of records.
-use Rattle.std.specs.Prelude.{ℕ, ℤ, pos, neg_ℤ, List, [], ◌∷◌, ◌++◌, flat_map, codes}
+use Rattle.std.specs.Prelude.{ℕ, ℤ, pos, neg_ℤ, List, [], ◌∷◌, ◌++◌, ◌==◌, if◌then◌else◌, flat_map, codes}
 use Rattle.olr_spec.specs.Coordinates.{Coord}
 use Rattle.olr_spec.specs.Map.{Add_node, Add_line}
-use Rattle.olr_commands.specs.State.{Change, On_map, Add_path}
-use Rattle.olr_records.specs.Records.{line_between}
+use Rattle.olr_commands.specs.State.{Change, Command, On_map, Add_path}
+use Rattle.olr_records.specs.Records.{line_between, Read, read}
 
 -- a coordinate in units
 abbrev pub at : ℤ → ℤ → Coord
@@ -11,6 +11,19 @@ at lon lat = record { lon = lon; lat = lat }
 
 abbrev pub zero : Coord
 zero = at (pos 0) (pos 0)
+
+-- the fields of a text, which are separated by commas
+abbrev pub before_fields : ℕ → List (List ℕ) → List (List ℕ)
+before_fields b [] = (b ∷ []) ∷ []
+before_fields b (field ∷ fields) = (b ∷ field) ∷ fields
+
+abbrev pub fields_of : List ℕ → List (List ℕ)
+fields_of [] = [] ∷ []
+fields_of (b ∷ bytes) = if b == 44 then [] ∷ fields_of bytes else before_fields b (fields_of bytes)
+
+-- the command of a record without quotes
+abbrev pub read_text : List ℕ → Read Command
+read_text text = read (fields_of text)
 
 -- a text of these lines
 abbrev pub text_of_lines : List (List ℕ) → List ℕ

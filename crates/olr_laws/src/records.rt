@@ -15,7 +15,7 @@ ghost use Rattle.olr_records.specs.Records.{line_between, read, Bad_form, Out_of
 ghost use Rattle.olr_records.specs.ReplyText.{reply_text, fault_text};
 ghost use Rattle.olr_laws.specs.RecordLaws as Laws;
 ghost use Rattle.olr_laws.specs.MarginRows.{fifty};
-ghost use Rattle.olr_laws.specs.RecordRows.{at, zero, text_of_lines, changes1};
+ghost use Rattle.olr_laws.specs.RecordRows.{at, zero, read_text, text_of_lines, changes1};
 ghost use Rattle.olr_laws.specs.Rows.{reference1};
 ghost use Rattle.olr_laws.specs.CommandRows.{reference2};
 
@@ -35,128 +35,108 @@ pub fn laws_of_records()
 
 /// Records of a node.
 pub fn rows_nodes()
-    ensures node { read (codes "node" ∷ codes "1" ∷ codes "6.12683" ∷ codes "49.60852" ∷ [])
+    ensures node { read_text (codes "node,1,6.12683,49.60852")
         ≡ Ok (Make (On_map (Add_node 1 (at (pos 2007639654400) (pos 16255719833600))))) }
-    ensures zeros { read (codes "node" ∷ codes "0000000000000000000000000000000000000000001" ∷ codes "0" ∷ codes "0"
-        ∷ []) ≡ Ok (Make (On_map (Add_node 1 zero))) }
-    ensures many { read (codes "node" ∷ codes "99999999999999999999999999999999999999999999" ∷ codes "0" ∷ codes "0"
-        ∷ []) ≡ Err Out_of_range }
-    ensures none { read (codes "node" ∷ codes "0" ∷ codes "0" ∷ codes "0" ∷ []) ≡ Err Out_of_range }
-    ensures greatest { read (codes "drop-node" ∷ codes "4294967295" ∷ []) ≡ Ok (Make (On_map (Drop_node 4294967295))) }
-    ensures beyond { read (codes "drop-node" ∷ codes "4294967296" ∷ []) ≡ Err Out_of_range }
-    ensures four_digits { read (codes "node" ∷ codes "1" ∷ codes "1800" ∷ codes "0" ∷ []) ≡ Err Bad_form }
-    ensures plus { read (codes "node" ∷ codes "1" ∷ codes "+1" ∷ codes "0" ∷ []) ≡ Err Bad_form }
-    ensures point_last { read (codes "node" ∷ codes "1" ∷ codes "1." ∷ codes "0" ∷ []) ≡ Err Bad_form }
-    ensures point_first { read (codes "node" ∷ codes "1" ∷ codes ".5" ∷ codes "0" ∷ []) ≡ Err Bad_form }
-    ensures far { read (codes "node" ∷ codes "1" ∷ codes "181" ∷ codes "0" ∷ []) ≡ Err Out_of_range }
-    ensures near_date_line { read (codes "node" ∷ codes "1" ∷ codes "179.99991" ∷ codes "0" ∷ []) ≡ Err Out_of_range }
-    ensures pole { read (codes "node" ∷ codes "1" ∷ codes "0" ∷ codes "90" ∷ []) ≡ Err Out_of_range }
-    ensures corner { read (codes "node" ∷ codes "1" ∷ codes "-180" ∷ codes "89.9999" ∷ [])
-        ≡ Ok (Make (On_map (Add_node 1 (at (neg_ℤ (pos 58982400000000)) (pos 29491167232000))))) }
-    ensures minus_zero { read (codes "node" ∷ codes "1" ∷ codes "-0" ∷ codes "0" ∷ [])
+    ensures zeros { read_text (codes "node,0000000000000000000000000000000000000000001,0,0")
         ≡ Ok (Make (On_map (Add_node 1 zero))) }
-    ensures form_first { read (codes "node" ∷ codes "x" ∷ codes "181" ∷ codes "0" ∷ []) ≡ Err Bad_form }
-    ensures form_last { read (codes "node" ∷ codes "0" ∷ codes "181" ∷ codes "x" ∷ []) ≡ Err Bad_form }
-    ensures moved { read (codes "move" ∷ codes "5" ∷ codes "7.1" ∷ codes "50" ∷ [])
+    ensures many { read_text (codes "node,99999999999999999999999999999999999999999999,0,0") ≡ Err Out_of_range }
+    ensures none { read_text (codes "node,0,0,0") ≡ Err Out_of_range }
+    ensures greatest { read_text (codes "drop-node,4294967295") ≡ Ok (Make (On_map (Drop_node 4294967295))) }
+    ensures beyond { read_text (codes "drop-node,4294967296") ≡ Err Out_of_range }
+    ensures four_digits { read_text (codes "node,1,1800,0") ≡ Err Bad_form }
+    ensures plus { read_text (codes "node,1,+1,0") ≡ Err Bad_form }
+    ensures point_last { read_text (codes "node,1,1.,0") ≡ Err Bad_form }
+    ensures point_first { read_text (codes "node,1,.5,0") ≡ Err Bad_form }
+    ensures far { read_text (codes "node,1,181,0") ≡ Err Out_of_range }
+    ensures near_date_line { read_text (codes "node,1,179.99991,0") ≡ Err Out_of_range }
+    ensures pole { read_text (codes "node,1,0,90") ≡ Err Out_of_range }
+    ensures corner { read_text (codes "node,1,-180,89.9999")
+        ≡ Ok (Make (On_map (Add_node 1 (at (neg_ℤ (pos 58982400000000)) (pos 29491167232000))))) }
+    ensures minus_zero { read_text (codes "node,1,-0,0") ≡ Ok (Make (On_map (Add_node 1 zero))) }
+    ensures form_first { read_text (codes "node,x,181,0") ≡ Err Bad_form }
+    ensures form_last { read_text (codes "node,0,181,x") ≡ Err Bad_form }
+    ensures moved { read_text (codes "move,5,7.1,50")
         ≡ Ok (Make (On_map (Move_node 5 (at (pos 2326528000000) (pos 16384000000000))))) }
 {}
 
 /// Records of a line.
 pub fn rows_lines()
-    ensures two_points { read
-        (codes "line" ∷ codes "10" ∷ codes "1" ∷ codes "2" ∷ codes "3" ∷ codes "2" ∷ codes "5610" ∷ codes "200" ∷ codes
-        "6.12701" ∷ codes "49.60838" ∷ codes "5410" ∷ codes "6.1282" ∷ codes "49.60413" ∷ [])
+    ensures two_points { read_text (codes "line,10,1,2,3,2,5610,200,6.12701,49.60838,5410,6.1282,49.60413")
         ≡ Ok (Make (On_map (Add_line 10
         (line_between 1 2 3 2 5610 (record { at = 200; place = (at (pos 2007698636800) (pos 16255673958400)) }
         ∷ record { at = 5410; place = (at (pos 2008088576000) (pos 16254281318400)) } ∷ []))))) }
-    ensures no_shape { read (codes "line" ∷ codes "99" ∷ codes "2" ∷ codes "3" ∷ codes "4" ∷ codes "3" ∷ codes "1500"
-        ∷ []) ≡ Ok (Make (On_map (Add_line 99 (line_between 2 3 4 3 1500 [])))) }
-    ensures two_of_three { read
-        (codes "line" ∷ codes "10" ∷ codes "1" ∷ codes "2" ∷ codes "0" ∷ codes "1" ∷ codes "100" ∷ codes "50" ∷ codes
-        "0" ∷ []) ≡ Err Bad_form }
-    ensures one_of_three { read
-        (codes "line" ∷ codes "10" ∷ codes "1" ∷ codes "2" ∷ codes "0" ∷ codes "1" ∷ codes "100" ∷ codes "50" ∷ [])
-        ≡ Err Bad_form }
-    ensures class_8 { read (codes "line" ∷ codes "10" ∷ codes "1" ∷ codes "2" ∷ codes "8" ∷ codes "0" ∷ codes "1" ∷ [])
-        ≡ Err Out_of_range }
-    ensures long { read (codes "line" ∷ codes "10" ∷ codes "1" ∷ codes "2" ∷ codes "0" ∷ codes "0" ∷ codes "1000001"
-        ∷ []) ≡ Err Out_of_range }
-    ensures no_length { read
-        (codes "line" ∷ codes "10" ∷ codes "1" ∷ codes "2" ∷ codes "0" ∷ codes "0" ∷ codes "0" ∷ [])
-        ≡ Err Out_of_range }
-    ensures far_shape { read
-        (codes "line" ∷ codes "10" ∷ codes "1" ∷ codes "2" ∷ codes "0" ∷ codes "0" ∷ codes "1000000" ∷ codes "1000000"
-        ∷ codes "0" ∷ codes "0" ∷ []) ≡ Err Out_of_range }
-    ensures shape_past_the_end { read (codes "line" ∷ codes "98" ∷ codes "2" ∷ codes "3" ∷ codes "4" ∷ codes "3" ∷
-        codes "1500" ∷ codes "1500" ∷ codes "0" ∷ codes "0" ∷ []) ≡ Ok (Make (On_map (Add_line 98
-        (line_between 2 3 4 3 1500 (record { at = 1500; place = (at (pos 0) (pos 0)) } ∷ []))))) }
-    ensures set { read (codes "set-line" ∷ codes "99" ∷ codes "4" ∷ codes "3" ∷ codes "2000" ∷ [])
-        ≡ Ok (Make (On_map (Set_line 99 4 3 2000 []))) }
-    ensures set_shape { read
-        (codes "set-line" ∷ codes "99" ∷ codes "4" ∷ codes "3" ∷ codes "2000" ∷ codes "1" ∷ codes "0" ∷ codes "0" ∷ [])
-        ≡ Ok (Make (On_map (Set_line 99 4 3 2000 (record { at = 1; place = (at (pos 0) (pos 0)) } ∷ [])))) }
-    ensures dropped { read (codes "drop-line" ∷ codes "99" ∷ []) ≡ Ok (Make (On_map (Drop_line 99))) }
-    ensures form_last { read
-        (codes "line" ∷ codes "10" ∷ codes "1" ∷ codes "2" ∷ codes "8" ∷ codes "0" ∷ codes "1" ∷ codes "x" ∷ codes "0"
-        ∷ codes "0" ∷ []) ≡ Err Bad_form }
+    ensures no_shape { read_text (codes "line,99,2,3,4,3,1500")
+        ≡ Ok (Make (On_map (Add_line 99 (line_between 2 3 4 3 1500 [])))) }
+    ensures two_of_three { read_text (codes "line,10,1,2,0,1,100,50,0") ≡ Err Bad_form }
+    ensures one_of_three { read_text (codes "line,10,1,2,0,1,100,50") ≡ Err Bad_form }
+    ensures class_8 { read_text (codes "line,10,1,2,8,0,1") ≡ Err Out_of_range }
+    ensures long { read_text (codes "line,10,1,2,0,0,1000001") ≡ Err Out_of_range }
+    ensures no_length { read_text (codes "line,10,1,2,0,0,0") ≡ Err Out_of_range }
+    ensures far_shape { read_text (codes "line,10,1,2,0,0,1000000,1000000,0,0") ≡ Err Out_of_range }
+    ensures shape_past_the_end { read_text (codes "line,98,2,3,4,3,1500,1500,0,0") ≡ Ok (Make (On_map (Add_line 98
+        (line_between 2 3 4 3 1500 (record { at = 1500; place = zero } ∷ []))))) }
+    ensures set { read_text (codes "set-line,99,4,3,2000") ≡ Ok (Make (On_map (Set_line 99 4 3 2000 []))) }
+    ensures set_shape { read_text (codes "set-line,99,4,3,2000,1,0,0")
+        ≡ Ok (Make (On_map (Set_line 99 4 3 2000 (record { at = 1; place = zero } ∷ [])))) }
+    ensures dropped { read_text (codes "drop-line,99") ≡ Ok (Make (On_map (Drop_line 99))) }
+    ensures form_last { read_text (codes "line,10,1,2,8,0,1,x,0,0") ≡ Err Bad_form }
 {}
 
 /// Records of a path, and the remaining records.
 pub fn rows_paths()
-    ensures path { read (codes "path" ∷ codes "a" ∷ codes "1500" ∷ codes "0" ∷ codes "10" ∷ codes "20" ∷ codes "30"
-        ∷ []) ≡ Ok (Make (Add_path (codes "a") (record { lines = 10 ∷ 20 ∷ 30 ∷ []; pos = 1500; neg = 0 }))) }
-    ensures no_lines { read (codes "path" ∷ codes "a" ∷ codes "0" ∷ codes "0" ∷ [])
+    ensures path { read_text (codes "path,a,1500,0,10,20,30")
+        ≡ Ok (Make (Add_path (codes "a") (record { lines = 10 ∷ 20 ∷ 30 ∷ []; pos = 1500; neg = 0 }))) }
+    ensures no_lines { read_text (codes "path,a,0,0")
         ≡ Ok (Make (Add_path (codes "a") (record { lines = []; pos = 0; neg = 0 }))) }
-    ensures twice { read (codes "path" ∷ codes "d" ∷ codes "0" ∷ codes "0" ∷ codes "10" ∷ codes "10" ∷ [])
+    ensures twice { read_text (codes "path,d,0,0,10,10")
         ≡ Ok (Make (Add_path (codes "d") (record { lines = 10 ∷ 10 ∷ []; pos = 0; neg = 0 }))) }
-    ensures no_name { read (codes "path" ∷ [] ∷ codes "0" ∷ codes "0" ∷ codes "1" ∷ []) ≡ Err Bad_form }
-    ensures far { read (codes "path" ∷ codes "a" ∷ codes "4294967296" ∷ codes "0" ∷ codes "10" ∷ [])
-        ≡ Err Out_of_range }
-    ensures line_0 { read (codes "path" ∷ codes "a" ∷ codes "0" ∷ codes "0" ∷ codes "0" ∷ []) ≡ Err Out_of_range }
-    ensures again { read (codes "repath" ∷ codes "b" ∷ codes "0" ∷ codes "0" ∷ codes "10" ∷ [])
+    ensures no_name { read_text (codes "path,,0,0,1") ≡ Err Bad_form }
+    ensures far { read_text (codes "path,a,4294967296,0,10") ≡ Err Out_of_range }
+    ensures line_0 { read_text (codes "path,a,0,0,0") ≡ Err Out_of_range }
+    ensures again { read_text (codes "repath,b,0,0,10")
         ≡ Ok (Make (Set_path (codes "b") (record { lines = 10 ∷ []; pos = 0; neg = 0 }))) }
-    ensures dropped { read (codes "drop-path" ∷ codes "b" ∷ []) ≡ Ok (Make (Drop_path (codes "b"))) }
-    ensures show { read (codes "show" ∷ codes "a" ∷ []) ≡ Ok (Show (codes "a")) }
-    ensures all_kinds { read (codes "show" ∷ codes "aZ0-_." ∷ []) ≡ Ok (Show (codes "aZ0-_.")) }
-    ensures space { read (codes "show" ∷ codes "a b" ∷ []) ≡ Err Bad_form }
-    ensures of_64 { read (codes "show" ∷ codes "aaaaaaaaaaaaaaaaaaaaaaaaaaaaaaaaaaaaaaaaaaaaaaaaaaaaaaaaaaaaaaaa" ∷ [])
+    ensures dropped { read_text (codes "drop-path,b") ≡ Ok (Make (Drop_path (codes "b"))) }
+    ensures show { read_text (codes "show,a") ≡ Ok (Show (codes "a")) }
+    ensures all_kinds { read_text (codes "show,aZ0-_.") ≡ Ok (Show (codes "aZ0-_.")) }
+    ensures space { read_text (codes "show,a b") ≡ Err Bad_form }
+    ensures of_64 { read_text (codes "show,aaaaaaaaaaaaaaaaaaaaaaaaaaaaaaaaaaaaaaaaaaaaaaaaaaaaaaaaaaaaaaaa")
         ≡ Ok (Show (codes "aaaaaaaaaaaaaaaaaaaaaaaaaaaaaaaaaaaaaaaaaaaaaaaaaaaaaaaaaaaaaaaa")) }
-    ensures of_65 { read (codes "show" ∷ codes "aaaaaaaaaaaaaaaaaaaaaaaaaaaaaaaaaaaaaaaaaaaaaaaaaaaaaaaaaaaaaaaaa" ∷ [])
+    ensures of_65 { read_text (codes "show,aaaaaaaaaaaaaaaaaaaaaaaaaaaaaaaaaaaaaaaaaaaaaaaaaaaaaaaaaaaaaaaaa")
         ≡ Err Bad_form }
-    ensures report { read (codes "report" ∷ []) ≡ Ok Report }
-    ensures dump { read (codes "dump" ∷ []) ≡ Ok Dump }
-    ensures compact { read (codes "compact" ∷ []) ≡ Ok Compact }
-    ensures preview { read (codes "preview" ∷ []) ≡ Ok Preview }
-    ensures ambiguous { read (codes "ambiguous" ∷ []) ≡ Ok (Ambiguous None) }
-    ensures ambiguous_one { read (codes "ambiguous" ∷ codes "a" ∷ []) ≡ Ok (Ambiguous (Some (codes "a"))) }
-    ensures ambiguous_two { read (codes "ambiguous" ∷ codes "a" ∷ codes "b" ∷ []) ≡ Err Bad_form }
-    ensures ambiguous_nothing { read (codes "ambiguous" ∷ [] ∷ []) ≡ Err Bad_form }
-    ensures dump_more { read (codes "dump" ∷ codes "a" ∷ []) ≡ Err Bad_form }
-    ensures report_more { read (codes "report" ∷ [] ∷ []) ≡ Err Bad_form }
-    ensures explain { read (codes "explain" ∷ codes "*" ∷ []) ≡ Ok (Explain (codes "*")) }
-    ensures explain_nothing { read (codes "explain" ∷ [] ∷ []) ≡ Ok (Explain []) }
-    ensures explain_alone { read (codes "explain" ∷ []) ≡ Err Bad_form }
-    ensures begin { read (codes "begin" ∷ []) ≡ Ok Begin }
-    ensures commit { read (codes "commit" ∷ codes "100000" ∷ []) ≡ Ok (Commit 100000) }
-    ensures commit_0 { read (codes "commit" ∷ codes "0" ∷ []) ≡ Ok (Commit 0) }
-    ensures commit_far { read (codes "commit" ∷ codes "4294967296" ∷ []) ≡ Err Out_of_range }
-    ensures commit_alone { read (codes "commit" ∷ []) ≡ Err Bad_form }
-    ensures abort { read (codes "abort" ∷ []) ≡ Ok Abort }
-    ensures capital { read (codes "Report" ∷ []) ≡ Err Bad_form }
+    ensures report { read_text (codes "report") ≡ Ok Report }
+    ensures dump { read_text (codes "dump") ≡ Ok Dump }
+    ensures compact { read_text (codes "compact") ≡ Ok Compact }
+    ensures preview { read_text (codes "preview") ≡ Ok Preview }
+    ensures ambiguous { read_text (codes "ambiguous") ≡ Ok (Ambiguous None) }
+    ensures ambiguous_one { read_text (codes "ambiguous,a") ≡ Ok (Ambiguous (Some (codes "a"))) }
+    ensures ambiguous_two { read_text (codes "ambiguous,a,b") ≡ Err Bad_form }
+    ensures ambiguous_nothing { read_text (codes "ambiguous,") ≡ Err Bad_form }
+    ensures dump_more { read_text (codes "dump,a") ≡ Err Bad_form }
+    ensures report_more { read_text (codes "report,") ≡ Err Bad_form }
+    ensures explain { read_text (codes "explain,*") ≡ Ok (Explain (codes "*")) }
+    ensures explain_nothing { read_text (codes "explain,") ≡ Ok (Explain []) }
+    ensures explain_alone { read_text (codes "explain") ≡ Err Bad_form }
+    ensures begin { read_text (codes "begin") ≡ Ok Begin }
+    ensures commit { read_text (codes "commit,100000") ≡ Ok (Commit 100000) }
+    ensures commit_0 { read_text (codes "commit,0") ≡ Ok (Commit 0) }
+    ensures commit_far { read_text (codes "commit,4294967296") ≡ Err Out_of_range }
+    ensures commit_alone { read_text (codes "commit") ≡ Err Bad_form }
+    ensures abort { read_text (codes "abort") ≡ Ok Abort }
+    ensures capital { read_text (codes "Report") ≡ Err Bad_form }
     ensures nothing { read [] ≡ Err Bad_form }
 {}
 
 /// Records of the margin.
 pub fn rows_margin_records()
-    ensures margin { read (codes "margin" ∷ codes "50" ∷ codes "1" ∷ []) ≡ Ok (Make (Set_margin fifty)) }
-    ensures greatest { read (codes "margin" ∷ codes "1000" ∷ codes "7" ∷ [])
+    ensures margin { read_text (codes "margin,50,1") ≡ Ok (Make (Set_margin fifty)) }
+    ensures greatest { read_text (codes "margin,1000,7")
         ≡ Ok (Make (Set_margin (record { routes = 1000; classes = 7 }))) }
-    ensures beyond { read (codes "margin" ∷ codes "1001" ∷ codes "0" ∷ []) ≡ Err Out_of_range }
-    ensures class_beyond { read (codes "margin" ∷ codes "0" ∷ codes "8" ∷ []) ≡ Err Out_of_range }
-    ensures routes_alone { read (codes "margin" ∷ codes "50" ∷ []) ≡ Err Bad_form }
-    ensures form_first { read (codes "margin" ∷ codes "1001" ∷ codes "x" ∷ []) ≡ Err Bad_form }
-    ensures show { read (codes "show-margin" ∷ []) ≡ Ok Show_margin }
-    ensures show_more { read (codes "show-margin" ∷ [] ∷ []) ≡ Err Bad_form }
+    ensures beyond { read_text (codes "margin,1001,0") ≡ Err Out_of_range }
+    ensures class_beyond { read_text (codes "margin,0,8") ≡ Err Out_of_range }
+    ensures routes_alone { read_text (codes "margin,50") ≡ Err Bad_form }
+    ensures form_first { read_text (codes "margin,1001,x") ≡ Err Bad_form }
+    ensures show { read_text (codes "show-margin") ≡ Ok Show_margin }
+    ensures show_more { read_text (codes "show-margin,") ≡ Err Bad_form }
 {}
 
 /// Texts of replies.
@@ -166,8 +146,7 @@ pub fn rows_replies()
     ensures text { reply_text
         (reply.Paths (record { name = codes "a"; published = Ok (codes "CwRbWyNG9RpsCQCb/jsaHA==") } ∷ []))
         ≡ text_of_lines (codes "ok,1" ∷ codes "a,text,CwRbWyNG9RpsCQCb/jsaHA==" ∷ []) }
-    ensures refusals { reply_text
-        (reply.Paths (record { name = codes "a"; published = Err (encoding.Unknown_line 20) }
+    ensures refusals { reply_text (reply.Paths (record { name = codes "a"; published = Err (encoding.Unknown_line 20) }
         ∷ record { name = codes "b"; published = Err (encoding.Broken 0) }
         ∷ record { name = codes "c"; published = Err encoding.Offset_too_long }
         ∷ record { name = codes "d"; published = Err (encoding.No_next_point 0) } ∷ []))
@@ -175,8 +154,7 @@ pub fn rows_replies()
         "d,refused,4,0" ∷ []) }
     ensures fields { reply_text (reply.Fields reference1)
         ≡ text_of_lines (codes "ok,4" ∷ codes "first,285531,2311925,3,2,3,12,9" ∷ codes "middle,155,-453,3,3,5,20,4" ∷
-        codes
-        "last,-21,-93,5,3,25" ∷ codes "positive,68" ∷ []) }
+        codes "last,-21,-93,5,3,25" ∷ codes "positive,68" ∷ []) }
     ensures two_fields { reply_text (reply.Fields reference2)
         ≡ text_of_lines (codes "ok,2" ∷ codes "first,285531,2311925,3,2,3,12,9" ∷ codes "last,155,-453,3,2,28" ∷ []) }
     ensures no_records { reply_text (reply.Dumped 0 []) ≡ text_of_lines (codes "ok,0" ∷ []) }
@@ -185,8 +163,7 @@ pub fn rows_replies()
         "line,10,1,2,3,2,5610,200,6.12701,49.60838" ∷ codes "path,a,1500,0,10" ∷ []) }
     ensures margin { reply_text (reply.Records 1 (concat (map record_line (Set_margin fifty ∷ []))))
         ≡ text_of_lines (codes "ok,1" ∷ codes "margin,50,1" ∷ []) }
-    ensures obstacles { reply_text (reply.Obstacles
-        (record { name = codes "a"; lrp = 0; obstacle = Same_sector 11 }
+    ensures obstacles { reply_text (reply.Obstacles (record { name = codes "a"; lrp = 0; obstacle = Same_sector 11 }
         ∷ record { name = codes "a"; lrp = 1; obstacle = Other_bearing 21 }
         ∷ record { name = codes "b"; lrp = 2; obstacle = Other_node 4 } ∷ []))
         ≡ text_of_lines (codes "ok,3" ∷ codes "a,0,sector,11" ∷ codes "a,1,bearing,21" ∷ codes "b,2,node,4" ∷ []) }
