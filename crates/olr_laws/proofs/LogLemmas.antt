@@ -4,21 +4,21 @@ use Rattle.std.proofs.Common.{inl, refl, sym, ap, subst, suc, Result, length-app
 use Rattle.olr_run.proofs.Common.{append-nil, append_assoc, Appends, Outcome, run_join, Field, read, Claims, SoundOutcome, texts}
 use Rattle.olr_run.proofs.Common.{SoundOutcomes, In_last, records_of, outcome_text, Registered, Represents, EndedOn, Known}
 use Rattle.olr_run.proofs.Common.{RunFault}
-use Rattle.olr_commands.specs.State.{Change, Content, IsContent, IsState, State, start_state, step, Abort}
+use Rattle.olr_commands.specs.State.{Change, Content, IsContent, IsState, State, step, Abort}
 use Rattle.olr_commands.proofs.HistoryLemmas.{start_sound}
 use Rattle.olr_commands.proofs.StateLemmas.{steps_keep}
 use Rattle.olr_log.specs.Logs.{stored_of, left_of, is_own_of}
 use Rattle.olr_log.specs.declared.log_file.LogFile.{LogFile}
 use Rattle.olr_records.proofs.ReadLemmas.{coords_read}
 use Rattle.olr_run.specs.LogEnds.{BeginsWith, LastsOn}
-use Rattle.olr_run.specs.Logged.{Accepted, closed, Leads, UpTo}
+use Rattle.olr_run.specs.Logged.{Accepted, closed, Leads}
 use Rattle.olr_run.specs.Output.{CutOff, Before_next, No_text, Not_sent}
 use Rattle.olr_commands.specs.History.{Run}
 use Rattle.std.proofs.lemmas.List.Concat.{flat_map-append}
 use Rattle.olr_run.specs.Ends.{FromLog, Not_begun, Begun}
 use Rattle.olr_input.specs.declared.ends.Status.{Status}
 use Rattle.olr_run.proofs.RunLemmas.{claims_of, sound_after}
-use Rattle.olr_input.specs.Buffers.{pending, written}
+use Rattle.olr_input.specs.Buffers.{written}
 use Rattle.olr_input.specs.Journals.{Only}
 use Rattle.olr_input.specs.declared.buffered.Buffered.{Buffered}
 use Rattle.olr_laws.specs.LogLaws.{dropping, dropped, NextContinues, HasBegun, IsHonest, TwoRuns}
@@ -72,8 +72,8 @@ accepted_sound (r ∷ rs) s t sound a =
     accepted_sound rs a.3 t (steps_keep s a.3 a.0 sound (coords_read r a.0 a.1) a.4) a.5
 
 begins_sound : (own : Bool) (text : List ℕ) (c : Content) → BeginsWith own text c → IsContent c
-begins_sound true text c l = (accepted_sound l.records start_state (closed c) start_sound l.accepted).content
-begins_sound false text c l = (accepted_sound (records_of text) start_state (closed c) start_sound l).content
+begins_sound true text c l = (accepted_sound l.records _ _ start_sound l.accepted).content
+begins_sound false text c l = (accepted_sound (records_of text) _ _ start_sound l).content
 
 -- ---- what was written
 
@@ -107,87 +107,50 @@ record Outcomes (Each : State → List (List Field) → List Outcome → State �
   written_is : Appends before later wrote
   texts_are : texts outcomes ≡ wrote ++ rest
 
-outcomes_of : (Each Then : State → List (List Field) → List Outcome → State → Type 0) (stop : Bool) (old : Registered)
+outcomes_of : (Each : State → List (List Field) → List Outcome → State → Type 0) (stop : Bool) (old : Registered)
     (rs : List (List Field)) (before : Known) (new : Registered) (later : Known) (end : Result Status RunFault) →
-    ((s : State) (os : List Outcome) (t : State) → Each s rs os t → Then s rs os t)
-    → EndedOn Each Each stop old (Some rs) before new later end → (s : State) → Represents old.state s →
-    Outcomes Then s rs before later
-outcomes_of Each Then stop old rs before new later (Ok end) f run s represents =
+    EndedOn Each Each stop old (Some rs) before new later end → (s : State) → Represents old.state s →
+    Outcomes Each s rs before later
+outcomes_of Each stop old rs before new later (Ok end) run s represents =
     let r = run s represents in
-    record {
-      state = r.0;
-      outcomes = r.4.outcomes;
-      each = f s r.4.outcomes r.0 r.4.each;
-      wrote = r.2;
-      rest = [];
-      written_is = r.3;
-      texts_are = whole r.4.outcomes r.2 r.4.wrote;
-    }
-outcomes_of Each Then stop old rs before new later (Err e) f run s represents =
+    let all = r.4.outcomes in
+    let same = whole all r.2 r.4.wrote in
+    record { state = r.0; outcomes = all; each = r.4.each; wrote = r.2; rest = []; written_is = r.3; texts_are = same }
+outcomes_of Each stop old rs before new later (Err e) run s represents =
     let r = run.0 s represents in
-    let front = cut_front stop r.4.outcomes r.2 e r.4.wrote in
-    record {
-      state = r.0;
-      outcomes = r.4.outcomes;
-      each = f s r.4.outcomes r.0 r.4.each;
-      wrote = r.2;
-      rest = front.0;
-      written_is = r.3;
-      texts_are = front.1;
-    }
+    let all = r.4.outcomes in
+    let cut = cut_front stop all r.2 e r.4.wrote in
+    record { state = r.0; outcomes = all; each = r.4.each; wrote = r.2; rest = cut.0; written_is = r.3; texts_are = cut.1 }
 
 -- ---- two runs
 
 module _ {D F : Type 0} (d : disk.Ghosts D) (f : folder.Ghosts F D) {W : Type 0} (contents : W → Known) where
-  record LeftBy (c : Content) (rs : List (List Field)) (o p : Buffered W) (text : List ℕ) : Type 0 where
-    sent : List ℕ
-    device : Appends (contents o.device) (contents p.device) sent
-    later : Content
-    leads : Leads text later
-    outcomes : List Outcome
-    up_to : UpTo (closed c) rs outcomes later sent
-
-  left_by_run : (start last : LogFile D F d f) (o p : Buffered W) (c : Content) (rs : List (List Field)) (os : List Outcome)
-      (t : State) (text : List ℕ) → LastsOn contents start o last p (closed c) rs os t → Leads (stored_of start) c →
-      Only (stored_of start) (left_of start) → pending o ≡ [] → left_of last text → LeftBy c rs o p text
-  left_by_run start last o p c rs os t text lasts leads only none left =
-      let l = lasts.1 (record { closed_batch = refl; only = only; leads = leads; none_pending = none }) in
-      let s = l.2 text left in
-      record { sent = l.0; device = l.1; later = s.0; leads = s.1; outcomes = os; up_to = s.2 }
-
-  left_by : (log last : LogFile D F d f) (least : ℕ) (stop : Bool) (rs : List (List Field)) (o p : Buffered W) (code : ℕ)
+  -- a run from a log that led to a content, and the log from which it began
+  ran : (log last : LogFile D F d f) (least : ℕ) (stop : Bool) (rs : List (List Field)) (o p : Buffered W) (code : ℕ)
       (one : FromLog contents log last least stop (Some rs) o p code) → HasBegun one → IsHonest one → (c : Content) →
-      BeginsWith (is_own_of log) (stored_of log) c → Only (stored_of log) (left_of log) → pending o ≡ [] → (text : List ℕ) →
-      left_of last text → LeftBy c rs o p text
-  left_by log last least stop rs o p code (Not_begun same rejected status gone) began honest c says only none text left = absurd began
-  left_by log last least stop rs o p code (Begun read start old new begins end run g length after status) began honest c says only none text left =
+      BeginsWith (is_own_of log) (stored_of log) c → (start : LogFile D F d f) × Leads (stored_of start) c
+      × (Only (stored_of log) (left_of log) → Only (stored_of start) (left_of start))
+      × Outcomes (LastsOn contents start o last p) (closed c) rs (written contents o) (written contents p)
+  ran log last least stop rs o p code (Not_begun same rejected status gone) began honest c says = absurd began
+  ran log last least stop rs o p code (Begun read start old new begins end run g length after status) began honest c says =
       let b = begins.leads honest.0 honest.1 c says in
-      let r =
-      outcomes_of (LastsOn contents start o last p) (LastsOn contents start o last p) stop old rs (written contents o) new
-      (written contents p) end (λ s os t lasts. lasts) run (closed c) b.0 in
-      left_by_run start last o p c rs r.outcomes r.state text r.each b.1 (begins.only only) none left
-
-  answers : (log last : LogFile D F d f) (least : ℕ) (stop : Bool) (qs : List (List Field)) (u v : Buffered W) (code : ℕ)
-      (two : FromLog contents log last least stop (Some qs) u v code) → HasBegun two → IsHonest two → (c : Content) →
-      BeginsWith (is_own_of log) (stored_of log) c
-      → Outcomes Claims (closed c) qs (written contents u) (written contents v)
-  answers log last least stop qs u v code (Not_begun same rejected status gone) began honest c says = absurd began
-  answers log last least stop qs u v code (Begun read start old new begins end run g length after status) began honest c says =
-      outcomes_of (LastsOn contents start u last v) Claims stop old qs (written contents u) new (written contents v) end
-      (λ s os t lasts. lasts.0) run (closed c) (begins.leads honest.0 honest.1 c says).0
+      let Each = LastsOn contents start o last p in
+      (start, b.1, begins.only, outcomes_of Each stop old rs (written contents o) new (written contents p) end run (closed c) b.0)
 
   pub two_runs : TwoRuns d f contents
   two_runs log last least stop rs o p code one began honest c says only none next end most again qs u v status two begun true_too own left =
-      let l = left_by log last least stop rs o p code one began honest c says only none (stored_of next) left in
-      let next_says : BeginsWith (is_own_of next) (stored_of next) l.later =
-      subst (λ (b : Bool). BeginsWith b (stored_of next) l.later) (sym own) l.leads in
-      let a = answers next end most again qs u v status two begun true_too l.later next_says in (
-        l.sent,
-        l.device,
+      let r = ran log last least stop rs o p code one began honest c says in
+      let l = r.3.each.1 (record { closed_batch = refl; only = r.2 only; leads = r.1; none_pending = none }) in
+      let s = l.2 (stored_of next) left in
+      let next_says : BeginsWith (is_own_of next) (stored_of next) s.0 =
+      subst (λ (b : Bool). BeginsWith b (stored_of next) s.0) (sym own) s.1 in
+      let a = (ran next end most again qs u v status two begun true_too s.0 next_says).3 in (
+        l.0,
+        l.1,
         a.outcomes,
         a.state,
-        next_continues (closed c) a.state rs qs l.outcomes a.outcomes l.later l.sent
-            (begins_sound (is_own_of log) (stored_of log) c says) l.up_to a.each,
+        next_continues (closed c) a.state rs qs r.3.outcomes a.outcomes s.0 l.0 (begins_sound (is_own_of log) (stored_of log) c says)
+            s.2 a.each.0,
         a.wrote,
         a.rest,
         a.written_is,
