@@ -17,6 +17,9 @@ pub record IsRoad (M : Map) (x : ℕ) (g : Leg) (v w : ℕ) : Type 0 where
   pub from : start M x ≡ v
   pub to : end M x ≡ w
 
+pub long : {M : Map} {x : ℕ} {g : Leg} {v w : ℕ} → IsRoad M x g v w → dm M x ≡ g.line.len
+long r = ap (λ (g : Leg). g.line.len) r.is
+
 -- the side road is line x, which is o, and the map has the lines cs
 pub record HasSideRoad (M : Map) (f g h : Leg) (x : ℕ) (o : Leg) (cs : List (ℕ × Leg)) : Type 0 where
   pub sound : IsMap M
@@ -31,11 +34,11 @@ pub record HasSideRoad (M : Map) (f g h : Leg) (x : ℕ) (o : Leg) (cs : List (�
 
 -- ---- by the nodes and the lines of a map
 
-abbrev IsRoadIn : List (ℕ × Line) → ℕ → ℕ → ℕ → Type 0
+abbrev pub IsRoadIn : List (ℕ × Line) → ℕ → ℕ → ℕ → Type 0
 IsRoadIn ls x v w = (is_some (find nat_cmp x ls) ≡ true) × ((line_in ls x).from ≡ v) × ((line_in ls x).to ≡ w)
 
 module _ (ns : List (ℕ × Coord)) (ls : List (ℕ × Line)) (sn : T (is_sorted nat_cmp ns)) (sl : T (is_sorted nat_cmp ls)) where
-  road : (x v w : ℕ) → IsRoadIn ls x v w → IsRoad (map_of ns ls) x (leg_in ns ls x) v w
+  pub road : (x v w : ℕ) → IsRoadIn ls x v w → IsRoad (map_of ns ls) x (leg_in ns ls x) v w
   road x v w r =
       let is = line_at_is ns ls sn sl x in
       record {
@@ -75,12 +78,7 @@ module _ (M : Map) (f g h : Leg) (x : ℕ) (o : Leg) (cs : List (ℕ × Leg)) (i
     (shorter : o.line.len < g.line.len) (near : (f.line.len ≤ 150000) × (g.line.len + h.line.len ≤ 150000))
     (fit : IsTrue (fit16 f.begin g.begin) × IsTrue (fit16 g.begin h.finish)) where
   dm_are : (dm M 10 ≡ f.line.len) × (dm M 20 ≡ g.line.len) × (dm M 30 ≡ h.line.len) × (dm M x ≡ o.line.len)
-  dm_are = (
-    ap (λ (g : Leg). g.line.len) is.first.is,
-    ap (λ (g : Leg). g.line.len) is.second.is,
-    ap (λ (g : Leg). g.line.len) is.third.is,
-    ap (λ (g : Leg). g.line.len) is.side.is,
-  )
+  dm_are = (long is.first, long is.second, long is.third, long is.side)
 
   not_over : ¬ UniqueShortest M (end M 10) (start M 30) (20 ∷ [])
   not_over u = omega (arith, u.others (x ∷ []) (by_side M f g h x o cs is) (λ e. let same : x ≡ 20 = cc e in other same), dm_are.1, dm_are.3, shorter)
@@ -92,25 +90,21 @@ module _ (M : Map) (f g h : Leg) (x : ℕ) (o : Leg) (cs : List (ℕ × Leg)) (i
   at_most_one (suc (suc (suc zero))) c = absurd (not_over (c.covered (omega arith)))
   at_most_one (suc (suc (suc (suc k)))) c = absurd (omega (arith, c.upto))
 
+  none_between : (v w u : ℕ) → w ≡ u → v ≡ u → UniqueShortest M v w []
+  none_between v w u to from = subst (λ (v : ℕ). UniqueShortest M v w []) (to ∙ sym from) (empty_unique M is.sound w)
+
   first_leg : Candidate M Lines 0 1
   first_leg =
-      record {
-        after = omega arith;
-        upto = omega arith;
-        covered = λ _. subst (λ (v : ℕ). UniqueShortest M v (start M 20) []) (is.second.from ∙ sym is.first.to) (empty_unique M is.sound (start M 20));
-        near = omega (arith, dm_are.0, near.0);
-        fits = (λ i. fit16 (is.first.is i).begin (is.second.is i).begin) ∙ fit.0;
-      }
+      let fits : IsTrue (fit16 (leg M 10).begin (leg M 20).begin) = (λ i. fit16 (is.first.is i).begin (is.second.is i).begin) ∙ fit.0 in
+      let covered = none_between (end M 10) (start M 20) 2 is.second.from is.first.to in
+      record { after = omega arith; upto = omega arith; covered = λ _. covered; near = omega (arith, dm_are.0, near.0); fits = fits }
 
   last_leg : Candidate M Lines 1 3
   last_leg =
-      record {
-        after = omega arith;
-        upto = omega arith;
-        covered = λ _. subst (λ (v : ℕ). UniqueShortest M v (start M 30) []) (is.third.from ∙ sym is.second.to) (empty_unique M is.sound (start M 30));
-        near = omega (arith, dm_are.1, dm_are.2, near.1);
-        fits = (λ i. fit16 (is.second.is i).begin (is.third.is i).finish) ∙ fit.1;
-      }
+      let fits : IsTrue (fit16 (leg M 20).begin (leg M 30).finish) = (λ i. fit16 (is.second.is i).begin (is.third.is i).finish) ∙ fit.1 in
+      let covered = none_between (end M 20) (start M 30) 3 is.third.from is.second.to in
+      let close : dm M 20 + dm M 30 ≤ 150000 = omega (arith, dm_are.1, dm_are.2, near.1) in
+      record { after = omega arith; upto = omega arith; covered = λ _. covered; near = omega arith; fits = fits }
 
   follows : Follow M Lines 0 (1 ∷ 3 ∷ [])
   follows = (
