@@ -1,24 +1,24 @@
 -- Two lines in one sector, of other classes.
-use Rattle.olr_spec.proofs.Common.{ℤ, pos, ◌-ℤ◌, ◌*◌, nat_abs, nat_lt, ints, not, not-true, ◌≡◌, ℕ, ◌≤◌, true, false}
-use Rattle.olr_spec.proofs.Common.{[], ◌∷◌, refl, ap, ◌∙◌, subst, IsTrue, arith, Map, IsMap, has_line, start, end, dm}
-use Rattle.olr_spec.proofs.Common.{passing, Candidate, To_end, Points, Encodes, reference, Leg, leg, fit16, candidates}
-use Rattle.olr_spec.specs.Receiver.{Outgoing, Incoming, decoded_coord, Lrp, lrp_at}
+use Rattle.olr_spec.proofs.Common.{ℤ, pos, ◌-ℤ◌, ◌*◌, nat_abs, nat_lt, ints, not, not-true, ◌≡◌, ℕ, ◌≤◌, true, false, [], ◌∷◌, ap}
+use Rattle.olr_spec.proofs.Common.{refl, ◌∙◌, subst, IsTrue, arith, Map, IsMap, has_line, dm, passing, Candidate, To_end, Points}
+use Rattle.olr_spec.proofs.Common.{Encodes, reference, Leg, leg, fit16, candidates, has, List}
+use Rattle.olr_spec.specs.Receiver.{Outgoing, Incoming, decoded_coord, Lrp, lrp_at, Rating}
 use Rattle.olr_spec.specs.Recovery.{Distinct, DistinctAt}
 use Rattle.olr_laws.specs.Rows.{axes_sum}
-use Rattle.olr_laws.specs.MapRows.{fork_map, fork_path, fork_nodes, fork_records, fork_lines, fork_reference, fork10, fork11, degrees10, TakesOther}
+use Rattle.olr_laws.specs.MapRows.{fork_map, fork_path, fork_nodes, fork_records, fork_lines, fork_reference, fork10, fork11}
+use Rattle.olr_laws.specs.MapRows.{degrees10, TakesOther}
 use Rattle.olr_laws.specs.Directions.{DirectionReceiver, TakesByDirection, exceeded, rating_by, weighted, SeesDirections}
+use Rattle.olr_laws.specs.Directions.{count_where, Differences}
 use Rattle.olr_laws.proofs.MapLemmas.{leg_in, sound, has_line_is, leg_is, passing_is, candidates_are, each_line}
 use Rattle.olr_laws.proofs.RowLemmas.{IsRow, encodes, distinct_at}
+use Rattle.olr_laws.proofs.SideRoadLemmas.{IsRoad, road}
 use Rattle.olr_laws.proofs.AngleLemmas.{sees_by_limits}
-use Rattle.olr_spec.proofs.Common.{has, List}
-use Rattle.olr_laws.specs.Directions.{count_where}
 use Rattle.olr_laws.proofs.DirectionLemmas.{by_weights}
 use Rattle.olr_laws.proofs.ReceiverLemmas.{apart}
 
 record IsFork (M : Map) : Type 0 where
   sound : IsMap M
-  has10 : IsTrue (has_line M 10)
-  is10 : leg M 10 ≡ fork10
+  line10 : IsRoad M 10 fork10 1 2
   all : candidates M ≡ fork_lines
   valid1 : passing M 1 ≡ false
   valid2 : passing M 2 ≡ false
@@ -27,22 +27,15 @@ is_fork : IsFork fork_map
 is_fork =
     record {
       sound = sound fork_nodes fork_records tt tt refl refl;
-      has10 = has_line_is fork_nodes fork_records tt tt 10;
-      is10 = leg_is fork_nodes fork_records tt tt 10;
+      line10 = road fork_nodes fork_records tt tt 10 1 2 (refl, refl, refl);
       all = candidates_are fork_nodes fork_records tt tt;
       valid1 = passing_is fork_nodes fork_records tt tt 1;
       valid2 = passing_is fork_nodes fork_records tt tt 2;
     }
 
 module _ (M : Map) (is : IsFork M) where
-  from10 : start M 10 ≡ 1
-  from10 = ap (λ (g : Leg). g.line.from) is.is10
-
-  to10 : end M 10 ≡ 2
-  to10 = ap (λ (g : Leg). g.line.to) is.is10
-
   dm_is : dm M 10 ≡ 4890
-  dm_is = ap (λ (g : Leg). g.line.len) is.is10
+  dm_is = ap (λ (g : Leg). g.line.len) is.line10.is
 
   leg_fits : Candidate M (10 ∷ []) 0 1
   leg_fits =
@@ -51,7 +44,7 @@ module _ (M : Map) (is : IsFork M) where
         upto = omega arith;
         covered = λ lt. absurd (omega arith);
         near = omega (arith, dm_is);
-        fits = λ i. fit16 (is.is10 i).begin (is.is10 i).finish;
+        fits = λ i. fit16 (is.line10.is i).begin (is.line10.is i).finish;
       }
 
   row : IsRow M fork_path (1 ∷ []) (fork10 ∷ []) fork_lines fork_reference
@@ -59,13 +52,13 @@ module _ (M : Map) (is : IsFork M) where
       record {
         sound = is.sound;
         is = refl;
-        none = simp (is.has10, dm_is);
-        starts = ap (passing M) from10 ∙ is.valid1;
-        ends = ap (passing M) to10 ∙ is.valid2;
+        none = simp (is.line10.known, dm_is);
+        starts = ap (passing M) is.line10.from ∙ is.valid1;
+        ends = ap (passing M) is.line10.to ∙ is.valid2;
         follow = (To_end refl leg_fits, λ j c. omega (arith, c.after, c.upto));
-        along = λ i. is.is10 i ∷ [];
+        along = λ i. is.line10.is i ∷ [];
         all = is.all;
-        answer = λ i. Points (reference (is.is10 i ∷ []) 0 0 (1 ∷ []));
+        answer = λ i. Points (reference (is.line10.is i ∷ []) 0 0 (1 ∷ []));
       }
 
   distinct : Distinct axes_sum M fork_path fork_reference
@@ -73,8 +66,8 @@ module _ (M : Map) (is : IsFork M) where
       record {
         outgoing = λ k lt. let first : 0 ≡ k = omega arith in
             subst (λ (k : ℕ). DistinctAt axes_sum M fork_path Outgoing k (decoded_coord fork_reference k)) first
-            (distinct_at M _ _ _ _ _ row Outgoing 0 10 fork10 refl is.is10 axes_sum refl refl);
-        incoming = distinct_at M _ _ _ _ _ row Incoming 1 10 fork10 refl is.is10 axes_sum refl refl;
+            (distinct_at M _ _ _ _ _ row Outgoing 0 10 fork10 refl is.line10.is axes_sum refl refl);
+        incoming = distinct_at M _ _ _ _ _ row Incoming 1 10 fork10 refl is.line10.is axes_sum refl refl;
       }
 
 pub fork_candidates : candidates fork_map ≡ fork_lines
@@ -105,16 +98,31 @@ by_degrees = sees degrees10 refl
 pub nearest_same : (a b : ℕ) → apart a a ≤ apart a b
 nearest_same a b = omega arith
 
+abbrev equal : Rating
+equal = record { far = 1; frc = 1; fow = 1; bearing = 1 }
+
+abbrev pub by_tens : Differences
+by_tens =
+    record {
+      far = axes_sum;
+      slack = 5;
+      reach = 5;
+      frc_apart = apart;
+      fow_apart = apart;
+      bearing_apart = λ c. exceeded degrees10;
+      frcs = nearest_same;
+      fows = nearest_same;
+      bearings = λ c. by_degrees;
+    }
+
 abbrev pub by_sum : DirectionReceiver
-by_sum =
-    by_weights axes_sum 5 5 apart apart (λ c. exceeded degrees10) nearest_same nearest_same (λ c. by_degrees)
-    (record { far = 1; frc = 1; fow = 1; bearing = 1 }) (omega arith, omega arith, omega arith, omega arith) (omega arith)
+by_sum = by_weights by_tens equal (omega arith, omega arith, omega arith, omega arith) (omega arith)
 
 abbrev at_first : Lrp
 at_first = lrp_at fork_reference 0 fork_reference.first.attrs
 
 abbrev sum_of : Leg → ℕ
-sum_of g = weighted (record { far = 1; frc = 1; fow = 1; bearing = 1 }) (rating_by by_sum at_first g)
+sum_of g = weighted equal (rating_by by_tens at_first g)
 
 abbrev leg_of : ℕ → Leg
 leg_of x = leg_in fork_nodes fork_records x

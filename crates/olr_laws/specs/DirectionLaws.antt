@@ -1,7 +1,6 @@
 -- The laws of what each receiver decodes, and of receivers that compare directions.
 use Rattle.std.specs.Prelude.{◌≡◌, ℕ, ◌*◌, ◌<◌, ◌≤◌, ℤ, List, map, Some, is_some, nat_lt, ◌↔◌, IsTrue}
 use Rattle.std.specs.List.{AllZip, concat}
-use Rattle.olr_spec.specs.Coordinates.{Coord}
 use Rattle.olr_spec.specs.Bearings.{Vector}
 use Rattle.olr_spec.specs.Map.{Map, IsMap, coord_at, has}
 use Rattle.olr_spec.specs.Routes.{dm_of}
@@ -15,7 +14,7 @@ use Rattle.olr_spec.specs.Receiver.{decoded_coord, is_nearest, last_number}
 use Rattle.olr_spec.specs.Recovery.{IsStretchesWith, IsLineAtWith, IsKeptPartWith, IsLeftWith, IsCut, IsClose, IsStep}
 use Rattle.olr_spec.specs.Recovery.{IsWeighted, are_spaced}
 use Rattle.olr_laws.specs.Directions.{DirectionReceiver, TakesByDirection, DistinctByDirectionWith, SeesDirections}
-use Rattle.olr_laws.specs.Directions.{SameIsNearest, IsNearly, count_where, exceeded, weighted, is_clear}
+use Rattle.olr_laws.specs.Directions.{Differences, IsNearly, count_where, exceeded, weighted, is_clear}
 
 -- each LRP of an answer is decoded near its coordinate on the map, and nothing but these LRPs
 abbrev pub DecodedNear : Margin → Type 0
@@ -64,7 +63,7 @@ Nearest g =
 abbrev pub RecoveredByDirection : Margin → Type 0
 RecoveredByDirection g =
     (D : DirectionReceiver) (M : Map) → IsMap M → (P : Path) → IsTrue (is_path P.lines) → (r : Reference)
-    → EncodesWith g M P (Points r) → DistinctByDirectionWith g D.far D.slack M P r
+    → EncodesWith g M P (Points r) → DistinctByDirectionWith g D.by.far D.by.slack M P r
     → (ws : List (List ℕ)) → RecoversBy (TakesByDirection D M) M r ws ↔ IsStretchesWith g M P ws
 
 -- that the path's own line stands out can be tested without the decoded coordinates: the nodes of the other candidates are
@@ -91,9 +90,6 @@ SeesByLimits =
 -- weight of the slack is at least that of the reach
 abbrev pub SomeByWeights : Type 0
 SomeByWeights =
-    (far : Measure) (slack reach : ℕ) (frc_apart fow_apart : ℕ → ℕ → ℕ) (bearing_apart : Coord → ℕ → Vector → ℕ)
-    → SameIsNearest frc_apart → SameIsNearest fow_apart → ((c : Coord) → SeesDirections (bearing_apart c) reach)
-    → (w : Rating) → 0 < w.far → 0 < w.frc → 0 < w.fow → 0 < w.bearing → w.bearing * reach ≤ w.far * slack
-    → (D : DirectionReceiver) × (D.far ≡ far) × (D.slack ≡ slack) × (D.frc_apart ≡ frc_apart)
-    × (D.fow_apart ≡ fow_apart) × (D.bearing_apart ≡ bearing_apart)
+    (d : Differences) (w : Rating) → 0 < w.far → 0 < w.frc → 0 < w.fow → 0 < w.bearing
+    → w.bearing * d.reach ≤ w.far * d.slack → (D : DirectionReceiver) × (D.by ≡ d)
     × ((a b : Rating) → D.prefers a b ≡ nat_lt (weighted w a) (weighted w b))

@@ -1,7 +1,8 @@
 -- Receivers that compare directions, and when each of them recovers a path.
 --     SeesDirections apart reach      a difference of at most the reach for each direction in a sector, and of more than
 --         the reach beyond its margin
---     DirectionReceiver, TakesByDirection D M t x      a receiver with such a difference; it may choose line x for the LRP t
+--     Differences, DirectionReceiver      a measure and differences, such a one for the bearing; a receiver with them
+--     TakesByDirection D M t x      it may choose line x for the LRP t
 --     stands_out far slack s p x g cs      every other candidate is farther by more than the slack, or no nearer and
 --         beyond the margin
 --     DistinctByDirection far slack M P r, DistinctByDirectionWith g      the path's own line at each LRP has a direction,
@@ -69,39 +70,42 @@ pub record SeesDirections (apart : ℕ → Vector → ℕ) (reach : ℕ) : Type 
 abbrev pub SameIsNearest : (ℕ → ℕ → ℕ) → Type 0
 SameIsNearest apart = (a b : ℕ) → apart a a ≤ apart a b
 
--- any measure, any differences of FRC and FOW by which no other value is nearer than the same one, a difference of bearing
--- that may depend on where the candidate is, and any preference by which a candidate that is nowhere worse and somewhere
--- better is preferred. One that is nearer by more than the slack is preferred, too, if its FRC and FOW are no worse and
--- its bearing differs by at most the reach: so much the distance counts beside the bearing
-pub record DirectionReceiver : Type 0 where
+-- any measure, any differences of FRC and FOW by which no other value is nearer than the same one, and a difference of
+-- bearing that may depend on where the candidate is
+pub record Differences : Type 0 where
   pub far : Measure
   pub slack : ℕ
   pub reach : ℕ
   pub frc_apart : ℕ → ℕ → ℕ
   pub fow_apart : ℕ → ℕ → ℕ
   pub bearing_apart : Coord → ℕ → Vector → ℕ
-  pub prefers : Rating → Rating → Bool
   pub frcs : SameIsNearest frc_apart
   pub fows : SameIsNearest fow_apart
   pub bearings : (c : Coord) → SeesDirections (bearing_apart c) reach
+
+-- and any preference by which a candidate that is nowhere worse and somewhere better is preferred. One that is nearer by
+-- more than the slack is preferred, too, if its FRC and FOW are no worse and its bearing differs by at most the reach: so
+-- much the distance counts beside the bearing
+pub record DirectionReceiver : Type 0 where
+  pub by : Differences
+  pub prefers : Rating → Rating → Bool
   pub monotone : (a b : Rating) → NowhereWorse a b → SomewhereBetter a b → IsTrue (prefers a b)
-  pub nearer : (a b : Rating) → a.far + slack < b.far → a.frc ≤ b.frc → a.fow ≤ b.fow → a.bearing ≤ reach →
+  pub nearer : (a b : Rating) → a.far + by.slack < b.far → a.frc ≤ b.frc → a.fow ≤ b.fow → a.bearing ≤ by.reach →
       IsTrue (prefers a b)
   pub strict : (a b : Rating) → IsTrue (prefers a b) → IsFalse (prefers b a)
 
-abbrev pub rating_by : DirectionReceiver → Lrp → Leg → Rating
-rating_by D t g =
-    record {
-      far = D.far t.place (coordinate_on t.side g);
-      frc = D.frc_apart t.frc g.line.frc;
-      fow = D.fow_apart t.fow g.line.fow;
-      bearing = D.bearing_apart (coordinate_on t.side g) t.bearing (direction_on t.side g);
-    }
+abbrev pub rating_at : Differences → Lrp → Leg → Coord → Rating
+rating_at d t g c =
+    let turn = d.bearing_apart c t.bearing (direction_on t.side g) in
+    record { far = d.far t.place c; frc = d.frc_apart t.frc g.line.frc; fow = d.fow_apart t.fow g.line.fow; bearing = turn }
+
+abbrev pub rating_by : Differences → Lrp → Leg → Rating
+rating_by d t g = rating_at d t g (coordinate_on t.side g)
 
 -- no candidate is preferred to line x
 pub record TakesByDirection (D : DirectionReceiver) (M : Map) (t : Lrp) (x : ℕ) : Type 0 where
   pub known : IsTrue (has_line M x)
-  pub best : (y : ℕ) → IsTrue (has_line M y) → IsFalse (D.prefers (rating_by D t (leg M y)) (rating_by D t (leg M x)))
+  pub best : (y : ℕ) → IsTrue (has_line M y) → IsFalse (D.prefers (rating_by D.by t (leg M y)) (rating_by D.by t (leg M x)))
 
 -- a sum of the differences with weights
 abbrev pub weighted : Rating → Rating → ℕ

@@ -71,6 +71,6 @@ degrees10 = 17455 ∷ 34921 ∷ 52408 ∷ 69927 ∷ 87489 ∷ 105104 ∷ 122785 
 -- a receiver that counts the degrees from the middle of the sector, at the first LRP
 abbrev pub TakesOther : Type 0
 TakesOther =
-    (D : DirectionReceiver) × (D.far ≡ axes_sum) × (D.bearing_apart ≡ (λ c. exceeded degrees10))
+    (D : DirectionReceiver) × (D.by.far ≡ axes_sum) × (D.by.bearing_apart ≡ (λ c. exceeded degrees10))
     × TakesByDirection D fork_map (lrp_at fork_reference 0 fork_reference.first.attrs) 11
     × ¬ TakesByDirection D fork_map (lrp_at fork_reference 0 fork_reference.first.attrs) 10
