@@ -1,15 +1,14 @@
 -- A string in whose way nothing stands is distinct for both kinds of receivers.
-use Rattle.olr_spec.proofs.Common.{◌≡◌, ◌≢◌, ℕ, zero, suc, ◌+◌, ◌*◌, ◌<◌, ◌≤◌, ◌⊎◌, inl, inr, ℤ, Bool, true, false, not, ◌&&◌, []}
-use Rattle.olr_spec.proofs.Common.{◌||◌, ◌==◌, cond, nat_lt, List, ◌∷◌, ◌++◌, map, filter, length, slice_get, slice_index, Some}
-use Rattle.olr_spec.proofs.Common.{option_map, refl, sym, ap, ◌∙◌, subst, IsTrue, arith, cases_Bool, cases_eq, or_cases, or_left}
-use Rattle.olr_spec.proofs.Common.{or_right, and_parts, and_from, eqb-true, eq-eqb, ne_eqb, both_ways, ltb-true, lt-ltb, le-ltb}
-use Rattle.olr_spec.proofs.Common.{None, list_any_at, Map, IsMap, has, has_line, has_node, line_at, start, end, Path, is_path}
-use Rattle.olr_spec.proofs.Common.{path_fault, extended_path, Points, EncodingWith, Reference, Leg, leg, legs, kept_points, Side}
-use Rattle.olr_spec.proofs.Common.{candidates, Measure, Coord, node_on, coordinate_on, list_any, is_nearest, has_no_twin}
+use Rattle.olr_spec.proofs.Common.{◌≡◌, ◌≢◌, ℕ, zero, suc, ◌+◌, ◌*◌, ◌<◌, ◌≤◌, ◌⊎◌, inl, inr, ℤ, Bool, true, false, not, ◌||◌, []}
+use Rattle.olr_spec.proofs.Common.{◌==◌, cond, nat_lt, List, ◌∷◌, ◌++◌, map, filter, length, slice_get, slice_index, Some, refl}
+use Rattle.olr_spec.proofs.Common.{option_map, sym, ap, ◌∙◌, subst, IsTrue, arith, cases_Bool, cases_eq, or_cases, or_left, None}
+use Rattle.olr_spec.proofs.Common.{or_right, and_parts, and_from, eqb-true, eq-eqb, ne_eqb, ltb-true, lt-ltb, le-ltb, list_any_at}
+use Rattle.olr_spec.proofs.Common.{Map, IsMap, has, has_line, has_node, line_at, start, end, Path, is_path, path_fault, Points}
+use Rattle.olr_spec.proofs.Common.{extended_path, EncodingWith, Reference, Leg, leg, legs, kept_points, candidates, Side, Measure}
+use Rattle.olr_spec.proofs.Common.{node_on, coordinate_on, list_any, is_nearest, has_no_twin, both_ways, ◌&&◌}
 use Rattle.olr_spec.specs.Margins.{Margin}
-use Rattle.std.proofs.Math.Nat.{mul-le-mul_right, mul-lt-mul_of_pos_left, mul-add}
 use Rattle.olr_spec.specs.Receiver.{Outgoing, Incoming, sector_on, are_twins, decoded_coord, last_number}
-use Rattle.olr_spec.specs.Recovery.{lon_apart, lat_apart, line_by, IsLineAtWith, OwnLinesWith, own_lines, Weighted, DistinctWith}
+use Rattle.olr_spec.specs.Recovery.{line_by, IsLineAtWith, OwnLinesWith, own_lines, Weighted, DistinctWith, lon_apart, lat_apart}
 use Rattle.olr_spec.specs.Directions.{direction_on, is_direction, is_beyond}
 use Rattle.olr_spec.specs.Ambiguity.{least_cosine, is_farther, usual_slack, is_outdone_for_all, lines_on, all_nodes, Obstacle}
 use Rattle.olr_spec.specs.Ambiguity.{Same_sector, Other_bearing, Other_node, is_twin_of, is_unclear, is_rival, obstacles_at}
@@ -21,6 +20,7 @@ use Rattle.olr_spec.proofs.ReceiverLemmas.{same_path}
 use Rattle.olr_laws.specs.Directions.{is_outdone, stands_out, DistinctByDirectionWith}
 use Rattle.olr_laws.specs.AmbiguityLaws.{IsWeightedByLatitude, ClearIsDistinct}
 use Rattle.olr_laws.proofs.ReceiverLemmas.{got_index, every_candidate, outdone_of, same_place, known_out, known_in, size}
+use Rattle.olr_laws.proofs.ReceiverLemmas.{farther_by}
 
 -- ---- lists without elements
 
@@ -51,41 +51,6 @@ none_of_any p xs none x h = elim (cases_Bool (p x)) [
       absurd never
   | inr isnt ↦ isnt
 ]
-
--- ---- farther
-
--- the bound of the measure to the own node, with e more
-own_bound : (u scale a b e f : ℕ) → u ≤ scale → f ≤ u * a + scale * b → f + scale * e ≤ scale * (a + b + e)
-own_bound u scale a b e f most h =
-    let wide : u * a ≤ scale * a = mul-le-mul_right a most in
-    let parts : scale * (a + b + e) ≡ scale * (a + b) + scale * e = mul-add scale (a + b) e in
-    let two : scale * (a + b) ≡ scale * a + scale * b = mul-add scale a b in
-    omega arith
-
-by_north : (scale near x f : ℕ) → 0 < scale → near < x → scale * x ≤ f → scale * near < f
-by_north scale near x f unit h g =
-    let less : scale * near < scale * x = mul-lt-mul_of_pos_left h unit in omega arith
-
-by_east : (q scale u near x f : ℕ) → 0 < scale → q * scale ≤ 1000000 * u → 1000000 * near < q * x → u * x ≤ f →
-    scale * near < f
-by_east q scale u near x f unit least h g =
-    let less : scale * (1000000 * near) < scale * (q * x) = mul-lt-mul_of_pos_left h unit in
-    let kept : q * scale * x ≤ 1000000 * u * x = mul-le-mul_right x least in
-    let all : 1000000 * (scale * near) < 1000000 * (u * x) = grind (arith, less, kept) in
-    omega arith
-
-farther_by : (n scale e : ℕ) (far : Measure) (p : ℤ × ℤ) (c d : Coord) → 0 < scale → Weighted n 1000000 scale far p c →
-    Weighted (least_cosine p d) 1000000 scale far p d → is_farther e p c d ≡ true → far p c + scale * e < far p d
-farther_by n scale e far p c d unit here there h =
-    let near = lon_apart p c + lat_apart p c + e in
-    let own = own_bound here.u scale (lon_apart p c) (lat_apart p c) e (far p c) here.most here.by_both in
-    elim (or_cases (nat_lt near (lat_apart p d)) _ h) [
-      | inl north ↦
-          let over = by_north scale near (lat_apart p d) (far p d) unit (ltb-true near _ north) there.by_lat in omega arith
-      | inr east ↦
-          let over = by_east (least_cosine p d) scale there.u near (lon_apart p d) (far p d) unit there.least
-          (ltb-true (1000000 * near) _ east) there.by_lon in omega arith
-    ]
 
 -- ---- one LRP
 
@@ -130,16 +95,13 @@ module _ (M : Map) (m : IsMap M) (s : Side) (p : ℤ × ℤ) (x : ℕ) (known : 
   here : (y : ℕ) → IsTrue (has_line M y) → node_on s (leg M y) ≡ node_on s g → has ys y ≡ true
   here y h e = ap (λ (v : ℕ). has (lines_on s M v) y) (sym e) ∙ on_side M s y h
 
-  not_self : (y : ℕ) → y ≢ x → (y == x) ≡ false
-  not_self y n = ne_eqb y x n
-
   -- another line at the node is no twin, and is beyond the margin
   not_twin : (y : ℕ) → IsTrue (has_line M y) → y ≢ x → are_twins s g (leg M y) ≡ false
   not_twin y h n = elim (cases_Bool (are_twins s g (leg M y))) [
     | inl is ↦
         let at : node_on s (leg M y) ≡ node_on s g = twins_meet y is in
         let none_there = none_passes (is_twin_of M s x) ys twins_none y (here y h at) in
-        let twin : is_twin_of M s x y ≡ true = and_from (not (y == x)) _ (ap not (not_self y n)) is in
+        let twin : is_twin_of M s x y ≡ true = and_from (not (y == x)) _ (ap not (ne_eqb y x n)) is in
         absurd (both_ways (is_twin_of M s x y) none_there twin)
     | inr isnt ↦ isnt
   ]
@@ -157,7 +119,7 @@ module _ (M : Map) (m : IsMap M) (s : Side) (p : ℤ × ℤ) (x : ℕ) (known : 
       let none_there = none_passes (is_unclear M s x) ys unclear_none y (here y h at) in
       let twin = not_twin y h n in
       let other : (not (are_twins s g (leg M y)) && not (is_beyond (sector_on s g) (direction_on s (leg M y)))) ≡ false =
-      sym (ap (λ (b : Bool). cond b (not (is_direction (direction_on s g))) (not (are_twins s g (leg M y)) && not (is_beyond (sector_on s g) (direction_on s (leg M y))))) (not_self y n)) ∙ none_there in
+      sym (ap (λ (b : Bool). cond b (not (is_direction (direction_on s g))) (not (are_twins s g (leg M y)) && not (is_beyond (sector_on s g) (direction_on s (leg M y))))) (ne_eqb y x n)) ∙ none_there in
       elim (cases_Bool (is_beyond (sector_on s g) (direction_on s (leg M y)))) [
         | inl is ↦ is
         | inr isnt ↦
@@ -200,7 +162,13 @@ module _ (M : Map) (m : IsMap M) (s : Side) (p : ℤ × ℤ) (x : ℕ) (known : 
     farther_there : (e y : ℕ) → IsTrue (has_line M y) → is_farther e p (coordinate_on s g) (coordinate_on s (leg M y)) ≡ true →
         far p (coordinate_on s g) + scale * e < far p (coordinate_on s (leg M y))
     farther_there e y h f =
-        farther_by (least_cosine p (coordinate_on s g)) scale e far p (coordinate_on s g) (coordinate_on s (leg M y)) unit (all x known) (all y h) f
+        let own = coordinate_on s g in
+        let other = coordinate_on s (leg M y) in
+        farther_by (least_cosine p own) (least_cosine p other) 1000000 scale e far p own other unit (all x known) (all y h)
+        (elim (or_cases (nat_lt (lon_apart p own + lat_apart p own + e) (lat_apart p other)) _ f) [
+          | inl north ↦ inl (ltb-true _ _ north)
+          | inr east ↦ inr (ltb-true _ _ east)
+        ])
 
     -- by more than the slack, or with a direction beyond the margin
     farther_or : (y : ℕ) → IsTrue (has_line M y) → node_on s (leg M y) ≢ node_on s g →
@@ -301,59 +269,51 @@ module _ {g : Margin} (M : Map) (m : IsMap M) (P : Path) (is : IsTrue (is_path P
   count : last_number r + 1 ≡ length Points_kept
   count = size M m P is sound r e
 
-  clear_out : (k x : ℕ) → k < last_number r → IsLineAtWith g M P Outgoing k x → obstacles_at M Outgoing (decoded_coord r k) x ≡ []
-  clear_out k x lt at =
-      let there = at_point Outgoing k x at in
+  clear : (s : Side) (k x : ℕ) → side_at r k ≡ s → slice_get (own_lines Lines Points_kept) k ≡ Some (line_by s Lines (slice_index Points_kept k)) →
+      IsLineAtWith g M P s k x → obstacles_at M s (decoded_coord r k) x ≡ []
+  clear s k x side own at =
       let line : slice_get xs k ≡ Some x =
-      ap (λ (zs : List ℕ). slice_get zs k) lines_are ∙ own_out Lines Points_kept k (omega (arith, count)) ∙ ap (λ (z : ℕ). Some z) there.1 in
-      let clear = clear_from M r 0 xs none k x line in
+      ap (λ (zs : List ℕ). slice_get zs k) lines_are ∙ own ∙ ap (λ (z : ℕ). Some z) (at_point s k x at).1 in
       let from_zero : 0 + k ≡ k = omega arith in
-      let side : side_at r k ≡ Outgoing = ap (λ (b : Bool). cond b Outgoing Incoming) (lt-ltb k (last_number r) lt) in
       subst (λ (s : Side). obstacles_at M s (decoded_coord r k) x ≡ []) side
-      (subst (λ (n : ℕ). obstacles_at M (side_at r n) (decoded_coord r n) x ≡ []) from_zero clear)
+      (subst (λ (n : ℕ). obstacles_at M (side_at r n) (decoded_coord r n) x ≡ []) from_zero (clear_from M r 0 xs none k x line))
 
-  clear_in : (x : ℕ) → IsLineAtWith g M P Incoming (last_number r) x →
-      obstacles_at M Incoming (decoded_coord r (last_number r)) x ≡ []
-  clear_in x at =
+  -- the path's line x at LRP k is the nearest one without a twin, and stands out
+  abbrev Distinguished : Side → ℕ → ℕ → Type 0
+  Distinguished s k x =
+      IsTrue (is_nearest far s (decoded_coord r k) (leg M x) (candidates M)) × IsTrue (has_no_twin s x (leg M x) (candidates M))
+      × IsTrue (stands_out far slack s (decoded_coord r k) x (leg M x) (candidates M))
+
+  at_lrp : (s : Side) (k x : ℕ) → k ≤ last_number r → IsTrue (has_line M x) → obstacles_at M s (decoded_coord r k) x ≡ [] →
+      Distinguished s k x
+  at_lrp s k x up known none =
+      let p = decoded_coord r k in
+      let all = λ (y : ℕ) (h : IsTrue (has_line M y)). w.all s k y up h in (
+        nearest_here M m s p x known none scale far w.unit all,
+        alone_here M m s p x known none scale far w.unit all,
+        stands_here M m s p x known none scale far w.unit all slack few,
+      )
+
+  at_out : (k x : ℕ) → k < last_number r → IsLineAtWith g M P Outgoing k x → Distinguished Outgoing k x
+  at_out k x lt at =
+      at_lrp Outgoing k x (omega arith) (known_out M m P is sound r e k x lt at) (clear Outgoing k x
+      (ap (λ (b : Bool). cond b Outgoing Incoming) (lt-ltb k (last_number r) lt)) (own_out Lines Points_kept k (omega (arith, count))) at)
+
+  at_in : (x : ℕ) → IsLineAtWith g M P Incoming (last_number r) x → Distinguished Incoming (last_number r) x
+  at_in x at =
       let k = last_number r in
-      let there = at_point Incoming k x at in
-      let line : slice_get xs k ≡ Some x =
-      ap (λ (zs : List ℕ). slice_get zs k) lines_are ∙ own_in Lines Points_kept k (omega (arith, count)) ∙ ap (λ (z : ℕ). Some z) there.1 in
-      let clear = clear_from M r 0 xs none k x line in
-      let from_zero : 0 + k ≡ k = omega arith in
-      let side : side_at r k ≡ Incoming = ap (λ (b : Bool). cond b Outgoing Incoming) (le-ltb k k (omega arith)) in
-      subst (λ (s : Side). obstacles_at M s (decoded_coord r k) x ≡ []) side
-      (subst (λ (n : ℕ). obstacles_at M (side_at r n) (decoded_coord r n) x ≡ []) from_zero clear)
+      at_lrp Incoming k x (omega arith) (known_in M m P is sound r e x at) (clear Incoming k x
+      (ap (λ (b : Bool). cond b Outgoing Incoming) (le-ltb k k (omega arith))) (own_in Lines Points_kept k (omega (arith, count))) at)
 
-  distinct : DistinctWith g far M P r
-  distinct =
-      record {
-        outgoing = λ k lt. record {
-          nearest = λ x at. nearest_here M m Outgoing (decoded_coord r k) x (known_out M m P is sound r e k x lt at) (clear_out k x lt at)
-              scale far w.unit (λ y h. w.all Outgoing k y (omega (arith, lt)) h);
-          alone = λ x at. alone_here M m Outgoing (decoded_coord r k) x (known_out M m P is sound r e k x lt at) (clear_out k x lt at)
-              scale far w.unit (λ y h. w.all Outgoing k y (omega (arith, lt)) h);
-        };
-        incoming = record {
-          nearest = λ x at. nearest_here M m Incoming (decoded_coord r (last_number r)) x (known_in M m P is sound r e x at) (clear_in x at)
-              scale far w.unit (λ y h. w.all Incoming (last_number r) y (omega arith) h);
-          alone = λ x at. alone_here M m Incoming (decoded_coord r (last_number r)) x (known_in M m P is sound r e x at) (clear_in x at)
-              scale far w.unit (λ y h. w.all Incoming (last_number r) y (omega arith) h);
-        };
-      }
-
-  by_direction : DistinctByDirectionWith g far slack M P r
-  by_direction =
-      record {
-        outgoing = λ k x lt at. stands_here M m Outgoing (decoded_coord r k) x (known_out M m P is sound r e k x lt at) (clear_out k x lt at)
-            scale far w.unit (λ y h. w.all Outgoing k y (omega (arith, lt)) h) slack few;
-        incoming = λ x at. stands_here M m Incoming (decoded_coord r (last_number r)) x (known_in M m P is sound r e x at) (clear_in x at)
-            scale far w.unit (λ y h. w.all Incoming (last_number r) y (omega arith) h) slack few;
-      }
+  distinct : DistinctWith g far M P r × DistinctByDirectionWith g far slack M P r
+  distinct = (
+    record {
+      outgoing = λ k lt. record { nearest = λ x at. (at_out k x lt at).0; alone = λ x at. (at_out k x lt at).1 };
+      incoming = record { nearest = λ x at. (at_in x at).0; alone = λ x at. (at_in x at).1 };
+    },
+    record { outgoing = λ k x lt at. (at_out k x lt at).2; incoming = λ x at. (at_in x at).2 },
+  )
 
 pub clear_is_distinct : (g : Margin) → ClearIsDistinct g
 clear_is_distinct g M m P is r enc xs own none scale far w slack few =
-    let p = by_answer M P r enc in (
-      distinct M m P is p.0 r p.1 xs own none scale far w slack few,
-      by_direction M m P is p.0 r p.1 xs own none scale far w slack few,
-    )
+    let p = by_answer M P r enc in distinct M m P is p.0 r p.1 xs own none scale far w slack few

@@ -20,8 +20,8 @@ use Rattle.olr_spec.proofs.Facts.{next_start}
 use Rattle.olr_spec.proofs.FieldLemmas.{position_is, linked_above, dm_same, last_two_linked}
 use Rattle.olr_spec.proofs.FitLemmas.{extended_sound, by_answer}
 use Rattle.olr_spec.proofs.DecodedLemmas.{Kept, answer_decodes, Back, Form, Front, form}
-use Rattle.std.proofs.Math.Nat.{mul-le-mul_left, mul-le-mul_right, mul-lt-mul_of_pos_left, le_of_mul-le-mul_left, mul-add}
-use Rattle.std.proofs.Math.Nat.{mul_comm, div-mul-le_self, lt-div-mul-add}
+use Rattle.std.proofs.Math.Nat.{le_of_mul-le-mul_left, mul_comm, mul-le-mul_left, mul-le-mul_right, mul-lt-mul_of_pos_left}
+use Rattle.std.proofs.Math.Nat.{div-mul-le_self, lt-div-mul-add}
 use Rattle.olr_spec.specs.Receiver.{Rating, IsDifference, Outgoing, Incoming, last_number, decoded_coord, attributes, sector_on}
 use Rattle.olr_spec.proofs.SectorLemmas.{has_below}
 use Rattle.olr_spec.proofs.JoinedLemmas.{extended_joined}
@@ -31,6 +31,7 @@ use Rattle.olr_laws.specs.DirectionLaws.{ClearStandsOut, DecodedNear, DecodedPoi
 use Rattle.olr_laws.specs.DirectionLaws.{Nearest}
 use Rattle.olr_spec.proofs.QueryLemmas.{stretch_parts}
 use Rattle.olr_spec.proofs.ReceiverLemmas.{same_path, passes}
+use Rattle.std.proofs.Common.{lt_of_mul-lt-mul_right}
 
 pub got_index : (f : ℕ → ℕ) (ks : List ℕ) (k v : ℕ) → option_map f (slice_get ks k) ≡ Some v → (k < length ks)
     × (f (slice_index ks k) ≡ v)
@@ -69,31 +70,48 @@ some_receiver far = (
 
 -- ---- the nearest node
 
--- the bound of the measure for the node of the LRP, from both axes
-own_side : (u scale a b B f : ℕ) → 0 < scale → u ≤ scale → a < B → b < B → f ≤ u * a + scale * b → f < scale * B + scale * B
-own_side u scale a b B f unit most ha hb h = grind (arith, mul-le-mul_right, mul-lt-mul_of_pos_left)
+-- the bound of the measure for a node, with e more, and that it is less than the measure for another
+own_bound : (u scale a b e f : ℕ) → u ≤ scale → f ≤ u * a + scale * b → f + scale * e ≤ scale * (a + b + e)
+own_bound u scale a b e f most h = grind (arith, mul-le-mul_right a most)
 
-by_latitude : (scale x B e f : ℕ) → B + B + e ≤ x → scale * x ≤ f → scale * B + scale * B + scale * e ≤ f
-by_latitude scale x B e f h g =
-    let all : scale * (B + B + e) ≤ scale * x = mul-le-mul_left scale h in
-    let parts : scale * (B + B + e) ≡ scale * (B + B) + scale * e = mul-add scale (B + B) e in
-    let two : scale * (B + B) ≡ scale * B + scale * B = mul-add scale B B in
+by_north : (scale near x f : ℕ) → 0 < scale → near < x → scale * x ≤ f → scale * near < f
+by_north scale near x f unit h g = omega (arith, mul-lt-mul_of_pos_left h unit)
+
+by_east : (n d scale u near x f : ℕ) → 0 < scale → n * scale ≤ d * u → d * near < n * x → u * x ≤ f → scale * near < f
+by_east n d scale u near x f unit least h g =
+    let less : scale * (d * near) < scale * (n * x) = mul-lt-mul_of_pos_left h unit in
+    let kept : n * scale * x ≤ d * u * x = mul-le-mul_right x least in
+    let all : scale * near * d < u * x * d = grind (arith, less, kept) in
+    omega (arith, lt_of_mul-lt-mul_right d all)
+
+-- by the differences to p, b is farther than a by more than e
+pub farther_by : (m n d scale e : ℕ) (far : Measure) (p : ℤ × ℤ) (a b : Coord) → 0 < scale → Weighted m d scale far p a →
+    Weighted n d scale far p b → (lon_apart p a + lat_apart p a + e < lat_apart p b)
+    ⊎ (d * (lon_apart p a + lat_apart p a + e) < n * lon_apart p b) → far p a + scale * e < far p b
+farther_by m n d scale e far p a b unit here there h =
+    let near = lon_apart p a + lat_apart p a + e in
+    let own = own_bound here.u scale (lon_apart p a) (lat_apart p a) e (far p a) here.most here.by_both in
+    let over : scale * near < far p b = elim h [
+      | inl north ↦ by_north scale near (lat_apart p b) (far p b) unit north there.by_lat
+      | inr east ↦ by_east n d scale there.u near (lon_apart p b) (far p b) unit there.least east there.by_lon
+    ] in
     omega arith
-
--- x is the distance D minus at most B
-by_longitude : (n d scale u x D B e f : ℕ) → 0 < d → 0 < scale → n * scale ≤ d * u → u ≤ scale → D ≤ x + B →
-    3 * (d * B) + d * e ≤ n * D → u * x ≤ f → scale * B + scale * B + scale * e ≤ f
-by_longitude n d scale u x D B e f some unit least most h far g =
-    let few : n ≤ d = le_of_mul-le-mul_left
-    (let goal : scale * n ≤ scale * d = omega (arith, mul-le-mul_left d most, mul_comm n scale, mul_comm d scale) in
-    goal) unit in
-    let kept : d * B + d * B + d * e ≤ n * x = omega (arith, mul-le-mul_left n h, mul-add n x B, mul-le-mul_right B few) in
-    let all : d * (scale * B + scale * B + scale * e) ≤ d * (u * x) =
-    grind (arith, mul-le-mul_left scale kept, mul-le-mul_right x least) in
-    omega (arith, le_of_mul-le-mul_left all some)
 
 triangle : (p a b : ℤ) → nat_abs (a -ℤ b) ≤ nat_abs (p -ℤ b) + nat_abs (p -ℤ a)
 triangle p a b = grind (arith, ints)
+
+few : (n d scale u : ℕ) → 0 < scale → n * scale ≤ d * u → u ≤ scale → n ≤ d
+few n d scale u unit least most =
+    let goal : scale * n ≤ scale * d = omega (arith, mul-le-mul_left d most, mul_comm n scale, mul_comm d scale) in
+    le_of_mul-le-mul_left goal unit
+
+east_of : (n d x a b B e D : ℕ) → n ≤ d → 0 < d → a < B → b < B → D ≤ x + a → 3 * (d * B) + d * e ≤ n * D → d * (a + b + e) < n * x
+east_of n d x a b B e D most some ha hb apart h =
+    let wide : n * D ≤ n * (x + a) = mul-le-mul_left n apart in
+    let less : n * a ≤ d * a = mul-le-mul_right a most in
+    let lon : d * a < d * B = mul-lt-mul_of_pos_left ha some in
+    let lat : d * b < d * B = mul-lt-mul_of_pos_left hb some in
+    grind (arith, wide, less, lon, lat)
 
 -- a is the own node's coordinate, and b is so far away in latitude, or in longitude times n / d
 farther : (n d scale e k : ℕ) (far : Measure) (p : ℤ × ℤ) (a b : Coord) → 0 < d → 0 < scale → Weighted n d scale far p a →
@@ -101,17 +119,12 @@ farther : (n d scale e k : ℕ) (far : Measure) (p : ℤ × ℤ) (a b : Coord) �
     → (3 * decoded_bound k + e ≤ nat_abs (a.lat -ℤ b.lat)) ⊎ (3 * (d * decoded_bound k) + d * e ≤ n * nat_abs (a.lon -ℤ b.lon))
     → far p a + scale * e < far p b
 farther n d scale e k far p a b some unit here there near spaced =
-    let B = decoded_bound k in
-    let own = own_side here.u scale (lon_apart p a) (lat_apart p a) B (far p a) unit here.most near.lon near.lat here.by_both in
-    let next = triangle p.1 a.lat b.lat in
-    let later = triangle p.0 a.lon b.lon in
-    elim spaced [
-      | inl north ↦
-          let over = by_latitude scale (lat_apart p b) B e (far p b) (omega (arith, near.lat)) there.by_lat in omega arith
-      | inr east ↦
-          let over = by_longitude n d scale there.u (lon_apart p b) (nat_abs (a.lon -ℤ b.lon)) B e (far p b) some unit there.least
-          there.most (omega (arith, near.lon)) east there.by_lon in omega arith
-    ]
+    farther_by n n d scale e far p a b unit here there (elim spaced [
+      | inl north ↦ inl (omega (arith, near.lon, near.lat, triangle p.1 a.lat b.lat))
+      | inr east ↦ inr (east_of n d (lon_apart p b) (lon_apart p a) (lat_apart p a) (decoded_bound k) e
+          (nat_abs (a.lon -ℤ b.lon)) (few n d scale there.u unit there.least there.most) some near.lon near.lat
+          (triangle p.0 a.lon b.lon) east)
+    ])
 
 nearer : (n d scale k : ℕ) (far : Measure) (p : ℤ × ℤ) (a b : Coord) → 0 < d → 0 < scale → Weighted n d scale far p a →
     Weighted n d scale far p b → IsNear k p a → is_spaced n d k a b ≡ true → far p a < far p b
@@ -236,10 +249,8 @@ number_known : (M : Map) (j d : ℕ) → j < length (lines_where M (λ _. true))
     IsTrue (has_line M (get_or (lines_where M (λ _. true)) j d))
 number_known M j d lt =
     let xs = lines_where M (λ _. true) in
-    let x = get_or xs j d in
-    let same : x ≡ slice_index xs j = get_or_default xs j d 0 lt in
-    let there : has xs x ≡ true = ap (has xs) same ∙ has_index xs j lt in
-    grind (arith, has-lines_where M (λ _. true) x)
+    let there : has xs (get_or xs j d) ≡ true = ap (has xs) (get_or_default xs j d 0 lt) ∙ has_index xs j lt in
+    grind (arith, has-lines_where M (λ _. true) (get_or xs j d))
 
 pub every_candidate : (M : Map) (f : ℕ × Leg → Bool) →
     ((x : ℕ) → IsTrue (has_line M x) → f (x, leg M x) ≡ true) → IsTrue (list_all f (candidates M))
@@ -252,8 +263,7 @@ every_candidate M f each =
 pub all_candidates : (M : Map) (f g : ℕ × Leg → Bool) →
     ((x : ℕ) → IsTrue (has_line M x) → f (x, leg M x) ≡ true → g (x, leg M x) ≡ true) →
     IsTrue (list_all f (candidates M)) → IsTrue (list_all g (candidates M))
-all_candidates M f g more a =
-    every_candidate M g (λ x known. more x known (passes M f a x known))
+all_candidates M f g more a = every_candidate M g (λ x known. more x known (passes M f a x known))
 
 spaced_nearest : (n d scale : ℕ) (far : Measure) (M : Map) (r : Reference) → IsWeighted n d scale far M r → (k : ℕ) →
     k ≤ last_number r → (s : Side) (x : ℕ) → IsTrue (has_line M x) →
@@ -405,21 +415,15 @@ nearest_own g M m P is r e n d scale far w = let p = by_answer M P r e in (
 
 pub outdone_of : (slack a b : ℕ) (beyond : Bool) → (a + slack < b) ⊎ ((a ≤ b) × (beyond ≡ true)) →
     (nat_lt (a + slack) b || nat_le a b && beyond) ≡ true
-outdone_of slack a b beyond (inl lt) = or_left (nat_lt (a + slack) b) _ (lt-ltb (a + slack) b lt)
-outdone_of slack a b beyond (inr both) = or_right (nat_lt (a + slack) b) _ (and_from (nat_le a b) beyond (le-leb a b both.0) both.1)
+outdone_of slack a b beyond h = grind (arith, lt-ltb, le-leb, or_left, or_right, and_from)
 
 spaced_either : (n d e k : ℕ) (a b : Coord) → is_spaced_by n d e k a b ≡ true →
     (3 * decoded_bound k + e ≤ nat_abs (a.lat -ℤ b.lat)) ⊎ (3 * (d * decoded_bound k) + d * e ≤ n * nat_abs (a.lon -ℤ b.lon))
-spaced_either n d e k a b h =
-    elim (or_cases (nat_le (3 * decoded_bound k + e) (nat_abs (a.lat -ℤ b.lat))) _ h) [
-      | inl north ↦ inl (leb-true (3 * decoded_bound k + e) _ north)
-      | inr east ↦ inr (leb-true (3 * (d * decoded_bound k) + d * e) _ east)
-    ]
+spaced_either n d e k a b h = grind (arith, or_cases, leb-true)
 
 pub same_place : (M : Map) (s : Side) (x y : ℕ) → node_on s (leg M y) ≡ node_on s (leg M x) →
     coordinate_on s (leg M y) ≡ coordinate_on s (leg M x)
-same_place M Outgoing x y e = ap (coord_at M) e
-same_place M Incoming x y e = ap (coord_at M) e
+same_place M s x y e = grind arith
 
 module _ (n d scale e : ℕ) (far : Measure) (M : Map) (r : Reference) (w : IsWeighted n d scale far M r) (k : ℕ)
     (up : k ≤ last_number r) (s : Side) (x : ℕ) (known : IsTrue (has_line M x))
