@@ -1,20 +1,17 @@
 -- An accepted command has one reply, apart from out of memory a command has one outcome, counts are determined, and the
 -- claims hold of runs from the start.
 use Rattle.olr_commands.proofs.Common.{Map, IsMap, Path, Reference, Answer, EncodesWith, Margin, one_answer_with, one_decoding}
-use Rattle.olr_commands.proofs.Common.{both_ways, concat, cases_Bool, cases_eq, bytes_decides, is_path, Refused, Refusal, IfSome}
-use Rattle.olr_commands.proofs.Common.{some_answer_with}
-use Rattle.std.proofs.Common.{arith, ◌≡◌, ℕ, List, [], ◌∷◌, Option, Some, None, sym, ap, ◌∙◌, subst, Result, Ok, Err, map, inl}
-use Rattle.std.proofs.Common.{IsFalse, inr, ◌⊎◌, ◌≢◌, suc, true, false, not, length, is_some, IsTrue, refl}
+use Rattle.olr_commands.proofs.Common.{bytes_decides, is_path, Refused, Refusal, some_answer_with, IfSome, not-false}
+use Rattle.std.proofs.Common.{arith, ◌≡◌, ℕ, List, [], ◌∷◌, Option, Some, None, sym, ap, ◌∙◌, subst, Ok, Err, map, IsFalse, inl}
+use Rattle.std.proofs.Common.{inr, suc, false, not, length, IsTrue, refl}
 use Rattle.std.specs.Prelude.{◌↔◌, ◌==◌}
 use Rattle.olr_commands.specs.State.{Named, Content, ArePaths, IsContent, Change, State, Command, Make, Show, Report, Explain}
-use Rattle.olr_commands.specs.State.{Begin, Commit, Abort, IsState, Dump, Fault, HasCoords, step, step_in, path_named, Show_node}
-use Rattle.olr_commands.specs.State.{Show_line, Show_margin, Set_margin, Depends, Compact, Preview, Ambiguous, same_name, No_path}
-use Rattle.olr_commands.specs.State.{has_path, changes_made, changes_made_in, start_state, has_asked, with_held, IsBatch, after}
-use Rattle.olr_commands.specs.State.{Count_differs}
-use Rattle.olr_commands.specs.RecordText.{record_line}
-use Rattle.olr_commands.specs.Reply.{Entry, entry, Reply, Fields, HasAnswer, AllOf, ChangedOf, Differences, Shown, Explained}
-use Rattle.olr_commands.specs.Reply.{IsPaths, IsFields, IsChangeReply, IsReply, IsRefusal, ByState, Lacks, Outcome, IsOutcome}
-use Rattle.olr_commands.specs.Reply.{lacks_memory, Dumped, Records, Names, Obstacles, Paths, Held}
+use Rattle.olr_commands.specs.State.{Commit, IsState, Fault, HasCoords, step, step_in, path_named, Set_margin, Depends, Preview}
+use Rattle.olr_commands.specs.State.{Ambiguous, has_path, No_path, changes_made, changes_made_in, has_asked, IsBatch, with_held}
+use Rattle.olr_commands.specs.State.{after, Count_differs}
+use Rattle.olr_commands.specs.Reply.{Entry, entry, Reply, HasAnswer, AllOf, ChangedOf, Differences, Shown, Explained, IsPaths}
+use Rattle.olr_commands.specs.Reply.{IsFields, IsChangeReply, IsRefusal, ByState, Lacks, Outcome, IsOutcome, Names, Held, Paths}
+use Rattle.olr_commands.specs.Reply.{lacks_memory, Obstacles}
 use Rattle.olr_laws.proofs.DependLemmas.{one_names, one_dependents, some_dependents}
 use Rattle.olr_laws.proofs.NamedObstacles.{one_obstacles, one_asked, some_asked}
 use Rattle.olr_commands.proofs.NameLemmas.{named_path}
@@ -22,15 +19,18 @@ use Rattle.olr_commands.proofs.StateLemmas.{steps_keep, when_ok}
 use Rattle.olr_spec.specs.Encoding.{Points, Unknown_line, Broken, Offset_too_long, No_next_point}
 use Rattle.olr_spec.specs.Bytes.{IsReference, reference_bytes}
 use Rattle.olr_spec.proofs.FitLemmas.{encoded_fits}
-use Rattle.olr_commands.specs.Dump.{dump_lines, dump_changes, node_changes, line_changes, DumpsAgain}
+use Rattle.olr_commands.specs.Dump.{dump_changes, DumpsAgain}
 use Rattle.olr_commands.specs.Dependents.{Dependents}
 use Rattle.olr_commands.specs.Ambiguities.{AskedAmbiguities}
-use Rattle.olr_laws.specs.CommandLaws.{PreviewsCommit, MarginRaisesAll}
+use Rattle.olr_laws.specs.CommandLaws.{PreviewsCommit, MarginRaisesAll, OneReply, OneOutcome, SomeReply}
 use Rattle.olr_commands.specs.Counts.{Affects, By_name, CountIs, Raises}
 use Rattle.olr_commands.proofs.CountLemmas.{unconcerned}
 use Rattle.olr_commands.proofs.DumpLemmas.{dumps_lead}
-use Rattle.olr_commands.specs.History.{Run, History, AllHaveCoords, names, Headline}
+use Rattle.olr_commands.specs.History.{Run, AllHaveCoords, names, HeadlineOfHistories}
 use Rattle.olr_commands.proofs.HistoryLemmas.{start_sound, names_changed, SoundOutcome, headline_of_outcomes}
+use Rattle.std.proofs.Math.Decide.{map_dec, ℕ_discrete}
+use Rattle.olr_spec.proofs.ListLemmas.{dec_same}
+use Rattle.olr_spec.proofs.OptionLemmas.{some_of}
 
 -- ---- replies are determined
 
@@ -51,30 +51,20 @@ one_paths T one r q p g = grind (arith, one)
 
 one_fields : (T : Reference → Type 0) → ((x y : Reference) → T x → T y → x ≡ y) → (r q : Reply) → IsFields r T →
     IsFields q T → r ≡ q
-one_fields T one (Fields x) (Fields y) p g = ap (λ (z : Reference). Fields z) (one x y p g)
-one_fields T one (Fields x) q p g = absurd g
-one_fields T one r q p g = absurd p
+one_fields T one r q p g = grind (arith, one)
 
 -- the path of a name has one answer
 pub one_has : (c : Content) → IsContent c → (name : List ℕ) (A B : Answer) → HasAnswer c name A → HasAnswer c name B →
     A ≡ B
 one_has c i name A B p q =
-    let path_is : Some p.0 ≡ Some q.0 = sym p.1 ∙ q.1 in
-    let same_path : p.0 ≡ q.0 = cc in
-    let answer : EncodesWith c.margin c.map p.0 B = subst (λ (Q : Path). EncodesWith c.margin c.map Q B) (sym same_path) q.2 in
-    one_answer_with c.margin c.map i.map p.0 (named_path c.paths name p.0 i.paths p.1) A B p.2 answer
+    grind (arith, one_answer_with c.margin c.map i.map p.0 (named_path c.paths name p.0 i.paths p.1) A B p.2)
 
 one_shown : (c : Content) (name : List ℕ) → IsContent c → (es fs : List Entry) → Shown c name es → Shown c name fs →
     es ≡ fs
-one_shown c name i es fs p q =
-    let same : p.0 ≡ q.0 = one_has c i name p.0 q.0 p.1 q.1 in
-    p.2 ∙ (λ k. entry name (same k) ∷ []) ∙ sym q.2
+one_shown c name i es fs p q = grind (arith, one_has c i name p.0 q.0 p.1 q.1)
 
 one_explained : (text : List ℕ) (x y : Reference) → Explained text x → Explained text y → x ≡ y
-one_explained text x y p q =
-    let bytes_are : Some p.0 ≡ Some q.0 = sym p.1 ∙ q.1 in
-    let bytes : p.0 ≡ q.0 = cc in
-    one_decoding x y p.2.0 q.2.0 (sym p.2.1 ∙ bytes ∙ q.2.1)
+one_explained text x y p q = grind (arith, one_decoding x y p.2.0 q.2.0)
 
 one_difference : (s t : Content) → IsContent t → (r q : Reply) → IsPaths r (Differences s t) →
     IsPaths q (Differences s t) → r ≡ q
@@ -93,8 +83,7 @@ held_sound s i = by s.batch i.batch where
   by None h = i.content
   by (Some xs) h = h.sound
 
-pub one_reply : (s t : State) (c : Command) (r q : Reply) → IsState s → IsState t → IsReply s c t r → IsReply s c t q →
-    r ≡ q
+pub one_reply : OneReply
 one_reply s t (Make x) r q i j p g = one_held s.batch s.content t.content j.content r q p g
 one_reply s t (Show name) r q i j p g = one_paths (Shown s.content name) (one_shown s.content name i.content) r q p g
 one_reply s t (Depends nodes) r q i j p g =
@@ -112,62 +101,37 @@ one_reply s t c r q i j p g = p ∙ sym g
 pub reported_by : (s : State) (c : Command) (fault : Fault) → IsFalse (lacks_memory (Err fault)) → IsRefusal s c fault →
     step s c ≡ Err fault
 reported_by s c fault n (ByState e) = e
-reported_by s c fault n (Lacks is may) =
-    absurd (both_ways (lacks_memory (Err fault)) n (ap (λ (f : Fault). lacks_memory (Err f)) is))
+reported_by s c fault n (Lacks is may) = grind arith
 
-pub one_outcome : (s t u : State) (c : Command) (o q : Outcome) → IsState s → HasCoords c → IsFalse (lacks_memory o) →
-    IsFalse (lacks_memory q)
-    → IsOutcome s c o t → IsOutcome s c q u → (o ≡ q) × (t ≡ u)
-one_outcome s t u c (Ok r) (Ok w) i h n m p g =
-    let both : ◌≡◌ {A = Result State Fault} (Ok t) (Ok u) = sym p.0 ∙ g.0 in
-    let same : t ≡ u = cc in
-    let one =
-    one_reply s t c r w i (steps_keep s t c i h p.0) p.1 (subst (λ (x : State). IsReply s c x w) (sym same) g.1) in
-    (ap (λ (x : Reply). Ok x) one, same)
+pub one_outcome : OneOutcome
+one_outcome s t u c (Ok r) (Ok w) i h n m p g = grind (arith, one_reply s t c r w i (steps_keep s t c i h p.0) p.1)
 one_outcome s t u c (Ok r) (Err f) i h n m p g = grind (arith, reported_by)
 one_outcome s t u c (Err f) (Ok w) i h n m p g = grind (arith, reported_by)
 one_outcome s t u c (Err f) (Err k) i h n m p g = grind (arith, reported_by)
 
 -- ---- answers are equal or not
 
-Is_or_not : {A : Type 0} → A → A → Type 0
-Is_or_not a b = (a ≡ b) ⊎ (a ≢ b)
-
-lists_decide : (xs ys : List ℕ) → Is_or_not xs ys
-unfolding Is_or_not
-lists_decide xs ys =
-    elim (cases_Bool (same_name xs ys)) [
-      | inl t ↦ inl ((bytes_decides xs ys).0 t)
-      | inr f ↦ inr (λ e. both_ways (same_name xs ys) f ((bytes_decides xs ys).1 e))
-    ]
-
 -- a reason is decided by its kind and its number
-refusals_decide : (x y : Refusal) → Is_or_not x y
-unfolding Is_or_not
-refusals_decide (Unknown_line n) (Unknown_line m) =
-    elim (cases_eq n m) [ inl e ↦ inl (ap (λ (k : ℕ). Unknown_line k) e) | inr ne ↦ inr (λ e. ne cc) ]
-refusals_decide (Broken n) (Broken m) =
-    elim (cases_eq n m) [ inl e ↦ inl (ap (λ (k : ℕ). Broken k) e) | inr ne ↦ inr (λ e. ne cc) ]
+refusals_decide : (x y : Refusal) → Dec (x ≡ y)
+refusals_decide (Unknown_line n) (Unknown_line m) = map_dec (λ e. ap (λ (k : ℕ). Unknown_line k) e) (λ e. cc) (ℕ_discrete n m)
+refusals_decide (Broken n) (Broken m) = map_dec (λ e. ap (λ (k : ℕ). Broken k) e) (λ e. cc) (ℕ_discrete n m)
 refusals_decide (No_next_point n) (No_next_point m) =
-    elim (cases_eq n m) [ inl e ↦ inl (ap (λ (k : ℕ). No_next_point k) e) | inr ne ↦ inr (λ e. ne cc) ]
-refusals_decide Offset_too_long Offset_too_long = inl refl
-refusals_decide x y = inr (λ e. absurd cc)
+    map_dec (λ e. ap (λ (k : ℕ). No_next_point k) e) (λ e. cc) (ℕ_discrete n m)
+refusals_decide Offset_too_long Offset_too_long = yes refl
+refusals_decide x y = no (λ e. absurd cc)
 
 -- a reference is decided by its bytes
 Fits : Answer → Type 0
 Fits (Points r) = IsReference r
 Fits (Refused f) = ◌≡◌ {A = Refusal} f f
 
-answers_decide : (A B : Answer) → Fits A → Fits B → Is_or_not A B
-unfolding Is_or_not Fits
+answers_decide : (A B : Answer) → Fits A → Fits B → Dec (A ≡ B)
+unfolding Fits
 answers_decide (Points r) (Points q) f g =
-    elim (lists_decide (reference_bytes r) (reference_bytes q)) [
-      | inl e ↦ inl (ap (λ (x : Reference). Points x) (one_decoding r q f g e))
-      | inr ne ↦ inr (λ e. let same : r ≡ q = cc in ne (ap reference_bytes same))
-    ]
-answers_decide (Refused x) (Refused y) f g =
-    elim (refusals_decide x y) [ inl e ↦ inl (ap (λ (k : Refusal). Refused k) e) | inr ne ↦ inr (λ e. ne cc) ]
-answers_decide A B f g = inr (λ e. absurd cc)
+    map_dec (λ e. ap (λ (x : Reference). Points x) (one_decoding r q f g e))
+    (λ e. let same : r ≡ q = cc in ap reference_bytes same) (dec_same (reference_bytes r) (reference_bytes q))
+answers_decide (Refused x) (Refused y) f g = map_dec (λ e. ap (λ (k : Refusal). Refused k) e) (λ e. cc) (refusals_decide x y)
+answers_decide A B f g = no (λ e. absurd cc)
 
 answer_fits : (g : Margin) (M : Map) → IsMap M → (P : Path) → IsTrue (is_path P.lines) → (A : Answer) → EncodesWith g M P A → Fits A
 unfolding Fits
@@ -177,18 +141,16 @@ answer_fits g M m P i (Refused f) e = refl
 -- ---- replies
 
 -- whether a path had this answer
-had : (c : Content) → IsContent c → (name : List ℕ) (A : Answer) → Fits A → HasAnswer c name A ⊎ (¬ HasAnswer c name A)
-unfolding Is_or_not
+had : (c : Content) → IsContent c → (name : List ℕ) (A : Answer) → Fits A → Dec (HasAnswer c name A)
 had c i name A f = by_path (path_named c.paths name) refl where
-  by_path : (o : Option Path) → path_named c.paths name ≡ o → HasAnswer c name A ⊎ (¬ HasAnswer c name A)
-  by_path None e = inr (λ h. absurd (let no : ◌≡◌ {A = Option Path} None (Some h.0) = sym e ∙ h.1 in cc))
+  by_path : (o : Option Path) → path_named c.paths name ≡ o → Dec (HasAnswer c name A)
+  by_path None e = no (λ h. absurd (let none : ◌≡◌ {A = Option Path} None (Some h.0) = sym e ∙ h.1 in cc))
   by_path (Some P) e =
       let sound = named_path c.paths name P i.paths e in
       let some = some_answer_with c.margin c.map i.map P sound in
-      elim (answers_decide A some.0 f (answer_fits c.margin c.map i.map P sound some.0 some.1)) [
-        | inl same ↦ inl (P, e, subst (λ (B : Answer). EncodesWith c.margin c.map P B) (sym same) some.1)
-        | inr other ↦ inr (λ h. other (one_has c i name A some.0 h (P, e, some.1)))
-      ]
+      map_dec (λ same. (P, e, subst (λ (B : Answer). EncodesWith c.margin c.map P B) (sym same) some.1))
+      (λ h. one_has c i name A some.0 h (P, e, some.1))
+      (answers_decide A some.0 f (answer_fits c.margin c.map i.map P sound some.0 some.1))
 
 some_changed : (c : Content) → IsContent c → (g : Margin) (M : Map) → IsMap M → (ps : List Named) → ArePaths ps → (es : List Entry)
     × ChangedOf c g M ps es
@@ -197,8 +159,8 @@ some_changed c i g M m (p ∷ ps) a =
     let some = some_answer_with g M m p.path a.0 in
     let rest = some_changed c i g M m ps a.1 in
     elim (had c i p.name some.0 (answer_fits g M m p.path a.0 some.0 some.1)) [
-      | inl h ↦ (rest.0, (some.0, rest.0, some.1, rest.1, inl (h, refl)))
-      | inr n ↦ (entry p.name some.0 ∷ rest.0, (some.0, rest.0, some.1, rest.1, inr (n, refl)))
+      | yes h ↦ (rest.0, (some.0, rest.0, some.1, rest.1, inl (h, refl)))
+      | no n ↦ (entry p.name some.0 ∷ rest.0, (some.0, rest.0, some.1, rest.1, inr (n, refl)))
     ]
 
 some_all : (g : Margin) (M : Map) → IsMap M → (ps : List Named) → ArePaths ps → (es : List Entry) × AllOf g M ps es
@@ -210,12 +172,10 @@ some_all g M m (p ∷ ps) a =
 
 some_shown : (c : Content) → IsContent c → (name : List ℕ) → not (has_path c name) ≡ false → (es : List Entry)
     × Shown c name es
-some_shown c i name h = by_path (path_named c.paths name) refl where
-  by_path : (o : Option Path) → path_named c.paths name ≡ o → (es : List Entry) × Shown c name es
-  by_path None e = absurd (both_ways true (ap (λ (o : Option Path). not (is_some o)) (sym e) ∙ h) refl)
-  by_path (Some P) e =
-      let some = some_answer_with c.margin c.map i.map P (named_path c.paths name P i.paths e) in
-      (entry name some.0 ∷ [], (some.0, (P, e, some.1), refl))
+some_shown c i name h =
+    let P = some_of (path_named c.paths name) (not-false _ h) in
+    let some = some_answer_with c.margin c.map i.map P.0 (named_path c.paths name P.0 i.paths P.1) in
+    (entry name some.0 ∷ [], (some.0, (P.0, P.1, some.1), refl))
 
 some_difference : (c d : Content) → IsContent c → IsContent d → (es : List Entry) × Differences c d es
 some_difference c d i j = some_changed c i d.margin d.map j.map d.paths j.paths
@@ -231,35 +191,25 @@ when_asked s t name is = by s.batch is where
   by None e = (when_ok (not (has_asked s.content name)) No_path (Ok (record { content = s.content; batch = None })) t e).0
   by (Some xs) e = absurd cc
 
-pub some_reply : (s t : State) (c : Command) → IsState s → HasCoords c → step s c ≡ Ok t →
-    ((text : List ℕ) → c ≢ Explain text) → (reply : Reply) × IsReply s c t reply
+pub some_reply : SomeReply
 some_reply s t (Make x) i h is n =
     some_held s.batch s.content t.content i.content (steps_keep s t (Make x) i h is).content
 some_reply s t (Show name) i h is n = let es =
     some_shown s.content i.content name (when_ok (not (has_path s.content name)) No_path (Ok s) t is).0 in
     (Paths es.0, es.1)
-some_reply s t (Show_node v) i h is n =
-    let xs = node_changes s.content.map v in (Records (length xs) (concat (map record_line xs)), refl)
-some_reply s t (Show_line x) i h is n =
-    let xs = line_changes s.content.map x in (Records (length xs) (concat (map record_line xs)), refl)
-some_reply s t Show_margin i h is n =
-    let xs = Set_margin s.content.margin ∷ [] in (Records (length xs) (concat (map record_line xs)), refl)
 some_reply s t (Depends nodes) i h is n =
     let d = some_dependents s.content.margin s.content.map i.content.map nodes s.content.paths i.content.paths in
     (Names (map (λ p. p.name) d.0), (d.0, d.1, refl))
 some_reply s t Report i h is n = let es =
     some_all s.content.margin s.content.map i.content.map s.content.paths i.content.paths in (Paths es.0, es.1)
-some_reply s t Dump i h is n = (Dumped (length (dump_lines s.content)) (concat (dump_lines s.content)), refl)
-some_reply s t Compact i h is n = (Paths [], refl)
 some_reply s t (Ambiguous name) i h is n =
     let es = some_asked s.content i.content name (when_asked s t name is) in (Obstacles es.0, es.1)
 some_reply s t (Explain text) i h is n = absurd (n text refl)
-some_reply s t Begin i h is n = (Paths [], refl)
 some_reply s t Preview i h is n =
     let es = some_difference s.content (with_held s.content s.batch) i.content (held_sound s i) in (Paths es.0, es.1)
 some_reply s t (Commit count) i h is n = let es =
     some_difference s.content t.content i.content (steps_keep s t (Commit count) i h is).content in (Paths es.0, es.1)
-some_reply s t Abort i h is n = (Paths [], refl)
+some_reply s t c i h is n = (_, refl)
 
 -- a preview has the replies of the commit that may follow
 pub previews_commit : PreviewsCommit
@@ -332,6 +282,5 @@ history_keeps s t (c ∷ cs) (o ∷ os) i h p =
     let rest = history_keeps p.0 t cs os mid h.1 p.2 in
     (rest.0, (p.0, (p.1, mid.content), rest.1))
 
-pub headline_of_histories : (cs : List Command) (os : List Outcome) (t : State) → AllHaveCoords cs →
-    History start_state cs os t → IsState t × Headline IsOutcome (λ c. Some c) start_state cs os t
+pub headline_of_histories : HeadlineOfHistories
 headline_of_histories cs os t h run = grind (arith, history_keeps, start_sound, headline_of_outcomes)

@@ -1,16 +1,13 @@
 -- Which paths depend on nodes: that is decidable, so that the question has exactly one answer; and an edit affects only such
 -- paths, and those that name a line which it adds.
-use Rattle.std.proofs.Common.{arith, ◌≡◌, ◌≢◌, ◌⊎◌, inl, inr, ℕ, zero, suc, ◌+◌, ◌-◌, ◌<◌, ◌≤◌, true, false, List, [], ◌∷◌, map}
-use Rattle.std.proofs.Common.{length, IsTrue, refl, sym, ap, ◌∙◌, subst, append-nil, ◌||◌, Ok, MatchOption, Bool}
+use Rattle.olr_spec.proofs.Common.{arith, ◌≡◌, ◌≢◌, ◌⊎◌, inl, inr, ℕ, zero, suc, ◌+◌, ◌-◌, ◌<◌, ◌≤◌, true, List, [], ◌∷◌, length}
+use Rattle.olr_spec.proofs.Common.{IsTrue, refl, sym, ◌∙◌, subst, append-nil, ◌||◌, Ok, MatchOption, cases_Bool, both_ways}
+use Rattle.olr_spec.proofs.Common.{or_left, Map, IsMap, Edit, Add_node, Move_node, Drop_node, Add_line, Set_line, Drop_line, has}
+use Rattle.olr_spec.proofs.Common.{has_line, edited, start, end, dm, lines_out, touched_nodes, touched_lines, Reaches, Path, Sees}
+use Rattle.olr_spec.proofs.Common.{is_path, extended_path, NodeOf, CoverageQuery, IsQueryWith, query_to_with, FootWith, dec_le}
 use Rattle.std.proofs.Math.Decide.{dec_lt, map_dec, ℕ_discrete}
-use Rattle.std.proofs.lemmas.Bool.{cases_Bool, both_ways, or_left}
 use Rattle.olr_spec.specs.Margins.{Margin}
-use Rattle.olr_spec.specs.Map.{Map, IsMap, Edit, Add_node, Move_node, Drop_node, Add_line, Set_line, Drop_line, has, has_line, dm}
-use Rattle.olr_spec.specs.Map.{edited, start, end, lines_out, touched_nodes, touched_lines}
-use Rattle.olr_spec.specs.Routes.{Reaches}
-use Rattle.olr_spec.specs.Extension.{Path, is_path, extended_path}
-use Rattle.olr_spec.specs.Queries.{NodeOf, CoverageQuery, IsQueryWith, query_to_with}
-use Rattle.olr_spec.specs.Footprint.{FootWith, FootOfWith, Sees, TouchedWith, On_path, On_start_run, On_end_run, Within_reach}
+use Rattle.olr_spec.specs.Footprint.{FootOfWith, TouchedWith, On_path, On_start_run, On_end_run, Within_reach}
 use Rattle.olr_spec.proofs.AnswerLemmas.{path_also, path_at, by_fault}
 use Rattle.olr_spec.proofs.DecideLemmas.{dec_and, some_encoding}
 use Rattle.olr_spec.proofs.ListLemmas.{has_here, has_there, has_cases}
@@ -18,18 +15,17 @@ use Rattle.olr_spec.proofs.RouteLemmas.{positive}
 use Rattle.olr_spec.proofs.RunLemmas.{leaving}
 use Rattle.olr_spec.proofs.TestedLemmas.{some_last_tested, one_query}
 use Rattle.olr_commands.specs.State.{Named, Content, ArePaths, On_map}
-use Rattle.olr_commands.specs.Reply.{Reply, Names, IsNames}
+use Rattle.olr_commands.specs.Reply.{Reply, IsNames}
 use Rattle.olr_commands.specs.Counts.{Picks, Affects, By_name, By_node, By_line}
 use Rattle.olr_commands.specs.Dependents.{DependsOn, Dependents, On_node, On_line}
 use Rattle.olr_laws.specs.CommandLaws.{NamesAdded, AffectedDepend}
+use Rattle.std.proofs.Common.{ap, Bool, false}
 
 -- ---- one answer
 
 pub one_names : (T : List (List ℕ) → Type 0) → ((x y : List (List ℕ)) → T x → T y → x ≡ y) → (r q : Reply) →
     IsNames r T → IsNames q T → r ≡ q
-one_names T one (Names x) (Names y) p g = ap (λ (z : List (List ℕ)). Names z) (one x y p g)
-one_names T one (Names x) q p g = absurd g
-one_names T one r q p g = absurd p
+one_names T one r q p g = grind (arith, one)
 
 one_picked : {A : Type 0} (P : A → Type 0) (xs ys zs : List A) → Picks P xs ys → Picks P xs zs → ys ≡ zs
 one_picked P [] ys zs p q = p ∙ sym q
@@ -42,8 +38,7 @@ one_picked P (x ∷ xs) ys zs (inr p) (inr q) = one_picked P xs ys zs p.1 q.1
 pub one_dependents : (c : Content) (nodes : List ℕ) (x y : List (List ℕ)) → Dependents c nodes x → Dependents c nodes y →
     x ≡ y
 one_dependents c nodes x y p q =
-    p.2 ∙ ap (λ (ps : List Named). map (λ n. n.name) ps)
-    (one_picked (λ n. DependsOn c.margin c.map nodes n.path) c.paths p.0 q.0 p.1 q.1) ∙ sym q.2
+    grind (arith, one_picked (λ n. DependsOn c.margin c.map nodes n.path) c.paths p.0 q.0 p.1 q.1)
 
 -- ---- it is decidable
 
@@ -55,16 +50,10 @@ dec_or (no f) (no g) = no (λ s. elim s [ inl a ↦ f a | inr b ↦ g b ])
 -- one of a list's numbers, or none
 dec_some : (Q : ℕ → Type 0) → ((x : ℕ) → Dec (Q x)) → (xs : List ℕ) → Dec ((x : ℕ) × IsTrue (has xs x) × Q x)
 dec_some Q d [] = no (λ h. absurd (let never = h.1 in cc))
-dec_some Q d (x ∷ xs) = elim (d x) [
-  | yes q ↦ yes (x, has_here x xs, q)
-  | no f ↦ elim (dec_some Q d xs) [
-    | yes r ↦ yes (r.0, has_there x xs r.0 r.1, r.2)
-    | no g ↦ no (λ h. elim (has_cases x xs h.0 h.1) [
-      | inl e ↦ f (subst Q (sym e) h.2)
-      | inr t ↦ g (h.0, t, h.2)
-    ])
-  ]
-]
+dec_some Q d (x ∷ xs) =
+    map_dec (λ s. elim s [ inl q ↦ (x, has_here x xs, q) | inr r ↦ (r.0, has_there x xs r.0 r.1, r.2) ])
+    (λ h. elim (has_cases x xs h.0 h.1) [ inl e ↦ inl (subst Q (sym e) h.2) | inr t ↦ inr (h.0, t, h.2) ])
+    (dec_or (d x) (dec_some Q d xs))
 
 module _ (g : Margin) (M : Map) (m : IsMap M) (v : ℕ) where
   -- the first line of a route from s
@@ -90,15 +79,10 @@ module _ (g : Margin) (M : Map) (m : IsMap M) (v : ℕ) where
     | no other ↦ map_dec (reaches_by s d) (begins_by s d other) (dec_some (Begins s d) (λ x.
         elim (cases_Bool (has_line M x)) [
           | inr off ↦ no (λ h. both_ways (has_line M x) off h.0.0)
-          | inl on ↦ elim (dec_lt d (dm M x)) [
-            | yes more ↦ no (λ h. absurd (let le = h.1.0 in omega arith))
-            | no f ↦ elim (ℕ_discrete (start M x) s) [
-              | no ne ↦ no (λ h. ne h.0.1)
-              | yes e ↦ elim (dec_reaches fuel (d - dm M x) (end M x) (omega (arith, positive M m x on, f))) [
-                | yes r ↦ yes ((on, e), (omega (arith, f), r))
-                | no g ↦ no (λ h. g h.1.1)
-              ]
-            ]
+          | inl on ↦ elim (dec_le (dm M x) d) [
+            | no f ↦ no (λ h. f h.1.0)
+            | yes le ↦ dec_and (dec_and (yes on) (ℕ_discrete (start M x) s))
+                (dec_and (yes le) (dec_reaches fuel (d - dm M x) (end M x) (omega (arith, positive M m x on, le))))
           ]
         ]) (lines_out M s))
   ]
@@ -119,11 +103,9 @@ module _ (g : Margin) (M : Map) (m : IsMap M) (v : ℕ) where
     | yes lt ↦
         let k = some_last_tested g M m ls i (omega (arith, lt)) in
         let q : CoverageQuery = query_to_with g M ls i k.0 in
-        elim (dec_reaches (suc q.within) q.within q.from (omega arith)) [
-          | yes r ↦ yes (lt, (q, (k.0, k.1, refl), r))
-          | no g ↦ no (λ h. g (subst (λ (l : CoverageQuery). Sees M l v)
-              (one_query M ls i h.1.0 q h.1.1 (k.0, k.1, refl)) h.1.2))
-        ]
+        map_dec (λ r. (lt, (q, (k.0, k.1, refl), r)))
+        (λ h. subst (λ (l : CoverageQuery). Sees M l v) (one_query M ls i h.1.0 q h.1.1 (k.0, k.1, refl)) h.1.2)
+        (dec_reaches (suc q.within) q.within q.from (omega arith))
   ]
 
   dec_touched : (ls b a js : List ℕ) → Dec (TouchedWith g M ls b a js v)
@@ -194,8 +176,7 @@ module _ (c : Content) (N : Map) (e : Edit) (nodes : List ℕ) (p : Named) (made
   begins (Move_node v place) ok x on there = absurd cc
   begins (Drop_node v) ok x on there = absurd cc
   begins (Add_line y l) ok x on there =
-      let same : y ≡ x = only y x on in
-      let known : has_line M y ≡ true = subst (λ (z : ℕ). has_line M z ≡ true) (sym same) there in
+      let known : has_line M y ≡ true = subst (λ (z : ℕ). has_line M z ≡ true) (sym (only y x on)) there in
       absurd (let never = rw known at ok in cc)
   begins (Set_line y frc fow len shape) ok x on there =
       subst (λ (z : ℕ). IsTrue (has (start M y ∷ end M y ∷ []) (start M z))) (only y x on)
