@@ -1,9 +1,8 @@
 -- The angle from the middle of a sector, for directions in the sector and beyond its margin.
-use Rattle.olr_spec.proofs.Common.{◌≡◌, ℕ, zero, suc, ◌+◌, ◌*◌, ◌/◌, ◌%◌, ◌<◌, ◌≤◌, ℤ, pos, negsuc, ◌-ℤ◌, ◌*ℤ◌, ◌≤ℤ◌, ◌<ℤ◌, Bool}
-use Rattle.olr_spec.proofs.Common.{true, false, not, nat_lt, nat_abs, int_le, List, [], ◌∷◌, map, arith, ints, refl, sym, ap, ◌∙◌}
-use Rattle.olr_spec.proofs.Common.{subst, inl, inr, and_parts, and_from, leb-true, le-leb, cases_Bool, has, Vector, vector, up_to}
-use Rattle.olr_spec.proofs.Common.{boundary, beyond, quarter_turn, lies_between, IsSector, by_lt_z, le-ltb, lt-ltb, ltb-true}
-use Rattle.olr_spec.proofs.Common.{cases_lt}
+use Rattle.olr_spec.proofs.Common.{◌≡◌, ℕ, zero, suc, ◌+◌, ◌*◌, ◌/◌, ◌%◌, ◌<◌, ◌≤◌, ℤ, pos, ◌-ℤ◌, ◌*ℤ◌, ◌≤ℤ◌, ◌<ℤ◌, Bool, true}
+use Rattle.olr_spec.proofs.Common.{false, not, nat_lt, nat_abs, int_le, List, [], ◌∷◌, map, arith, ints, refl, sym, ap, ◌∙◌, has}
+use Rattle.olr_spec.proofs.Common.{subst, and_parts, and_from, leb-true, le-leb, cases_Bool, Vector, vector, boundary, beyond}
+use Rattle.olr_spec.proofs.Common.{quarter_turn, lies_between, IsSector, up_to, by_lt_z, le-ltb, lt-ltb, ltb-true, cases_lt}
 use Rattle.olr_spec.proofs.SectorLemmas.{has_below, same_at, turned, turns_into, le_yes, le_test, neg_right, neg_left}
 use Rattle.std.proofs.Common.{neg_ℤ, int_lt}
 use Rattle.std.proofs.Math.Nat.{mul-le-mul_right}
@@ -11,6 +10,7 @@ use Rattle.olr_spec.proofs.Facts.{has_cases}
 use Rattle.olr_spec.specs.Directions.{margin_start, margin_end, is_direction, is_beyond}
 use Rattle.olr_laws.specs.Directions.{middle, along, across, is_within, count_where, IsNearly}
 use Rattle.olr_laws.specs.DirectionLaws.{SeesByLimits}
+use Rattle.olr_spec.proofs.Common.{negsuc, inl, inr}
 
 -- Z is z, but for at most a 200th
 pub record Near (z Z : ℤ) : Type 0 where
@@ -39,29 +39,21 @@ Both k = Inside (boundary k) (boundary (suc k)) (middle k) × Outside (margin_st
 
 of_quarter : (j : ℕ) → j < 8 → Inside (boundary j) (boundary (suc j)) (middle j)
 of_quarter zero lt e n E N h g p q =
-    let x = p.above (omega (arith, ints)) in let y = q.above (omega (arith, ints)) in
-    (omega (arith, ints), omega (arith, ints), omega (arith, ints))
+    let x = p.above (omega (arith, ints)) in let y = q.above (omega (arith, ints)) in omega (arith, ints)
 of_quarter (suc zero) lt e n E N h g p q =
-    let x = p.above (omega (arith, ints)) in let y = q.above (omega (arith, ints)) in
-    (omega (arith, ints), omega (arith, ints), omega (arith, ints))
+    let x = p.above (omega (arith, ints)) in let y = q.above (omega (arith, ints)) in omega (arith, ints)
 of_quarter (suc (suc zero)) lt e n E N h g p q =
-    let x = p.above (omega (arith, ints)) in let y = q.above (omega (arith, ints)) in
-    (omega (arith, ints), omega (arith, ints), omega (arith, ints))
+    let x = p.above (omega (arith, ints)) in let y = q.above (omega (arith, ints)) in omega (arith, ints)
 of_quarter (suc (suc (suc zero))) lt e n E N h g p q =
-    let x = p.above (omega (arith, ints)) in let y = q.above (omega (arith, ints)) in
-    (omega (arith, ints), omega (arith, ints), omega (arith, ints))
+    let x = p.above (omega (arith, ints)) in let y = q.above (omega (arith, ints)) in omega (arith, ints)
 of_quarter (suc (suc (suc (suc zero)))) lt e n E N h g p q =
-    let x = p.above (omega (arith, ints)) in let y = q.above (omega (arith, ints)) in
-    (omega (arith, ints), omega (arith, ints), omega (arith, ints))
+    let x = p.above (omega (arith, ints)) in let y = q.above (omega (arith, ints)) in omega (arith, ints)
 of_quarter (suc (suc (suc (suc (suc zero))))) lt e n E N h g p q =
-    let x = p.above (omega (arith, ints)) in let y = q.above (omega (arith, ints)) in
-    (omega (arith, ints), omega (arith, ints), omega (arith, ints))
+    let x = p.above (omega (arith, ints)) in let y = q.above (omega (arith, ints)) in omega (arith, ints)
 of_quarter (suc (suc (suc (suc (suc (suc zero)))))) lt e n E N h g p q =
-    let x = p.above (omega (arith, ints)) in let y = q.above (omega (arith, ints)) in
-    (omega (arith, ints), omega (arith, ints), omega (arith, ints))
+    let x = p.above (omega (arith, ints)) in let y = q.above (omega (arith, ints)) in omega (arith, ints)
 of_quarter (suc (suc (suc (suc (suc (suc (suc zero))))))) lt e n E N h g p q =
-    let x = p.above (omega (arith, ints)) in let y = q.above (omega (arith, ints)) in
-    (omega (arith, ints), omega (arith, ints), omega (arith, ints))
+    let x = p.above (omega (arith, ints)) in let y = q.above (omega (arith, ints)) in omega (arith, ints)
 of_quarter _ lt e n E N h g p q = absurd (omega arith)
 
 -- the sign of z is that of Z
@@ -75,31 +67,25 @@ out_of_quarter : (j : ℕ) → j < 8 → Outside (margin_start j) (margin_end j)
 out_of_quarter zero lt e n E N p q ahead right left =
     let b = q.above (sign_above n N q (omega (arith, ints))) in
     by_lt_z {P = (pos 0 ≤ℤ beyond (margin_start 0) (vector e n)) × (beyond (margin_end 0) (vector e n) <ℤ pos 0)} E (pos 0)
-    (λ less. let a = p.below (sign_below e E p less) in (omega (arith, ints), omega (arith, ints)))
-    (λ more. let a = p.above (sign_above e E p more) in (omega (arith, ints), omega (arith, ints)))
+    (λ less. let a = p.below (sign_below e E p less) in omega (arith, ints))
+    (λ more. let a = p.above (sign_above e E p more) in omega (arith, ints))
 out_of_quarter (suc zero) lt e n E N p q ahead right left =
-    let b = q.above (sign_above n N q (omega (arith, ints))) in let a = p.above (sign_above e E p (omega (arith, ints))) in
-    (omega (arith, ints), omega (arith, ints))
+    let b = q.above (sign_above n N q (omega (arith, ints))) in let a = p.above (sign_above e E p (omega (arith, ints))) in omega (arith, ints)
 out_of_quarter (suc (suc zero)) lt e n E N p q ahead right left =
-    let b = q.above (sign_above n N q (omega (arith, ints))) in let a = p.above (sign_above e E p (omega (arith, ints))) in
-    (omega (arith, ints), omega (arith, ints))
+    let b = q.above (sign_above n N q (omega (arith, ints))) in let a = p.above (sign_above e E p (omega (arith, ints))) in omega (arith, ints)
 out_of_quarter (suc (suc (suc zero))) lt e n E N p q ahead right left =
-    let b = q.above (sign_above n N q (omega (arith, ints))) in let a = p.above (sign_above e E p (omega (arith, ints))) in
-    (omega (arith, ints), omega (arith, ints))
+    let b = q.above (sign_above n N q (omega (arith, ints))) in let a = p.above (sign_above e E p (omega (arith, ints))) in omega (arith, ints)
 out_of_quarter (suc (suc (suc (suc zero)))) lt e n E N p q ahead right left =
-    let b = q.above (sign_above n N q (omega (arith, ints))) in let a = p.above (sign_above e E p (omega (arith, ints))) in
-    (omega (arith, ints), omega (arith, ints))
+    let b = q.above (sign_above n N q (omega (arith, ints))) in let a = p.above (sign_above e E p (omega (arith, ints))) in omega (arith, ints)
 out_of_quarter (suc (suc (suc (suc (suc zero))))) lt e n E N p q ahead right left =
-    let b = q.above (sign_above n N q (omega (arith, ints))) in let a = p.above (sign_above e E p (omega (arith, ints))) in
-    (omega (arith, ints), omega (arith, ints))
+    let b = q.above (sign_above n N q (omega (arith, ints))) in let a = p.above (sign_above e E p (omega (arith, ints))) in omega (arith, ints)
 out_of_quarter (suc (suc (suc (suc (suc (suc zero)))))) lt e n E N p q ahead right left =
-    let b = q.above (sign_above n N q (omega (arith, ints))) in let a = p.above (sign_above e E p (omega (arith, ints))) in
-    (omega (arith, ints), omega (arith, ints))
+    let b = q.above (sign_above n N q (omega (arith, ints))) in let a = p.above (sign_above e E p (omega (arith, ints))) in omega (arith, ints)
 out_of_quarter (suc (suc (suc (suc (suc (suc (suc zero))))))) lt e n E N p q ahead right left =
     let a = p.above (sign_above e E p (omega (arith, ints))) in
     by_lt_z {P = (pos 0 ≤ℤ beyond (margin_start 7) (vector e n)) × (beyond (margin_end 7) (vector e n) <ℤ pos 0)} N (pos 0)
-    (λ less. let b = q.below (sign_below n N q less) in (omega (arith, ints), omega (arith, ints)))
-    (λ more. let b = q.above (sign_above n N q more) in (omega (arith, ints), omega (arith, ints)))
+    (λ less. let b = q.below (sign_below n N q less) in omega (arith, ints))
+    (λ more. let b = q.above (sign_above n N q more) in omega (arith, ints))
 out_of_quarter _ lt e n E N p q ahead right left = absurd (omega arith)
 
 -- ---- a quarter turn to the right
@@ -113,8 +99,8 @@ along_turned m e n = omega (arith, neg_right n m.east, neg_left n m.east, ints)
 near_neg : (z Z : ℤ) → Near z Z → Near (neg_ℤ z) (neg_ℤ Z)
 near_neg z Z p =
     record {
-      above = λ h. let b = p.below (omega (arith, ints)) in (omega (arith, ints), omega (arith, ints));
-      below = λ h. let a = p.above (omega (arith, ints)) in (omega (arith, ints), omega (arith, ints));
+      above = λ h. let b = p.below (omega (arith, ints)) in omega (arith, ints);
+      below = λ h. let a = p.above (omega (arith, ints)) in omega (arith, ints);
     }
 
 turned_inside : (b c m : Vector) → Inside b c m → Inside (quarter_turn b) (quarter_turn c) (quarter_turn m)
@@ -180,8 +166,8 @@ abs_few n (negsuc a) y ahead right left = absurd (omega (arith, ints))
 
 few_abs : (n : ℕ) (x y : ℤ) → pos 0 <ℤ x → 1000 * nat_abs y ≤ n * nat_abs x →
     ((pos 1000 *ℤ y) ≤ℤ (pos n *ℤ x)) × (neg_ℤ (pos n *ℤ x) ≤ℤ (pos 1000 *ℤ y))
-few_abs n (pos a) (pos b) ahead h = (omega (arith, ints), omega (arith, ints))
-few_abs n (pos a) (negsuc b) ahead h = (omega (arith, ints), omega (arith, ints))
+few_abs n (pos a) (pos b) ahead h = omega (arith, ints)
+few_abs n (pos a) (negsuc b) ahead h = omega (arith, ints)
 few_abs n (negsuc a) y ahead h = absurd (omega (arith, ints))
 
 within_of : (t : ℕ) (m w : Vector) → 104000 ≤ t → pos 0 <ℤ along m w → 1000 * across m w ≤ 104 * nat_abs (along m w) →

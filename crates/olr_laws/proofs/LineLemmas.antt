@@ -1,6 +1,6 @@
 -- The laws of inputs that are read one record a line.
-use Rattle.std.proofs.Common.{◌≡◌, ◌∙◌, ◌==◌, ℕ, zero, suc, Bool, true, false, List, [], ◌∷◌, ◌++◌, length, map, Some, Err, inl}
-use Rattle.std.proofs.Common.{inr, refl, sym, ap, subst, arith, add-one}
+use Rattle.std.proofs.Common.{◌≡◌, ◌∙◌, ◌==◌, ℕ, zero, suc, true, false, List, [], ◌∷◌, ◌++◌, length, map, Some, Err, inl, inr}
+use Rattle.std.proofs.Common.{refl, sym, ap, subst, arith, add-one}
 use Rattle.std.proofs.lemmas.List.{append-nil, append_assoc}
 use Rattle.std.specs.List.{list_any}
 use Rattle.std.specs.Prelude.{IsOkAnd}
@@ -16,6 +16,7 @@ use Rattle.olr_input.proofs.LinesRead.{lines_ended}
 use Rattle.olr_input.specs.LineRecords.{HasNoEnd, EachIs, if_any, is_rejected, line_record, line_records, lines_from, lines_of}
 use Rattle.olr_input.specs.Lines.{BetweenRecords, is_line_end}
 use Rattle.olr_input.specs.Machine.{is_quoted, state_after}
+use Rattle.std.proofs.lemmas.Bool.{cases_Bool}
 use Rattle.olr_laws.specs.LineLaws.{LineGivesOne, SingleStay, FirstLine, IsRecordOf, LinesGiveRecords, FormlessRejected}
 use Rattle.csv.specs.declared.parser.State.TheVariants as st
 
@@ -46,8 +47,7 @@ is_record : (b : ℕ) (line : List ℕ) → HasNoEnd (b ∷ line) → IsRecordOf
 is_record b line none = (all_alone b line none, λ h. ap read (rejected_record (b ∷ line) h))
 
 end_byte : (e : ℕ) → IsEnd e → is_line_end e ≡ true
-end_byte e (inl h) = rw h refl
-end_byte e (inr h) = rw h refl
+end_byte e h = grind arith
 
 pub one_record : LineGivesOne
 one_record b line e rest none end =
@@ -68,15 +68,10 @@ each_line : (bytes line : List ℕ) → HasNoEnd line →
 unfolding lines_from
 each_line [] [] none = tt
 each_line [] (b ∷ line) none = (is_record b line none, tt)
-each_line (b ∷ bytes) line none =
-    by_end (is_line_end b) refl (each_line bytes [] refl) (λ longer clean. each_line bytes longer clean)
-  where
-    by_end : (end : Bool) → is_line_end b ≡ end →
-        EachIs IsRecordOf (lines_from [] bytes) (map line_record (lines_from [] bytes))
-        → ((longer : List ℕ) → HasNoEnd longer → EachIs IsRecordOf (lines_from longer bytes) (map line_record (lines_from longer bytes)))
-        → EachIs IsRecordOf (lines_from line (b ∷ bytes)) (map line_record (lines_from line (b ∷ bytes)))
-    by_end true e rest more = rw e (each_if_any line (lines_from [] bytes) none rest)
-    by_end false e rest more = rw e (more (line ++ b ∷ []) (no_end_more line b none e))
+each_line (b ∷ bytes) line none = elim (cases_Bool (is_line_end b)) [
+  | inl e ↦ rw e (each_if_any line (lines_from [] bytes) none (each_line bytes [] refl))
+  | inr e ↦ rw e (each_line bytes (line ++ b ∷ []) (no_end_more line b none e))
+]
 
 pub records_of_lines : LinesGiveRecords
 records_of_lines bytes = each_line (strip_bom bytes) [] refl
@@ -114,7 +109,27 @@ no_records s (inr e) = are_none s [] (rw e refl)
 not_quoted : (line : List ℕ) → is_rejected line ≡ false → is_quoted (state_after st.StartRecord line) ≡ false
 not_quoted line h = grind arith
 
--- from either state between records
+-- the line before an end, from either state between records
+line_ended : (b : ℕ) (bytes line : List ℕ) (s : State) → BetweenRecords s → is_line_end b ≡ true → HasNoEnd line →
+    list_any is_rejected (lines_from line (b ∷ bytes)) ≡ false
+    → ((t : State) → BetweenRecords t → list_any is_rejected (lines_of bytes) ≡ false → Are t bytes (map line_record (lines_of bytes)))
+    → Are s (line ++ b ∷ bytes) (map line_record (lines_from line (b ∷ bytes)))
+unfolding lines_from
+line_ended b bytes [] s at e none whole rest =
+    let w : list_any is_rejected (lines_of bytes) ≡ false = rw e at whole in
+    rw e (same_records s st.StartRecord (b ∷ bytes) bytes (map line_record (lines_of bytes)) (skips s b bytes at (end_of b e))
+    (rest st.StartRecord (inl refl) w))
+line_ended b bytes (c ∷ line) s at e none whole rest =
+    let one = gives_one c line none in
+    let all : list_any is_rejected ((c ∷ line) ∷ lines_of bytes) ≡ false = rw e at whole in
+    let here : is_rejected (c ∷ line) ≡ false = grind arith in
+    let others : list_any is_rejected (lines_of bytes) ≡ false = grind arith in
+    let same = record_is (c ∷ line) one.fields st.StartRecord [] here (one.alone st.StartRecord (inl refl)) in
+    rw e (subst (λ (f : List Field). Are s ((c ∷ line) ++ b ∷ bytes) (f ∷ map line_record (lines_of bytes))) (sym same)
+    (are_more s (after b) ((c ∷ line) ++ b ∷ bytes) bytes one.fields (map line_record (lines_of bytes))
+    (one.ended (not_quoted (c ∷ line) here) s at b bytes (end_of b e))
+    (rest (after b) (between_after b (end_of b e)) others)))
+
 plain_from : (bytes line : List ℕ) (s : State) → BetweenRecords s → HasNoEnd line →
     list_any is_rejected (lines_from line bytes) ≡ false → Are s (line ++ bytes) (map line_record (lines_from line bytes))
 unfolding lines_from
@@ -126,32 +141,13 @@ plain_from [] (c ∷ line) s at none whole =
     subst (λ (x : List ℕ). Are s x (line_record (c ∷ line) ∷ [])) (sym (append-nil (c ∷ line)))
     (subst (λ (f : List Field). Are s (c ∷ line) (f ∷ [])) (sym same)
     (are_more s st.StartRecord (c ∷ line) [] one.fields [] (one.alone s at) (no_records st.StartRecord (inl refl))))
-plain_from (b ∷ bytes) line s at none whole = by_end (is_line_end b) refl line none whole
-    (λ t between w. plain_from bytes [] t between refl w) (λ longer clean w. plain_from bytes longer s at clean w)
-  where
-    by_end : (end : Bool) → is_line_end b ≡ end → (line : List ℕ) → HasNoEnd line →
-        list_any is_rejected (lines_from line (b ∷ bytes)) ≡ false
-        → ((t : State) → BetweenRecords t → list_any is_rejected (lines_of bytes) ≡ false → Are t bytes (map line_record (lines_of bytes)))
-        → ((longer : List ℕ) → HasNoEnd longer → list_any is_rejected (lines_from longer bytes) ≡ false → Are s (longer ++ bytes) (map line_record (lines_from longer bytes)))
-        → Are s (line ++ b ∷ bytes) (map line_record (lines_from line (b ∷ bytes)))
-    by_end true e [] none whole rest more =
-        let w : list_any is_rejected (lines_of bytes) ≡ false = rw e at whole in
-        rw e (same_records s st.StartRecord (b ∷ bytes) bytes (map line_record (lines_of bytes)) (skips s b bytes at (end_of b e))
-        (rest st.StartRecord (inl refl) w))
-    by_end true e (c ∷ line) none whole rest more =
-        let one = gives_one c line none in
-        let all : list_any is_rejected ((c ∷ line) ∷ lines_of bytes) ≡ false = rw e at whole in
-        let here : is_rejected (c ∷ line) ≡ false = grind arith in
-        let others : list_any is_rejected (lines_of bytes) ≡ false = grind arith in
-        let same = record_is (c ∷ line) one.fields st.StartRecord [] here (one.alone st.StartRecord (inl refl)) in
-        rw e (subst (λ (f : List Field). Are s ((c ∷ line) ++ b ∷ bytes) (f ∷ map line_record (lines_of bytes))) (sym same)
-        (are_more s (after b) ((c ∷ line) ++ b ∷ bytes) bytes one.fields (map line_record (lines_of bytes))
-        (one.ended (not_quoted (c ∷ line) here) s at b bytes (end_of b e))
-        (rest (after b) (between_after b (end_of b e)) others)))
-    by_end false e line none whole rest more =
-        let w : list_any is_rejected (lines_from (line ++ b ∷ []) bytes) ≡ false = rw e at whole in
-        rw e (subst (λ (x : List ℕ). Are s x (map line_record (lines_from (line ++ b ∷ []) bytes)))
-        (append_assoc line (b ∷ []) bytes) (more (line ++ b ∷ []) (no_end_more line b none e) w))
+plain_from (b ∷ bytes) line s at none whole = elim (cases_Bool (is_line_end b)) [
+  | inl e ↦ line_ended b bytes line s at e none whole (λ t between w. plain_from bytes [] t between refl w)
+  | inr e ↦
+      let w : list_any is_rejected (lines_from (line ++ b ∷ []) bytes) ≡ false = rw e at whole in
+      rw e (subst (λ (x : List ℕ). Are s x (map line_record (lines_from (line ++ b ∷ []) bytes)))
+      (append_assoc line (b ∷ []) bytes) (plain_from bytes (line ++ b ∷ []) s at (no_end_more line b none e) w))
+]
 
 pub single_stay : SingleStay
 single_stay bytes whole =

@@ -1,10 +1,10 @@
 -- The ambiguities of strings: the question has exactly one answer, which names each string in whose way something
 -- stands, and nothing else.
-use Rattle.std.proofs.Common.{arith, ◌≡◌, ◌≢◌, inl, inr, ℕ, true, false, List, [], ◌∷◌, ◌++◌, map, not, Some, None, Option, refl}
-use Rattle.std.proofs.Common.{is_some, IsTrue, Contains, sym, ap, ◌∙◌, subst}
-use Rattle.olr_commands.proofs.Common.{both_ways, Map, IsMap, Path, is_path, Margin, Answer, Refused, EncodesWith}
-use Rattle.olr_commands.proofs.Common.{one_answer_with, some_answer_with}
+use Rattle.std.proofs.Common.{arith, ◌≡◌, ◌≢◌, inl, inr, ℕ, false, List, [], ◌∷◌, ◌++◌, map, not, Some, None, Option, IsTrue, sym}
+use Rattle.std.proofs.Common.{Contains, refl, ap, ◌∙◌, subst}
 use Rattle.std.proofs.lemmas.List.Elements.{Contains-append_left, Contains-append_right, Contains-append_cases}
+use Rattle.olr_commands.proofs.Common.{Map, IsMap, Path, is_path, Margin, Answer, Refused, EncodesWith, one_answer_with}
+use Rattle.olr_commands.proofs.Common.{some_answer_with, not-false}
 use Rattle.olr_spec.specs.Encoding.{Points}
 use Rattle.olr_spec.specs.Recovery.{OwnLinesWith, OwnLinesOfWith}
 use Rattle.olr_spec.specs.Ambiguity.{Obstacle, obstacles}
@@ -13,38 +13,31 @@ use Rattle.olr_spec.proofs.FitLemmas.{by_answer}
 use Rattle.olr_spec.proofs.ListLemmas.{Contains-here, Contains-later, Contains-cases}
 use Rattle.olr_commands.proofs.NameLemmas.{named_path}
 use Rattle.olr_commands.specs.State.{Named, Content, ArePaths, IsContent, path_named, has_asked}
-use Rattle.olr_commands.specs.Reply.{Reply, Obstacles, IsObstacles}
+use Rattle.olr_commands.specs.Reply.{Reply, IsObstacles}
 use Rattle.olr_commands.specs.Ambiguities.{NamedObstacle, named, obstacles_of, Ambiguity, Ambiguities, AskedAmbiguities}
 use Rattle.olr_laws.specs.AmbiguityLaws.{UnnamedIsDistinct, NamedStands, StandsFor}
 use Rattle.olr_laws.proofs.AmbiguityLemmas.{clear_is_distinct}
+use Rattle.olr_spec.proofs.OptionLemmas.{some_of}
 
 pub one_obstacles : (T : List NamedObstacle → Type 0) → ((x y : List NamedObstacle) → T x → T y → x ≡ y) → (r q : Reply) →
     IsObstacles r T → IsObstacles q T → r ≡ q
-one_obstacles T one (Obstacles x) (Obstacles y) p g = ap (λ (z : List NamedObstacle). Obstacles z) (one x y p g)
-one_obstacles T one (Obstacles x) q p g = absurd g
-one_obstacles T one r q p g = absurd p
+one_obstacles T one r q p g = grind (arith, one)
 
 -- ---- of one path
 
 module _ (g : Margin) (M : Map) (m : IsMap M) (P : Path) (is : IsTrue (is_path P.lines)) where
   one_own : (A : Answer) → EncodesWith g M P A → (xs ys : List ℕ) → OwnLinesOfWith g M P A xs → OwnLinesOfWith g M P A ys → xs ≡ ys
-  one_own (Points r) e xs ys p q =
-      let none = (by_answer M P r e).0 in
-      let same = path_at m is none p q in p.holds ∙ sym same
+  one_own (Points r) e xs ys p q = p.holds ∙ sym (path_at m is (by_answer M P r e).0 p q)
   one_own (Refused f) e xs ys p q = p ∙ sym q
 
   some_own : (A : Answer) → EncodesWith g M P A → (xs : List ℕ) × OwnLinesOfWith g M P A xs
-  some_own (Points r) e =
-      let p = (by_answer M P r e).1 in (_, path_also p refl)
+  some_own (Points r) e = (_, path_also (by_answer M P r e).1 refl)
   some_own (Refused f) e = ([], refl)
 
 one_ambiguity : (g : Margin) (M : Map) → IsMap M → (p : Named) → IsTrue (is_path p.path.lines) → (es fs : List NamedObstacle) →
     Ambiguity g M p es → Ambiguity g M p fs → es ≡ fs
 one_ambiguity g M m p is es fs a b =
-    let same : a.0 ≡ b.0 = one_answer_with g M m p.path is a.0 b.0 a.2 b.2 in
-    let own : a.1 ≡ b.1 = one_own g M m p.path is a.0 a.2 a.1 b.1 a.3
-    (subst (λ (A : Answer). OwnLinesOfWith g M p.path A b.1) (sym same) b.3) in
-    a.4 ∙ (λ i. map (named p.name) (obstacles_of M (same i) (own i))) ∙ sym b.4
+    grind (arith, one_answer_with g M m p.path is a.0 b.0 a.2 b.2, one_own g M m p.path is a.0 a.2 a.1 b.1 a.3)
 
 some_ambiguity : (g : Margin) (M : Map) → IsMap M → (p : Named) → IsTrue (is_path p.path.lines) →
     (es : List NamedObstacle) × Ambiguity g M p es
@@ -59,9 +52,7 @@ one_all : (g : Margin) (M : Map) → IsMap M → (ps : List Named) → ArePaths 
     Ambiguities g M ps fs → es ≡ fs
 one_all g M m [] i es fs a b = a ∙ sym b
 one_all g M m (p ∷ ps) i es fs a b =
-    let own = one_ambiguity g M m p i.0 a.0 b.0 a.2 b.2 in
-    let rest = one_all g M m ps i.1 a.1 b.1 a.3 b.3 in
-    a.4 ∙ (λ k. own k ++ rest k) ∙ sym b.4
+    grind (arith, one_ambiguity g M m p i.0 a.0 b.0 a.2 b.2, one_all g M m ps i.1 a.1 b.1 a.3 b.3)
 
 some_all : (g : Margin) (M : Map) → IsMap M → (ps : List Named) → ArePaths ps → (es : List NamedObstacle) × Ambiguities g M ps es
 some_all g M m [] i = ([], refl)
@@ -82,12 +73,10 @@ one_asked c i (Some name) es fs a b =
 pub some_asked : (c : Content) → IsContent c → (name : Option (List ℕ)) → not (has_asked c name) ≡ false →
     (es : List NamedObstacle) × AskedAmbiguities c name es
 some_asked c i None h = some_all c.margin c.map i.map c.paths i.paths
-some_asked c i (Some name) h = by_path (path_named c.paths name) refl where
-  by_path : (o : Option Path) → path_named c.paths name ≡ o → (es : List NamedObstacle) × AskedAmbiguities c (Some name) es
-  by_path None e = absurd (both_ways true (ap (λ (o : Option Path). not (is_some o)) (sym e) ∙ h) refl)
-  by_path (Some P) e =
-      let some = some_ambiguity c.margin c.map i.map (record { name = name; path = P }) (named_path c.paths name P i.paths e) in
-      (some.0, (P, e, some.1))
+some_asked c i (Some name) h =
+    let P = some_of (path_named c.paths name) (not-false _ h) in
+    let some = some_ambiguity c.margin c.map i.map (record { name = name; path = P.0 }) (named_path c.paths name P.0 i.paths P.1) in
+    (some.0, (P.0, P.1, some.1))
 
 -- ---- what it says
 

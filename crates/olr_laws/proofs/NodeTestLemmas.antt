@@ -42,8 +42,10 @@ same_place p c d is =
     let both = and_parts _ _ is in
     (as_far p.0 c.lon d.lon (eqb-true _ 0 both.0), as_far p.1 c.lat d.lat (eqb-true _ 0 both.1))
 
-own_far : (p : ℤ × ℤ) (c : Coord) → far_from c p c ≡ 1000000 * lon_apart p c + 1000000 * lat_apart p c
-own_far p c = ap (λ (b : Bool). cond b (1000000 * lon_apart p c + 1000000 * lat_apart p c) (max (least_cosine p c * lon_apart p c) (1000000 * lat_apart p c))) (at_itself c)
+far_is : (b : Bool) (c v : Coord) (q : ℤ × ℤ) → is_at c v ≡ b → far_from c q v
+    ≡ cond b (1000000 * lon_apart q v + 1000000 * lat_apart q v) (max (least_cosine q v * lon_apart q v) (1000000 * lat_apart q v))
+far_is b c v q e i =
+    cond (e i) (1000000 * lon_apart q v + 1000000 * lat_apart q v) (max (least_cosine q v * lon_apart q v) (1000000 * lat_apart q v))
 
 not_far : (e : ℕ) (p : ℤ × ℤ) (c d : Coord) → IsFalse (is_farther e p c d) →
     (lat_apart p d ≤ lon_apart p c + lat_apart p c + e) × (least_cosine p d * lon_apart p d ≤ 1000000 * (lon_apart p c + lat_apart p c + e))
@@ -53,14 +55,10 @@ at_most : (e : ℕ) (p : ℤ × ℤ) (c d : Coord) → IsFalse (is_farther e p c
     far_from c p d ≤ far_from c p c + 1000000 * e
 at_most e p c d h true is =
     let same = same_place p c d is in
-    let there : far_from c p d ≡ 1000000 * lon_apart p d + 1000000 * lat_apart p d =
-    ap (λ (b : Bool). cond b (1000000 * lon_apart p d + 1000000 * lat_apart p d) (max (least_cosine p d * lon_apart p d) (1000000 * lat_apart p d))) is in
-    omega (arith, there, same.0, same.1, own_far p c)
+    omega (arith, far_is true c d p is, same.0, same.1, far_is true c c p (at_itself c))
 at_most e p c d h false isnt =
     let both = not_far e p c d h in
-    let there : far_from c p d ≡ max (least_cosine p d * lon_apart p d) (1000000 * lat_apart p d) =
-    ap (λ (b : Bool). cond b (1000000 * lon_apart p d + 1000000 * lat_apart p d) (max (least_cosine p d * lon_apart p d) (1000000 * lat_apart p d))) isnt in
-    omega (arith, there, both.0, both.1, own_far p c)
+    omega (arith, far_is false c d p isnt, both.0, both.1, far_is true c c p (at_itself c))
 
 pub no_sharper_test : NoSharperTest
 no_sharper_test e p c d h = (

@@ -4,7 +4,7 @@ use Rattle.olr_spec.proofs.Common.{IsTrue, arith, Some, None, cond, append-nil, 
 use Rattle.olr_spec.proofs.Common.{last, dm_of, Path, StartRun, EndRun, LongestStart, LongestEnd, Tried, extended_path, is_path}
 use Rattle.olr_spec.proofs.Common.{path_fault, Follow, Points, Encodes, Encoding, Leg, leg, legs, answer_by_points, Option, Side}
 use Rattle.olr_spec.proofs.Common.{Refusal, Refused, MatchOption, Reference, Measure, candidates, option_map, slice_get}
-use Rattle.olr_spec.proofs.Common.{kept_points, is_nearest, has_no_twin, MayPrecede}
+use Rattle.olr_spec.proofs.Common.{kept_points, is_nearest, has_no_twin, cases_Bool}
 use Rattle.olr_spec.proofs.Facts.{path_at}
 use Rattle.olr_spec.specs.Receiver.{Outgoing, Incoming, last_number, decoded_coord}
 use Rattle.olr_spec.specs.Recovery.{IsLineAt, line_by, DistinctAt}
@@ -15,19 +15,12 @@ use Rattle.olr_laws.specs.Directions.{DistinctByDirection, stands_out}
 -- no line leads to the lines ls or on from them
 no_start_run : (M : Map) (ls : List ℕ) → passing M (start M (first ls)) ≡ false → (c : List ℕ) → StartRun M c ls → c ≡ []
 no_start_run M ls h [] r = refl
-no_start_run M ls h (x ∷ c) r = absurd (none c x r.0 r.1)
-  where
-    none : (c : List ℕ) (x : ℕ) → MayPrecede M x (c ++ ls) → StartRun M c ls → ⊥
-    none [] x p r =
-        let t : passing M (start M (first ls)) ≡ true = subst (λ (v : ℕ). IsTrue (passing M v)) p.joins p.through in cc (t, h)
-    none (y ∷ c) x p r = none c y r.0 r.1
+no_start_run M ls h (x ∷ []) r = grind (arith, r.0.joins, r.0.through)
+no_start_run M ls h (x ∷ y ∷ c) r = absurd (let none = no_start_run M ls h (y ∷ c) r.1 in cc)
 
 no_end_run : (M : Map) (ls : List ℕ) → passing M (end M (last ls)) ≡ false → (c : List ℕ) → EndRun M ls c → c ≡ []
 no_end_run M ls h [] r = refl
-no_end_run M ls h (x ∷ c) r =
-    let p = r.0 in
-    let t : passing M (end M (last ls)) ≡ true = subst (λ (v : ℕ). IsTrue (passing M v)) p.joins p.through in
-    absurd (let never : ⊥ = cc (t, h) in never)
+no_end_run M ls h (x ∷ c) r = grind (arith, r.0.joins, r.0.through)
 
 longest_start : (M : Map) (ls : List ℕ) → passing M (start M (first ls)) ≡ false → LongestStart M [] ls
 longest_start M ls h =
@@ -38,8 +31,7 @@ longest_end M ls h =
     record { run = tt; within = omega arith; longest = λ d r w. omega (arith, ap (dm_of M) (no_end_run M ls h d r)) }
 
 cond_same : (b : Bool) (xs : List ℕ) → cond b xs xs ≡ xs
-cond_same true xs = refl
-cond_same false xs = refl
+cond_same b xs = grind (arith, cases_Bool b)
 
 not_extended : (M : Map) (P : Path) → extended_path M P [] [] ≡ P
 not_extended M P =

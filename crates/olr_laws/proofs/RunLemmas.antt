@@ -1,18 +1,18 @@
 -- A run is determined by what it reads, reports out of memory only where that may be, and rebuilds a dumped content.
-use Rattle.olr_run.proofs.Common.{◌&&◌, is_err, cases_Bool, both_ways, or_parts, Outcome, lacks_memory, Field}
-use Rattle.olr_run.proofs.Common.{CommandOutcome, RecordOutcome, Outcomes, AreAnswered, AllHadMemory, IsFalse}
-use Rattle.olr_run.proofs.Common.{IsRefusal, ByState, read, may_lack, records_of}
-use Rattle.std.proofs.Common.{◌≡◌, ℕ, Bool, true, false, List, [], ◌∷◌, Ok, Err, refl, sym, ◌∙◌, subst, arith, inl, inr}
-use Rattle.std.proofs.Common.{◌⊎◌, IsTrue, map, length, None, Result}
-use Rattle.olr_commands.specs.State.{State, Command, HasCoords, IsState, Memory, Content, Fault, start_state, step}
+use Rattle.olr_run.proofs.Common.{◌&&◌, is_err, cases_Bool, both_ways, or_parts, Outcome, lacks_memory, Field, CommandOutcome}
+use Rattle.olr_run.proofs.Common.{RecordOutcome, Outcomes, AreAnswered, AllHadMemory, IsFalse, IsRefusal, ByState, read, may_lack}
+use Rattle.std.proofs.Common.{◌≡◌, Bool, true, false, List, [], ◌∷◌, Ok, Err, refl, sym, ◌∙◌, subst, arith, inl, inr, ◌⊎◌, IsTrue}
+use Rattle.std.proofs.Common.{map, length, Result}
+use Rattle.olr_commands.specs.State.{State, Command, HasCoords, IsState, Memory, Fault, step}
 use Rattle.olr_records.specs.Records.{Read, HoldsList}
-use Rattle.olr_run.specs.Output.{StopsAtFault, Ran, Status, any_refused, Builds, All_accepted}
+use Rattle.olr_run.specs.Output.{StopsAtFault, any_refused}
 use Rattle.olr_laws.proofs.CommandLemmas.{one_outcome, outcome_keeps}
 use Rattle.olr_records.proofs.ReadLemmas.{coords_read}
 use Rattle.olr_commands.specs.Reply.{Lacks}
 use Rattle.std.specs.Prelude.{IsOkAnd}
 use Rattle.olr_run.proofs.Dumping.{step_own}
 use Rattle.olr_commands.specs.Dump.{steps_then, steps}
+use Rattle.olr_laws.specs.RunLaws.{OutcomesKeep, OneRun, MemoryLacks, DumpsReload}
 
 command_keeps : (s t : State) (r : Read Command) (o : Outcome) → ((c : Command) → r ≡ Ok c → HasCoords c) → IsState s →
     CommandOutcome s r o t → IsState t
@@ -22,8 +22,7 @@ command_keeps s t (Err f) o h i p = subst IsState (sym p.1) i
 record_keeps : (s t : State) (fields : List Field) (o : Outcome) → IsState s → RecordOutcome s fields o t → IsState t
 record_keeps s t fields o i h = grind (arith, command_keeps, coords_read)
 
-pub outcomes_keep : (s t : State) (rs : List (List Field)) (os : List Outcome) → IsState s → Outcomes s rs os t →
-    IsState t
+pub outcomes_keep : OutcomesKeep
 outcomes_keep s t rs [] i p = subst IsState p i
 outcomes_keep s t [] (o ∷ os) i p = absurd p
 outcomes_keep s t (r ∷ rs) (o ∷ os) i p = outcomes_keep p.0 t rs os (record_keeps s p.0 r o i p.1) p.2
@@ -69,9 +68,7 @@ one_list stop s t u (r ∷ rs) (o ∷ os) (k ∷ qs) i n m a b c d p q =
       one_list stop p.0 t u rs os qs (record_keeps s p.0 r o i p.1),
     )
 
-pub one_run : (stop : Bool) (s t u : State) (rs : List (List Field)) (w v : List ℕ) (end stand : Status) → IsState s →
-    (p : Ran Outcomes stop s rs t w end) (q : Ran Outcomes stop s rs u v stand)
-    → AllHadMemory p.outcomes → AllHadMemory q.outcomes → (t ≡ u) × (w ≡ v) × (end ≡ stand)
+pub one_run : OneRun
 one_run stop s t u rs w v end stand i p q n m = grind (arith, one_list)
 
 -- ---- of a record
@@ -89,8 +86,7 @@ of_reading : (s : State) (r : Read Command) → IsOkAnd r HoldsList → IsOkAnd 
 of_reading s (Ok c) h = inl h
 of_reading s (Err f) h = h
 
-pub memory_lacks : (s t : State) (fields : List Field) → RecordOutcome s fields (Err Memory) t →
-    IsOkAnd (read fields) (λ c. HoldsList c ⊎ IsTrue (may_lack s c))
+pub memory_lacks : MemoryLacks
 memory_lacks s t fields h = grind (arith, of_command, of_reading)
 
 -- ---- a run over the text of a dump
@@ -131,7 +127,5 @@ ended : (stop : Bool) (rs : List (List Field)) (os : List Outcome) → IsFalse (
     AreAnswered stop rs os → length os ≡ length rs
 ended stop rs os none h = grind arith
 
-pub dumps_reload : (text : List ℕ) (n : ℕ) (c : Content) (stop : Bool) (t : State) (w : List ℕ) (end : Status) →
-    Builds text n c → (p : Ran Outcomes stop start_state (records_of text) t w end) → AllHadMemory p.outcomes →
-    (end ≡ All_accepted) × (t ≡ record { content = c; batch = None })
+pub dumps_reload : DumpsReload
 dumps_reload text n c stop t w end b p had = grind (arith, all_go, ended)
