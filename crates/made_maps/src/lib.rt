@@ -2,10 +2,8 @@
 #![tactic(auto)]
 
 pub mod alike;
-pub mod ends;
 
 pub use alike::difference;
-pub use ends::{end_of, start_of};
 use olr_coords::Coord;
 use olr_map::{Edit, EditFault, Line, LineId, NodeId, RoadMap, Shape};
 use std::alloc::{AllocError, Global};

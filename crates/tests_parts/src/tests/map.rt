@@ -1,33 +1,19 @@
-//! Worked edits, with expected values by hand, and edits made in one call compared with edits judged first.
+//! Worked edits, with expected values by hand.
 
-ghost use Rattle.std.specs.Prelude.{IsTrue, IfOk};
-ghost use Rattle.olr_map.specs.RoadMaps.{CanUndo, CanUndoAll};
+ghost use Rattle.std.specs.Prelude.{IsTrue};
+ghost use Rattle.olr_map.specs.RoadMaps.{CanUndoAll};
 
 use super::maps::edit;
 use crate::tests::same;
 use made_maps::{
-    Bend, FIRST, Road, STRAIGHT, WORKED, difference, line, map_of, new_node, next, node, place,
-    shape,
+    Bend, FIRST, Road, STRAIGHT, WORKED, difference, line, map_of, new_node, node, place, shape,
 };
 use olr_map::{
-    Edit, EditFault, EditPlan, Footprint, Line, LineEnd, LineId, MapRead, NodeId, RoadMap, Undo,
-    UndoLog, judge,
+    Edit, EditFault, EditPlan, Footprint, Line, LineId, MapRead, NodeId, RoadMap, UndoLog, judge,
 };
 use std::alloc::{AllocError, Global};
-use std::fmt::Debug;
 use std::process::Abort;
 use std::test::Fail;
-
-/// `same` for values at a node or a line with this number.
-fn same_at<T: PartialEq + Debug + Drop>(
-    rt: &impl Abort,
-    found: T,
-    wanted: T,
-    what: &str,
-    number: u32,
-) {
-    assert_eq!(rt; found, wanted, "{what} {number}");
-}
 
 /// Asserts that a condition is true.
 fn holds(rt: &impl Abort, is_so: bool, what: &str)
@@ -304,38 +290,6 @@ fn a_log_takes_all_back(rt: HostRuntime) -> Result<(), Fail> {
     Ok(())
 }
 
-/// Asserts that a line of 700 dm has its other end at node 3.
-fn assert_at_third(rt: &impl Abort, map: &RoadMap, end: &LineEnd) {
-    same!(rt; map.node_at(end.slot), Some(node(3)));
-    same!(rt; end.len, 700);
-    same!(rt; map.slot_of(node(3)), Some(end.slot));
-    holds!(rt; (end.slot as usize) < map.slot_count());
-}
-
-/// Asserts that the lines of node 2 by its slot are those by its number, and that line 7 enters it from node 3.
-fn assert_sides_of_second(rt: &impl Abort, map: &RoadMap) {
-    let Some(slot) = map.slot_of(node(2)) else {
-        panic!(rt; "node 2 is on the map");
-    };
-    same!(rt; map.in_lines_at(slot).lines, map.in_lines(node(2)));
-    same!(rt; map.out_lines_at(slot).lines, map.out_lines(node(2)));
-    same!(rt; map.out_lines_at(slot).ends.len(), map.out_lines(node(2)).len());
-    match map.in_lines_at(slot).ends.first() {
-        Some(end) => assert_at_third(rt, map, end),
-        None => panic!(rt; "line 7 enters node 2"),
-    }
-}
-
-#[test]
-fn far_ends_are_beside_lines(rt: HostRuntime) {
-    let mut map = base(&rt, rt.alloc());
-    let back = new_line(&rt, rt.alloc(), (7, 3, 2, 3, 2, 700, STRAIGHT));
-    edit(&rt, &mut map, back);
-    assert_lines(&rt, &map, 2, &[20, 99], &[7, 10]);
-    assert_sides_of_second(&rt, &map);
-    same!(&rt; map.slot_of(node(77)), None);
-}
-
 #[test]
 fn a_log_keeps_all(rt: HostRuntime) -> Result<(), Fail> {
     let mut map = RoadMap::new(rt.alloc());
@@ -349,26 +303,6 @@ fn a_log_keeps_all(rt: HostRuntime) -> Result<(), Fail> {
     map.undo_all(log);
     holds!(&rt; map.node(node(1)).is_some());
     holds!(&rt; map.node(node(2)).is_none());
-    Ok(())
-}
-
-/// What an edit touches that the map accepts: nodes, and a line.
-fn touched(map: &RoadMap, edit: &Edit) -> Result<((u32, u32), Option<u32>), EditFault> {
-    let plan = judge(map, edit)?;
-    let nodes = (plan.nodes.0.number(), plan.nodes.1.number());
-    Ok((nodes, plan.line.map(|line| line.number())))
-}
-
-#[test]
-fn tells_what_an_edit_touches(rt: HostRuntime) -> Result<(), Fail> {
-    let alloc = rt.alloc();
-    let map = base(&rt, alloc);
-    let drop = Edit::DropLine(line(99));
-    same!(&rt; touched(&map, &drop)?, ((2, 3), Some(99)));
-    let new = new_line(&rt, alloc, (98, 3, 2, 3, 2, 5, STRAIGHT));
-    same!(&rt; touched(&map, &new)?, ((3, 2), Some(98)));
-    let moved = Edit::MoveNode(node(2), place(7, 7));
-    same!(&rt; touched(&map, &moved)?, ((2, 2), None));
     Ok(())
 }
 
@@ -400,13 +334,6 @@ fn judges_before_it_makes(rt: HostRuntime) -> Result<(), Fail> {
 }
 
 #[test]
-fn judges_a_node_in_use(rt: HostRuntime) {
-    let map = base(&rt, rt.alloc());
-    let fault = judge(&map, &Edit::DropNode(node(2))).err();
-    same!(&rt; fault, Some(EditFault::NodeInUse));
-}
-
-#[test]
 fn a_footprint_is_a_set(rt: HostRuntime) -> Result<(), Fail> {
     let mut set = Footprint::new(rt.alloc());
     for number in [5, 2, 9, 2] {
@@ -425,82 +352,4 @@ fn a_footprint_is_a_set(rt: HostRuntime) -> Result<(), Fail> {
     holds!(&rt; set.has(node(7)));
     holds!(&rt; !set.has(node(8)));
     Ok(())
-}
-
-/// One of many edits of twelve nodes and thirty lines.
-fn edit_by(rt: &impl Abort, alloc: Global, seed: u64) -> Edit {
-    let from = ((seed >> 20) % 12 + 1) as u32;
-    let to = ((seed >> 30) % 12 + 1) as u32;
-    let id = ((seed >> 50) % 30 + 1) as u32;
-    let len = ((seed >> 10) % 1000) as u32;
-    match (seed >> 40) % 8 {
-        0 | 1 => Edit::AddNode(node(from), place(0, 7)),
-        2 => Edit::MoveNode(node(from), place(7, 0)),
-        3 => Edit::DropNode(node(from)),
-        4 | 5 => new_line(
-            rt,
-            alloc,
-            (id, from, to, 3, 2, len, &[(300, 612_000, 4_960_000)]),
-        ),
-        6 => other_line(
-            rt,
-            alloc,
-            id,
-            len,
-            &[(100, 612_000, 4_960_000), (200, 612_000, 4_960_000)],
-        ),
-        _ => Edit::DropLine(line(id)),
-    }
-}
-
-/// The fault of an edit, if it has one. Otherwise the edit is undone unless it `stands`.
-fn end_edit(map: &mut RoadMap, made: Result<Undo, EditFault>, stands: bool) -> Option<EditFault>
-    requires { IfOk made (CanUndo map.old) }
-{
-    match made {
-        Ok(undo) => {
-            if stands {
-                map.keep(undo);
-            } else {
-                map.undo(undo);
-            }
-            None
-        }
-        Err(fault) => Some(fault),
-    }
-}
-
-/// Makes an edit, which is undone unless it `stands`. Returns its fault, if it has one.
-fn fault_of(map: &mut RoadMap, edit: Edit, stands: bool) -> Option<EditFault> {
-    let made = map.apply(edit);
-    end_edit(map, made, stands)
-}
-
-/// `fault_of`, where the edit is judged first and then made.
-fn fault_of_plan(map: &mut RoadMap, edit: Edit, stands: bool) -> Option<EditFault> {
-    let plan = match judge(map, &edit) {
-        Ok(plan) => plan,
-        Err(fault) => return Some(fault),
-    };
-    let made = map
-        .make(edit, &plan)
-        .map_err(|_: AllocError| EditFault::Memory);
-    end_edit(map, made, stands)
-}
-
-/// Four thousand pseudorandom edits, of which every second one is undone.
-#[test]
-fn judging_first_changes_nothing(rt: HostRuntime) {
-    let alloc = rt.alloc();
-    let mut map = RoadMap::new(alloc);
-    let mut other = RoadMap::new(alloc);
-    let mut seed: u64 = 1;
-    for step in 0..4000u32 {
-        seed = next(seed);
-        let stands = step % 2 == 1;
-        let first = fault_of(&mut map, edit_by(&rt, alloc, seed), stands);
-        let second = fault_of_plan(&mut other, edit_by(&rt, alloc, seed), stands);
-        same_at(&rt, first, second, "step", step);
-        assert_alike(&rt, &map, &other);
-    }
 }
