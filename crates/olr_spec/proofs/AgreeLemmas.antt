@@ -1,8 +1,8 @@
 -- What is the same on two maps that agree around a node.
-use Rattle.olr_spec.proofs.Common.{◌≡◌, ℕ, ◌+◌, true, List, ◌∷◌, map, Option, Some, is_some, IsTrue, refl, sym, ap, ◌∙◌}
-use Rattle.olr_spec.proofs.Common.{◌==◌, unwrap_or, ◌↔◌, arith, [], eqb-true, get, nat_tests, Map, Line}
-use Rattle.olr_spec.proofs.Common.{has_line, line_at, start, end, dm, coord_at, SameLine, SameRound, lines_where, dm_of}
-use Rattle.olr_spec.proofs.Common.{passing, passes_between, no_line, no_coord}
+use Rattle.olr_spec.proofs.Common.{◌≡◌, ℕ, ◌+◌, true, List, ◌∷◌, map, Option, Some, is_some, IsTrue, refl, sym, ap, ◌∙◌, ◌==◌}
+use Rattle.olr_spec.proofs.Common.{unwrap_or, ◌↔◌, arith, [], eqb-true, get, nat_tests, Map, Line, has_line, line_at, start}
+use Rattle.olr_spec.proofs.Common.{end, dm, coord_at, SameLine, SameRound, lines_where, dm_of, passing, passes_between, no_line}
+use Rattle.olr_spec.proofs.Common.{no_coord}
 use Rattle.olr_spec.proofs.MapLemmas.{has-lines_where, passes_at, same_selected}
 use Rattle.olr_spec.proofs.ListLemmas.{Each, Each-head, Each-tail, map_same}
 

@@ -1,17 +1,17 @@
 -- Lists of numbers in strictly ascending order: searching for a number, inserting one and removing one.
-use Rattle.olr_spec.proofs.Common.{◌≡◌, ◌≢◌, ◌==◌, ℕ, suc, ◌+◌, ◌<◌, ◌≤◌, Bool, true, false, not, ◌&&◌, ◌||◌, ◌⊎◌, inl}
-use Rattle.olr_spec.proofs.Common.{inr, List, ◌∷◌, ◌++◌, Contains, Ok, Result, length, get_or, refl, sym, ap, ◌∙◌}
-use Rattle.olr_spec.proofs.Common.{arith, [], eq-eqb, ne_eqb, eqb-true, cases_Bool, cases_lt, cases_order, cases_eq}
-use Rattle.olr_spec.proofs.Common.{◌-◌, IsStrictlyIncreasing, list_any_at, has, Err, is_ok, ⊎_elim, MatchResult}
-use Rattle.olr_spec.proofs.Common.{IsPermutation, IsBinarySearchResult, or_comm, and_comm, get_or_default}
+use Rattle.olr_spec.proofs.Common.{◌≡◌, ◌≢◌, ◌==◌, ℕ, suc, ◌+◌, ◌<◌, ◌≤◌, Bool, true, false, not, ◌&&◌, ◌||◌, ◌⊎◌, inl, inr}
+use Rattle.olr_spec.proofs.Common.{List, ◌∷◌, ◌++◌, Contains, Ok, Result, length, get_or, refl, sym, ap, ◌∙◌, arith, [], eq-eqb}
+use Rattle.olr_spec.proofs.Common.{ne_eqb, eqb-true, cases_Bool, cases_lt, cases_order, cases_eq, ◌-◌, IsStrictlyIncreasing}
+use Rattle.olr_spec.proofs.Common.{list_any_at, has, Err, is_ok, ⊎_elim, MatchResult, IsPermutation, IsBinarySearchResult}
+use Rattle.olr_spec.proofs.Common.{or_comm, and_comm, get_or_default}
 use Rattle.std.proofs.Common.{insert, remove}
 use Rattle.std.proofs.lemmas.List.Kept.{AllPairs-from_increasing}
 use Rattle.std.proofs.lemmas.List.Sorted.{searched, list_any-IsPermutation, IsPermutation-insert, IsPermutation-remove}
 use Rattle.std.proofs.lemmas.List.Sorted.{IsPermutation-sym, Contains-permutation}
 use Rattle.std.proofs.lemmas.Map.Keys.{non_decreasing_from_sorted, sorted_from_strictly_increasing}
 use Rattle.std.specs.Ordering.{nat_cmp}
-use Rattle.std.proofs.lemmas.List.Edits.{length-insert, get_or-insert_at, get_or-insert_below, get_or-insert_above}
-use Rattle.std.proofs.lemmas.List.Edits.{insert_end, length-remove, get_or-remove_below, get_or-remove_above}
+use Rattle.std.proofs.lemmas.List.Edits.{length-insert, get_or-insert_at, get_or-insert_below, get_or-insert_above, insert_end}
+use Rattle.std.proofs.lemmas.List.Edits.{length-remove, get_or-remove_below, get_or-remove_above}
 use Rattle.olr_spec.proofs.ListLemmas.{Contains-cases, Contains-later}
 
 -- ---- where a search finds a number

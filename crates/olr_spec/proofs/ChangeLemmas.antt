@@ -1,9 +1,9 @@
 -- What one edit changes, and what consecutive edits change.
-use Rattle.olr_spec.proofs.Common.{inl, ◌≡◌, ◌≢◌, ℕ, false, List, ◌∷◌, ◌++◌, ◌≤◌, Ok, IsTrue, refl, sym, ◌∙◌, arith}
-use Rattle.olr_spec.proofs.Common.{◌==◌, Some, T, nat_cmp, [], both_ways, or_parts, list_any-append, get, FinMap, Map}
-use Rattle.olr_spec.proofs.Common.{Line, has_line, start, end, dm, Edit, edited, touched_nodes, SameRound, has}
-use Rattle.olr_spec.proofs.Common.{ChangedLine, AccountsFor, Coord, Contains-append_left, Contains-append_right}
-use Rattle.olr_spec.proofs.Common.{changes_of, IsChangedLine, EditsDiffer, NoDifference, DifferencesAdd, cases_eq}
+use Rattle.olr_spec.proofs.Common.{inl, ◌≡◌, ◌≢◌, ℕ, false, List, ◌∷◌, ◌++◌, ◌≤◌, Ok, IsTrue, refl, sym, ◌∙◌, arith, ◌==◌, Some}
+use Rattle.olr_spec.proofs.Common.{T, nat_cmp, [], both_ways, or_parts, list_any-append, get, FinMap, Map, Line, has_line}
+use Rattle.olr_spec.proofs.Common.{start, end, dm, Edit, edited, touched_nodes, SameRound, has, ChangedLine, AccountsFor, Coord}
+use Rattle.olr_spec.proofs.Common.{Contains-append_left, Contains-append_right, changes_of, IsChangedLine, EditsDiffer}
+use Rattle.olr_spec.proofs.Common.{NoDifference, DifferencesAdd, cases_eq}
 use Rattle.olr_spec.proofs.Facts.{known_record, Contains-here, same_way, same_way_on}
 use Rattle.olr_spec.proofs.EditLemmas.{edits_are_local, other_lines, edit_laws}
 

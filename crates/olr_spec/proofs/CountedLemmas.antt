@@ -1,9 +1,8 @@
 -- The map as it counts for some lines: where it is the map, and how it counts.
-use Rattle.olr_spec.proofs.Common.{◌≡◌, ℕ, ◌+◌, ◌*◌, ◌/◌, ◌≤◌, true, false, cond, List, [], ◌∷◌, refl, ap}
-use Rattle.olr_spec.proofs.Common.{Some, IsTrue, arith, ◌&&◌, ◌==◌, cases_eq, cases_Bool, eq-eqb, ne_eqb, get, Line}
-use Rattle.olr_spec.proofs.Common.{Map, has_line, line_at, start, end, dm, has, IsRoute, eqb-true}
-use Rattle.olr_spec.specs.Margins.{Margin, counted, counted_dm, counted_lines}
-use Rattle.olr_spec.proofs.Common.{cond_both, FinMap, nat_cmp, insert, get-insert, nat_cmp_total, unsigned_tied, ◌∙◌}
+use Rattle.olr_spec.proofs.Common.{◌≡◌, ℕ, ◌+◌, ◌*◌, ◌/◌, ◌≤◌, true, false, cond, List, [], ◌∷◌, refl, ap, Some, IsTrue, arith}
+use Rattle.olr_spec.proofs.Common.{◌&&◌, ◌==◌, cases_eq, cases_Bool, eq-eqb, ne_eqb, get, Line, Map, has_line, line_at, start}
+use Rattle.olr_spec.proofs.Common.{end, dm, has, IsRoute, eqb-true, Margin, counted, counted_dm, counted_lines, cond_both}
+use Rattle.olr_spec.proofs.Common.{FinMap, nat_cmp, insert, get-insert, nat_cmp_total, unsigned_tied, ◌∙◌}
 
 abbrev pub longer : Margin → Line → Line
 longer g l = record l { len = counted_dm g l.len }

@@ -1,8 +1,8 @@
 -- What counts the same on two maps, and what the front of a route counts.
-use Rattle.olr_spec.proofs.Common.{◌≡◌, ℕ, ◌+◌, ◌≤◌, ◌↔◌, cond, List, [], ◌∷◌, ◌++◌, refl, sym, subst, Bool, arith}
-use Rattle.olr_spec.proofs.Common.{IsTrue, ◌&&◌, ◌==◌, cases_Bool, has, SameWay, Map, has_line, dm, dm_of, IsRoute}
-use Rattle.olr_spec.proofs.Common.{append-nil, list_any-append, or_left, ChangedLine, AccountsFor, Detour}
-use Rattle.olr_spec.specs.Margins.{Margin, counted, counted_dm, counted_dm_of, CountedRoute}
+use Rattle.olr_spec.proofs.Common.{◌≡◌, ℕ, ◌+◌, ◌≤◌, ◌↔◌, cond, List, [], ◌∷◌, ◌++◌, refl, sym, subst, Bool, arith, IsTrue}
+use Rattle.olr_spec.proofs.Common.{◌&&◌, ◌==◌, cases_Bool, has, SameWay, Map, has_line, dm, dm_of, IsRoute, append-nil}
+use Rattle.olr_spec.proofs.Common.{list_any-append, or_left, ChangedLine, AccountsFor, Detour, Margin, counted, counted_dm}
+use Rattle.olr_spec.proofs.Common.{counted_dm_of, CountedRoute}
 use Rattle.olr_spec.proofs.ListLemmas.{Each, Each-tail, Each-left, Each-right, has_here, has_there}
 use Rattle.olr_spec.proofs.RouteLemmas.{dm_of-append, IsRoute-append}
 use Rattle.olr_spec.proofs.WayLemmas.{route_known}

@@ -1,20 +1,17 @@
 -- Each definition is decidable, so each path has an answer.
-use Rattle.olr_spec.specs.Margins.{Margin, counted}
-use Rattle.olr_spec.proofs.Common.{◌⊎◌, inl, inr, ◌≡◌, ℕ, zero, suc, ◌+◌, true, false, List, ◌∷◌, ◌++◌, length, ◌<◌}
-use Rattle.olr_spec.proofs.Common.{◌≤◌, None, IsTrue, refl, ap, arith, MatchOption, [], ◌≢◌, cases_lt, cases_eq, dec_le}
-use Rattle.olr_spec.proofs.Common.{Map, IsMap, has_line, end, dm, coord_at, lines_where, has, IsRoute, dm_of}
-use Rattle.olr_spec.proofs.Common.{UniqueShortest, Path, is_path, first, last, passing, MayPrecede, MayFollow}
-use Rattle.olr_spec.proofs.Common.{LongestStart, LongestEnd, Tried, from_start, taken_start, extended_path, limit}
-use Rattle.olr_spec.proofs.Common.{node_at, stretch, CoveredWith, fit16, CandidateWith, ValidCandidateWith, Greatest}
-use Rattle.olr_spec.proofs.Common.{NextWith, To_end, To_valid, To_passing, FollowWith, Answer, Refused, path_fault}
-use Rattle.olr_spec.proofs.Common.{answer_by_points_with, EncodingWith, Bool-discrete, NoNextWith, OneUnique}
-use Rattle.olr_spec.proofs.Common.{SomeAnswer, min, slice_index, start, ◌-◌, sym, ◌∙◌}
+use Rattle.olr_spec.proofs.Common.{Margin, LongestEnd, from_start, CoveredWith, To_passing, FollowWith, path_fault, slice_index}
+use Rattle.olr_spec.proofs.Common.{counted, coord_at, IsRoute, is_path, passing, node_at, stretch, Greatest, NextWith, To_valid}
+use Rattle.olr_spec.proofs.Common.{◌⊎◌, UniqueShortest, extended_path, CandidateWith, ValidCandidateWith, answer_by_points_with}
+use Rattle.olr_spec.proofs.Common.{inl, inr, ◌≡◌, true, List, ◌++◌, None, refl, Path, first, last, Tried, limit, fit16, start}
+use Rattle.olr_spec.proofs.Common.{ℕ, suc, ◌+◌, ◌∷◌, ◌<◌, ◌≤◌, ap, [], ◌≢◌, Map, end, dm, has, min, ◌-◌, sym, ◌∙◌}
+use Rattle.olr_spec.proofs.Common.{zero, cases_lt, cases_eq, has_line, MayFollow, NoNextWith, OneUnique, SomeAnswer, ℕ_discrete}
+use Rattle.olr_spec.proofs.Common.{false, length, IsTrue, arith, dec_le, IsMap, dm_of, To_end, Answer, Refused, dec_lt, map_dec}
+use Rattle.olr_spec.proofs.Common.{MatchOption, lines_where, MayPrecede, LongestStart, taken_start, EncodingWith, Bool-discrete}
 use Rattle.olr_spec.proofs.ListLemmas.{dec_same}
 use Rattle.olr_spec.proofs.CountedLemmas.{counted_known, counted_least}
 use Rattle.olr_spec.proofs.Facts.{positive, dm_of-append, Each, Each-nil, Each-cons, Each-head, Each-tail, Known}
 use Rattle.olr_spec.proofs.Facts.{AreRuns, no_longer, start_runs, end_runs, last_known, sound_lines, all_first}
 use Rattle.olr_spec.proofs.Facts.{all_last, path_nonempty, by_fault, EndRun-push, has_number}
-use Rattle.std.proofs.Math.Decide.{dec_lt, map_dec, ℕ_discrete}
 
 -- ---- decidable propositions
 

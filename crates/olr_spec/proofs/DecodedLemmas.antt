@@ -1,12 +1,11 @@
 -- The coordinates that the LRPs of an answer are decoded as.
-use Rattle.olr_spec.specs.Margins.{Margin}
-use Rattle.olr_spec.proofs.Common.{◌≡◌, ℕ, zero, suc, ◌+◌, ◌*◌, ℤ, pos, ◌<ℤ◌, ◌-ℤ◌, true, List, ◌∷◌, ◌++◌, length, take}
+use Rattle.olr_spec.proofs.Common.{Margin, ◌≡◌, ℕ, zero, suc, ◌+◌, ◌*◌, ℤ, pos, ◌<ℤ◌, ◌-ℤ◌, true, List, ◌∷◌, ◌++◌, length, take}
 use Rattle.olr_spec.proofs.Common.{map, ◌<◌, ◌≤◌, Some, None, IsTrue, refl, ap, ◌∙◌, arith, [], ◌-◌, nat_abs, le-leb}
-use Rattle.olr_spec.proofs.Common.{slice_index, ints, abs24, relative, Map, has, Path, is_path, extended_path, Leg}
-use Rattle.olr_spec.proofs.Common.{Middle, Reference, legs, position, first_kept, last_kept, kept_points, last_two}
-use Rattle.olr_spec.proofs.Common.{middle_points_with, reference_by_kept_with, reference_by_with, last_point, Last}
-use Rattle.olr_spec.proofs.Common.{from_front, to_back, Points, path_fault, EncodingWith, decoded_bound, IsNear, ◌+ℤ◌}
-use Rattle.olr_spec.proofs.Common.{cond-true, from_abs24, nearest, from_rel16, middle_point_with, steps_sum, decoded}
+use Rattle.olr_spec.proofs.Common.{slice_index, ints, abs24, relative, Map, has, Path, is_path, extended_path, Leg, Middle}
+use Rattle.olr_spec.proofs.Common.{Reference, legs, position, first_kept, last_kept, kept_points, last_two, middle_points_with}
+use Rattle.olr_spec.proofs.Common.{reference_by_kept_with, reference_by_with, last_point, Last, from_front, to_back, Points}
+use Rattle.olr_spec.proofs.Common.{path_fault, EncodingWith, decoded_bound, IsNear, ◌+ℤ◌, cond-true, from_abs24, nearest}
+use Rattle.olr_spec.proofs.Common.{from_rel16, middle_point_with, steps_sum, decoded}
 use Rattle.olr_spec.proofs.Facts.{has_cases, two_kept, LinkedWith, follow_linked_with, kept_linked_with}
 use Rattle.olr_spec.proofs.FitLemmas.{kept_ends, extended_sound, answered}
 

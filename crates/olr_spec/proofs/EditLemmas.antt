@@ -1,11 +1,10 @@
 -- What an edit changes, and what it leaves unchanged.
-use Rattle.olr_spec.proofs.Common.{◌⊎◌, ◌↔◌, ◌≡◌, ◌≢◌, ℕ, Bool, true, false, ◌||◌, List, Some, None, Ok, IsTrue}
-use Rattle.olr_spec.proofs.Common.{nat_cmp, ◌==◌, arith, eq-eqb, ne_eqb, or_left, or_right, cases_eq}
-use Rattle.olr_spec.proofs.Common.{both_ways, and_parts, or_parts, not-false, nat_cmp_total, FinMap, get, insert}
-use Rattle.olr_spec.proofs.Common.{remove, entries, Coord, is_coord, Map, IsMap, Line, is_good, has_node, has_line}
-use Rattle.olr_spec.proofs.Common.{start, end, Edit, Add_node, Move_node, Drop_node, Add_line, Set_line, Drop_line}
-use Rattle.olr_spec.proofs.Common.{edited, in_use, touched_nodes, SameLine, Agree, has, false_from_ne_true}
-use Rattle.olr_spec.proofs.Common.{unsigned_tied, get-insert, get-remove, are_coords, touched_lines, EditsKeep}
+use Rattle.olr_spec.proofs.Common.{◌⊎◌, ◌↔◌, ◌≡◌, ◌≢◌, Some, None, ◌==◌, get, Map, Line, end, Edit, has}
+use Rattle.olr_spec.proofs.Common.{ℕ, or_right, cases_eq, or_parts, is_coord, has_node, has_line, Add_node, Add_line, EditsKeep}
+use Rattle.olr_spec.proofs.Common.{Bool, IsTrue, nat_cmp, eq-eqb, ne_eqb, or_left, FinMap, entries, is_good, Set_line, SameLine}
+use Rattle.olr_spec.proofs.Common.{true, false, ◌||◌, List, arith, insert, remove, Coord, IsMap, start, edited, in_use, Agree}
+use Rattle.olr_spec.proofs.Common.{Ok, both_ways, and_parts, not-false, Move_node, Drop_node, Drop_line, get-remove, are_coords}
+use Rattle.olr_spec.proofs.Common.{nat_cmp_total, touched_nodes, false_from_ne_true, unsigned_tied, get-insert, touched_lines}
 use Rattle.olr_spec.proofs.Facts.{Each-to, known_record, has-lines_where, none_has}
 
 -- the conditions of an accepted edit, and the map that it makes

@@ -1,19 +1,18 @@
 -- A route that is the unique shortest one where its own lines count longer is so on a map whose lengths are nearly the
 -- same.
-use Rattle.olr_spec.proofs.Common.{inl, inr, ◌≡◌, ◌≢◌, ◌⊎◌, ℕ, ◌+◌, ◌-◌, ◌*◌, ◌≤◌, ◌<◌, Bool, true, false, List, []}
-use Rattle.olr_spec.proofs.Common.{◌∷◌, ◌++◌, refl, sym, ap, ◌∙◌, not, subst, arith, IsTrue, ◌&&◌, ◌==◌, cases_Bool}
-use Rattle.olr_spec.proofs.Common.{has, none_twice, and_parts, and_from, Map, IsMap, has_line, end, dm, dm_of, IsRoute}
-use Rattle.olr_spec.proofs.Common.{LrpRoute, leb-true, le-leb, list_any-append, append_assoc, UniqueShortest}
+use Rattle.olr_spec.proofs.Common.{inl, inr, ◌≡◌, ◌≢◌, ◌⊎◌, ℕ, ◌+◌, ◌-◌, ◌*◌, ◌≤◌, ◌<◌, Bool, true, false, List, [], ◌∷◌, ◌++◌}
+use Rattle.olr_spec.proofs.Common.{refl, sym, ap, ◌∙◌, not, subst, arith, IsTrue, ◌&&◌, ◌==◌, cases_Bool, has, none_twice}
+use Rattle.olr_spec.proofs.Common.{and_parts, and_from, Map, IsMap, has_line, end, dm, dm_of, IsRoute, LrpRoute, leb-true}
+use Rattle.olr_spec.proofs.Common.{le-leb, list_any-append, append_assoc, UniqueShortest, Margin, counted, counted_dm}
+use Rattle.olr_spec.proofs.Common.{CountedRoute, IsSoundFor, CountedIsUnique}
+use Rattle.olr_spec.specs.Elsewhere.{HasNoOther, IsNearly, suffices}
+use Rattle.std.proofs.Math.Nat.{mul-le-mul_left, mul-le-mul_right, mul-add, lt_of_mul-lt-mul_left}
 use Rattle.olr_spec.proofs.ListLemmas.{Each, Each-nil, Each-cons, has_cases, dec_same}
 use Rattle.olr_spec.proofs.ListLemmas.{has_here, has_there}
 use Rattle.olr_spec.proofs.RouteLemmas.{positive, IsRoute-split, IsRoute-append, dm_of-append, prefix_of_unique}
 use Rattle.olr_spec.proofs.WayLemmas.{route_known}
-use Rattle.olr_spec.specs.Margins.{Margin, counted, counted_dm, CountedRoute, IsSoundFor}
-use Rattle.olr_spec.specs.Laws.{CountedIsUnique}
-use Rattle.olr_spec.specs.Elsewhere.{HasNoOther, IsNearly, suffices}
 use Rattle.olr_spec.proofs.CountedLemmas.{counted_other, counted_own, counted_route, route_counted, counted_least, counted_zero}
 use Rattle.olr_spec.proofs.OwnSums.{total, parts_total, exchange, others_most}
-use Rattle.std.proofs.Math.Nat.{mul-le-mul_left, mul-le-mul_right, mul-add, lt_of_mul-lt-mul_left}
 
 -- ---- routes without a line twice
 

@@ -1,18 +1,15 @@
 -- The fields of an answer fit their bits.
-use Rattle.olr_spec.specs.Margins.{Margin}
-use Rattle.olr_spec.proofs.Common.{◌≡◌, ℕ, suc, ◌+◌, ◌-◌, ◌*◌, ◌/◌, max, ℤ, min, Bool, true, false, List, ◌∷◌, length}
-use Rattle.olr_spec.proofs.Common.{take, drop, map, ◌<◌, ◌≤◌, Some, None, IfSome, unwrap_or, IsTrue, ap, ◌∙◌, arith}
-use Rattle.olr_spec.proofs.Common.{◌==◌, take-add, [], ltb-true, fold, find, slice_range, cases_Bool, cases_lt}
-use Rattle.olr_spec.proofs.Common.{and_parts, and_from, cond_both, nat_tests, length-map, get_or-map, AllByRecursion}
-use Rattle.olr_spec.proofs.Common.{Coord, is_coord, abs24, relative, fits16, Map, IsMap, line_at, coord_at, has, dm_of}
-use Rattle.olr_spec.proofs.Common.{node_at, stretch, CandidateWith, Leg, up_to, vector, boundary, lies_between, leg}
-use Rattle.olr_spec.proofs.Common.{legs, no_leg, leg_at, position, dm_along, dm_between, from_front, last_where}
-use Rattle.olr_spec.proofs.Common.{first_where, attrs_with, last_two, middle_points_with, offset, last_point, AreAttrs}
-use Rattle.olr_spec.proofs.Common.{IsMiddle, IsLast, fits24, get_or_past, take-map, drop-map, Scaled, scaled_coord}
-use Rattle.olr_spec.proofs.Common.{bearing, sector}
+use Rattle.olr_spec.proofs.Common.{Margin, ◌≡◌, ℕ, suc, ◌+◌, ◌-◌, ◌*◌, ◌/◌, max, ℤ, min, Bool, true, false, List, ◌∷◌, length}
+use Rattle.olr_spec.proofs.Common.{take, drop, map, ◌<◌, ◌≤◌, Some, None, IfSome, unwrap_or, IsTrue, ap, ◌∙◌, arith, ◌==◌}
+use Rattle.olr_spec.proofs.Common.{take-add, [], ltb-true, fold, find, slice_range, cases_Bool, cases_lt, and_parts, and_from}
+use Rattle.olr_spec.proofs.Common.{cond_both, nat_tests, length-map, get_or-map, AllByRecursion, Coord, is_coord, abs24}
+use Rattle.olr_spec.proofs.Common.{relative, fits16, Map, IsMap, line_at, coord_at, has, dm_of, node_at, stretch, CandidateWith}
+use Rattle.olr_spec.proofs.Common.{Leg, up_to, vector, boundary, lies_between, leg, legs, no_leg, leg_at, position, dm_along}
+use Rattle.olr_spec.proofs.Common.{dm_between, from_front, last_where, first_where, attrs_with, last_two, middle_points_with}
+use Rattle.olr_spec.proofs.Common.{offset, last_point, AreAttrs, IsMiddle, IsLast, fits24, get_or_past, take-map, drop-map}
+use Rattle.olr_spec.proofs.Common.{Scaled, scaled_coord, bearing, sector, div-lt_iff_lt-mul}
 use Rattle.olr_spec.proofs.Facts.{Each, Each-nil, Each-cons, Each-head, Each-tail, Each-range, has_index, has_here}
 use Rattle.olr_spec.proofs.Facts.{last_index, has_there, has_cases, Known, LinkedWith, dm_along-legs, dm_along-append}
-use Rattle.std.proofs.Common.{div-lt_iff_lt-mul}
 use Rattle.olr_spec.proofs.SectorLemmas.{up_to_below, le_yes, le_test}
 use Rattle.olr_spec.specs.Reference as fields
 

@@ -1,12 +1,10 @@
 -- The fields of an answer's reference fit, so it can be encoded as bytes.
-use Rattle.olr_spec.specs.Margins.{Margin}
-use Rattle.olr_spec.proofs.Common.{◌≡◌, ℕ, ◌+◌, ◌-◌, true, List, ◌∷◌, length, ◌<◌, ◌≤◌, None, IsTrue, sym, ap, ◌∙◌}
-use Rattle.olr_spec.proofs.Common.{subst, arith, nat_le, length-append, [], eqb-true, leb-false, cases_Bool, cond_both}
-use Rattle.olr_spec.proofs.Common.{length-map, Map, IsMap, has, dm_of, Path, Tried, is_path, extended_path, from_start}
-use Rattle.olr_spec.proofs.Common.{taken_start, taken_end, FollowWith, last_position, Reference, leg, legs, dm_between}
-use Rattle.olr_spec.proofs.Common.{from_front, to_back, first_kept, last_kept, kept_points, last_two, reference_by_with}
-use Rattle.olr_spec.proofs.Common.{reference_with, Points, path_fault, answer_by_points_with, EncodingWith, EncodesWith}
-use Rattle.olr_spec.proofs.Common.{IsReference, AnswerFits}
+use Rattle.olr_spec.proofs.Common.{Margin, leb-false, cond_both, is_path, taken_end, Reference, last_kept, last_two, AnswerFits}
+use Rattle.olr_spec.proofs.Common.{◌≡◌, ℕ, ◌+◌, ◌-◌, ◌∷◌, ◌<◌, ◌≤◌, sym, ap, ◌∙◌, [], Map, has, leg, legs}
+use Rattle.olr_spec.proofs.Common.{true, length-append, extended_path, reference_by_with, reference_with, answer_by_points_with}
+use Rattle.olr_spec.proofs.Common.{List, length, None, IsTrue, subst, arith, nat_le, IsMap, dm_of, Path, Tried, to_back, Points}
+use Rattle.olr_spec.proofs.Common.{eqb-true, length-map, from_start, FollowWith, dm_between, from_front, first_kept, path_fault}
+use Rattle.olr_spec.proofs.Common.{cases_Bool, taken_start, last_position, kept_points, EncodingWith, EncodesWith, IsReference}
 use Rattle.olr_spec.proofs.Facts.{dm_of-append, Each, Each-append, Each-from, has_here, has_there, has_cases}
 use Rattle.olr_spec.proofs.Facts.{has_filter, filter_has, Known, sound_lines, path_nonempty, or_None, by_fault}
 use Rattle.olr_spec.proofs.Facts.{StartRun-known, EndRun-known, LinkedWith, follow_linked_with, kept_linked_with}

@@ -1,16 +1,15 @@
 -- The routes between the remaining LRPs join to the extended path.
-use Rattle.olr_spec.specs.Margins.{Margin, CountedRoute, IsSoundFor}
-use Rattle.olr_spec.proofs.Common.{inl, inr, ◌≡◌, ℕ, ◌+◌, ◌-◌, min, Bool, true, ◌&&◌, List, ◌∷◌, ◌++◌, length}
-use Rattle.olr_spec.proofs.Common.{take, drop, ◌<◌, ◌≤◌, refl, ap, ◌∙◌, subst, arith, nat_le, length-drop, ◌↔◌, []}
-use Rattle.olr_spec.proofs.Common.{leb-true, le-leb, get_or-drop, slice_index, filter, cases_eq, and_parts, and_from}
-use Rattle.olr_spec.proofs.Common.{nat_tests, take_more, ⊤, Map, start, end, LrpRoute, stretch, CoveredWith}
-use Rattle.olr_spec.proofs.Common.{CandidateWith, FollowWith, JoinsTo, JoinsLast, drop_more, Joins, RoutesJoin}
+use Rattle.olr_spec.proofs.Common.{Margin, CountedRoute, IsSoundFor, inl, inr, ◌≡◌, ℕ, ◌+◌, ◌-◌, min, Bool, true, ◌&&◌, List}
+use Rattle.olr_spec.proofs.Common.{◌∷◌, ◌++◌, length, take, drop, ◌<◌, ◌≤◌, refl, ap, ◌∙◌, subst, arith, nat_le, length-drop}
+use Rattle.olr_spec.proofs.Common.{◌↔◌, [], leb-true, le-leb, get_or-drop, slice_index, filter, cases_eq, and_parts, and_from}
+use Rattle.olr_spec.proofs.Common.{nat_tests, take_more, ⊤, Map, start, end, LrpRoute, stretch, CoveredWith, CandidateWith}
+use Rattle.olr_spec.proofs.Common.{FollowWith, JoinsTo, JoinsLast, drop_more, Joins, RoutesJoin, sym, kept_points, legs}
+use Rattle.olr_spec.proofs.Common.{first_kept, last_kept, cases_Bool}
 use Rattle.olr_spec.proofs.RouteLemmas.{IsRoute-split}
 use Rattle.olr_spec.proofs.AnswerLemmas.{Next-candidate}
 use Rattle.olr_spec.proofs.ListLemmas.{Each, Each-tail, has_here, has_there, has_filter}
 use Rattle.olr_spec.proofs.CountedLemmas.{counted_zero, route_counted}
 use Rattle.olr_spec.proofs.ElsewhereLemmas.{counted_unique, counted_part}
-use Rattle.olr_spec.proofs.Common.{sym, kept_points, legs, first_kept, last_kept, cases_Bool}
 
 -- ---- parts of a list
 

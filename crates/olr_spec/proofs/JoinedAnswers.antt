@@ -1,8 +1,7 @@
 -- The routes between the LRPs of an answer join to the extended path.
-use Rattle.olr_spec.specs.Margins.{no_margin, Margin, IsSoundFor}
-use Rattle.olr_spec.proofs.Common.{refl, Joined, inl, Encoding, ◌≡◌, ◌<◌, ◌+◌, ℕ, List, length, None, ap, arith, Map}
-use Rattle.olr_spec.proofs.Common.{dm_of, Path, extended_path, Reference, legs, first_kept, last_kept, kept_points}
-use Rattle.olr_spec.proofs.Common.{Points, path_fault, EncodingWith, JoinedWith}
+use Rattle.olr_spec.proofs.Common.{no_margin, Margin, IsSoundFor, refl, Joined, inl, Encoding, ◌≡◌, ◌<◌, ◌+◌, ℕ, List, length}
+use Rattle.olr_spec.proofs.Common.{None, ap, arith, Map, dm_of, Path, extended_path, Reference, legs, first_kept, last_kept}
+use Rattle.olr_spec.proofs.Common.{kept_points, Points, path_fault, EncodingWith, JoinedWith}
 use Rattle.olr_spec.proofs.Facts.{path_also, routes_join, two_kept, dm_of-append}
 use Rattle.olr_spec.proofs.DecodedLemmas.{two_of}
 use Rattle.olr_spec.proofs.FitLemmas.{long_enough, kept_ends, answered}

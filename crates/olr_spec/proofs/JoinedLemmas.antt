@@ -1,6 +1,6 @@
 -- The lines of a path without fault join, and so do those of the extended path.
-use Rattle.olr_spec.proofs.Common.{◌≡◌, ◌<◌, ℕ, suc, List, ◌∷◌, ◌++◌, length, None, refl, arith, length-append, ◌==◌}
-use Rattle.olr_spec.proofs.Common.{[], eqb-true, IsTrue, Map, start, end, Path, is_path, Tried, MayPrecede, MayFollow}
+use Rattle.olr_spec.proofs.Common.{◌≡◌, ◌<◌, ℕ, suc, List, ◌∷◌, ◌++◌, length, None, refl, arith, length-append, ◌==◌, []}
+use Rattle.olr_spec.proofs.Common.{eqb-true, IsTrue, Map, start, end, Path, is_path, Tried, MayPrecede, MayFollow}
 use Rattle.olr_spec.proofs.Common.{extended_path, AreJoined, first_break, path_fault, cases_Bool}
 use Rattle.olr_spec.proofs.Facts.{IsRoute-append, Each, Each-head, Each-tail, Each-from, Known, or_None, map_None}
 use Rattle.olr_spec.proofs.Facts.{sound_lines, path_nonempty, last_push, extended_keeps}

@@ -1,6 +1,6 @@
 -- Options with and without a value, and results that are Ok.
-use Rattle.olr_spec.proofs.Common.{arith, ◌≡◌, false, Option, Some, None, is_some, Result, Ok, refl, sym, ap, subst}
-use Rattle.olr_spec.proofs.Common.{IsSome, IsOk}
+use Rattle.olr_spec.proofs.Common.{arith, ◌≡◌, false, Option, Some, None, is_some, Result, Ok, refl, sym, ap, subst, IsSome}
+use Rattle.olr_spec.proofs.Common.{IsOk}
 
 pub some_of : {A : Type 0} (o : Option A) → IsSome o → (x : A) × (o ≡ Some x)
 some_of o h = grind arith

@@ -1,10 +1,9 @@
 -- The routes between the LRPs on another map.
-use Rattle.olr_spec.proofs.Common.{inr, ◌≡◌, ℕ, ◌+◌, ◌≤◌, ◌<◌, true, List, [], ◌∷◌, length, sym, ap, subst, arith}
-use Rattle.olr_spec.proofs.Common.{IsTrue, slice_index, Map, IsMap, has_line, start, end, has, stretch, legs}
-use Rattle.olr_spec.proofs.Common.{first_kept, last_kept, LrpRoute}
-use Rattle.olr_spec.specs.Margins.{Margin, allowed}
+use Rattle.olr_spec.proofs.Common.{inr, true, List, subst, arith, IsTrue, IsMap, start, legs, Margin, Within, Joins, fold, ◌==◌}
+use Rattle.olr_spec.proofs.Common.{◌≡◌, ℕ, ◌+◌, ◌≤◌, ◌<◌, [], ◌∷◌, sym, ap, Map, end, has, max, map, Leg, ◌-◌}
+use Rattle.olr_spec.proofs.Common.{length, has_line, stretch, last_kept, LrpRoute, allowed, none_twice, attrs_with, cases_Bool}
+use Rattle.olr_spec.proofs.Common.{slice_index, first_kept, RoutesJoinElsewhere, RecoveredElsewhere, extended_path, kept_points}
 use Rattle.olr_spec.specs.Elsewhere.{HasNoOther, IsNearly, IsNearlyAlong, HasClasses, RecoversLegs, suffices}
-use Rattle.olr_spec.specs.Laws.{RoutesJoinElsewhere, RecoveredElsewhere}
 use Rattle.olr_spec.proofs.ListLemmas.{Each, Each-head, Each-tail, Each-left, Each-right, Known, has_here, has_there, has_filter}
 use Rattle.olr_spec.proofs.JoinLemmas.{Carries, kept_joins, stretch_first, LinkedWith, kept_linked_with, follow_linked_with, between, between_is}
 use Rattle.olr_spec.proofs.QueryLemmas.{stretch_parts}
@@ -13,7 +12,6 @@ use Rattle.olr_spec.proofs.AnswerLemmas.{path_at, path_also}
 use Rattle.olr_spec.proofs.FieldLemmas.{range_legs}
 use Rattle.olr_spec.proofs.FitLemmas.{by_answer, extended_sound, answered}
 use Rattle.olr_spec.proofs.RecoverLemmas.{within_greatest, recovers_to, recovers_last, extended_once, once_apart}
-use Rattle.olr_spec.proofs.Common.{Within, Joins, none_twice, attrs_with, fold, max, map, Leg, extended_path, kept_points, ◌==◌, cases_Bool, ◌-◌}
 
 -- what holds of each line of a part holds of each line of a part of it
 part_of : (P : ℕ → Type 0) (ls : List ℕ) (a b p q : ℕ) → a ≤ p → p ≤ q → q ≤ b → Each P (stretch ls a b) → Each P (stretch ls p q)

@@ -1,11 +1,10 @@
 -- LRPs, answers and faults are the same on two maps that agree around a path's traversed nodes and on the positions that
 -- are covered from its LRPs.
-use Rattle.olr_spec.specs.Margins.{Margin, CountedRoute}
-use Rattle.olr_spec.proofs.Common.{◌≡◌, ℕ, ◌+◌, ◌-◌, min, Bool, true, cond, List, ◌∷◌, length, ◌<◌, ◌≤◌, refl, sym}
-use Rattle.olr_spec.proofs.Common.{arith, ◌↔◌, suc, [], ltb-true, slice_index, Map, IsMap, start, end, coord_at}
-use Rattle.olr_spec.proofs.Common.{SameLine, SameRound, has, dm_of, Path, passing, limit, node_at, stretch, CoveredWith}
-use Rattle.olr_spec.proofs.Common.{fit16, CandidateWith, ValidCandidateWith, Greatest, NextWith, To_end, To_valid}
-use Rattle.olr_spec.proofs.Common.{To_passing, FollowWith, legs, first_unknown, first_break, path_fault, Traversed}
+use Rattle.olr_spec.proofs.Common.{Margin, CountedRoute, ◌≡◌, ℕ, ◌+◌, ◌-◌, min, Bool, true, cond, List, ◌∷◌, length, ◌<◌, ◌≤◌}
+use Rattle.olr_spec.proofs.Common.{refl, sym, arith, ◌↔◌, suc, [], ltb-true, slice_index, Map, IsMap, start, end, coord_at}
+use Rattle.olr_spec.proofs.Common.{SameLine, SameRound, has, dm_of, Path, passing, limit, node_at, stretch, CoveredWith, fit16}
+use Rattle.olr_spec.proofs.Common.{CandidateWith, ValidCandidateWith, Greatest, NextWith, To_end, To_valid, To_passing}
+use Rattle.olr_spec.proofs.Common.{FollowWith, legs, first_unknown, first_break, path_fault, Traversed}
 use Rattle.olr_spec.proofs.CountedLemmas.{counted_nil}
 use Rattle.olr_spec.proofs.Facts.{empty_unique, empty_stretch, Each, Each-nil, Each-head, Each-tail, Each-range}
 use Rattle.olr_spec.proofs.Facts.{has_last, has_index, map_same, Alike, same_record, same_start, same_end, same_dm_of}

@@ -1,17 +1,16 @@
 -- If the routes that an LRP's coverage query tests are the same, since it is clear of changes or two maps agree on the
 -- nodes that it reaches, then the same positions after the LRP are covered on both maps.
-use Rattle.olr_spec.specs.Margins.{Margin, counted, counted_dm_of, CountedRoute, IsSoundFor}
-use Rattle.olr_spec.proofs.Common.{inl, inr, ◌≡◌, ℕ, ◌+◌, ◌-◌, min, List, ◌++◌, length, ◌<◌, ◌≤◌, sym, ap, subst, arith}
-use Rattle.olr_spec.proofs.Common.{drop-drop, ◌↔◌, slice_index, cases_lt, Map, start, end, SameLine, SameRound, IsRoute}
-use Rattle.olr_spec.proofs.Common.{dm_of, Reaches, limit, stretch, CoveredWith, ChangedLine, AccountsFor, Detour}
-use Rattle.olr_spec.proofs.Common.{Needed, IsLastTestedWith, query_to_with, IsClear, SameWay}
+use Rattle.olr_spec.proofs.Common.{Margin, counted, counted_dm_of, CountedRoute, IsSoundFor, inl, inr, ◌≡◌, ℕ, ◌+◌, ◌-◌, min}
+use Rattle.olr_spec.proofs.Common.{List, ◌++◌, length, ◌<◌, ◌≤◌, sym, ap, subst, arith, drop-drop, ◌↔◌, slice_index, cases_lt}
+use Rattle.olr_spec.proofs.Common.{Map, start, end, SameLine, SameRound, IsRoute, dm_of, Reaches, limit, stretch, CoveredWith}
+use Rattle.olr_spec.proofs.Common.{ChangedLine, AccountsFor, Detour, Needed, IsLastTestedWith, query_to_with, IsClear, SameWay}
+use Rattle.std.proofs.Math.Seq.{take-add}
 use Rattle.olr_spec.proofs.Facts.{Each, Each-range, has_index, same_start, same_end, same_dm_of, same_ways}
 use Rattle.olr_spec.proofs.Facts.{IsRoute-moves, unique_same, within, within_other, way_between, next_start}
 use Rattle.olr_spec.proofs.WayLemmas.{route_known}
 use Rattle.olr_spec.proofs.JoinLemmas.{CountedTo}
 use Rattle.olr_spec.proofs.ElsewhereLemmas.{counted_part}
 use Rattle.olr_spec.proofs.CountedMoves.{counted_length_same, counted_routes, front_counts, clear_front}
-use Rattle.std.proofs.Math.Seq.{take-add}
 
 pub stretch_parts : {A : Type 0} (ls : List A) (p m k : ℕ) → p ≤ m → m ≤ k → stretch ls p k ≡ stretch ls p m ++ stretch ls m k
 stretch_parts ls p m k h g =

@@ -1,6 +1,5 @@
 -- Lists of coverage queries: each LRP of the list has one.
-use Rattle.olr_spec.specs.Margins.{Margin}
-use Rattle.olr_spec.proofs.Common.{◌≡◌, ℕ, ◌+◌, true, List, ◌∷◌, length, ◌<◌, Contains, arith, nat_lt, IsTrue, []}
+use Rattle.olr_spec.proofs.Common.{Margin, ◌≡◌, ℕ, ◌+◌, true, List, ◌∷◌, length, ◌<◌, Contains, arith, nat_lt, IsTrue, []}
 use Rattle.olr_spec.proofs.Common.{lt-ltb, ltb-true, AllZip, Map, has, CoverageQuery, IsQueryWith, querying}
 use Rattle.olr_spec.proofs.Facts.{has_filter, filter_has, has_here, has_there, has_cases, Contains-here, Contains-later}
 use Rattle.olr_spec.proofs.Facts.{Contains-cases}

@@ -1,10 +1,10 @@
 -- The bytes of a reference have no fault.
-use Rattle.olr_spec.proofs.Common.{◌≡◌, ℕ, zero, suc, ◌+◌, ◌-◌, ◌*◌, ◌/◌, ◌<◌, Bool, false, cond, ◌||◌, List, ◌∷◌, ◌++◌}
-use Rattle.olr_spec.proofs.Common.{length, Option, Some, None, refl, ap, ◌∙◌, arith, nat_le, length-append, [], eq-eqb}
-use Rattle.olr_spec.proofs.Common.{le-ltb, get_or-append-add, flat_map, slice_index, ◌↔◌, AllByRecursion, list_any}
-use Rattle.olr_spec.proofs.Common.{Middle, Last, Reference, IsMiddle, IsLast, IsReference, first_bytes, middle_bytes}
-use Rattle.olr_spec.proofs.Common.{last_bytes, flag, offset_bytes, reference_bytes, lt-leb, or_from, not_from_true}
-use Rattle.olr_spec.proofs.Common.{attribute1, status_byte, V3Fault, extra, attribute1_bytes, v3_fault}
+use Rattle.olr_spec.proofs.Common.{◌≡◌, ℕ, zero, suc, ◌+◌, ◌-◌, ◌*◌, ◌/◌, ◌<◌, Bool, false, cond, ◌||◌, List, ◌∷◌, ◌++◌, length}
+use Rattle.olr_spec.proofs.Common.{Option, Some, None, refl, ap, ◌∙◌, arith, nat_le, length-append, [], eq-eqb, le-ltb}
+use Rattle.olr_spec.proofs.Common.{get_or-append-add, flat_map, slice_index, ◌↔◌, AllByRecursion, list_any, Middle, Last}
+use Rattle.olr_spec.proofs.Common.{Reference, IsMiddle, IsLast, IsReference, first_bytes, middle_bytes, last_bytes, flag}
+use Rattle.olr_spec.proofs.Common.{offset_bytes, reference_bytes, lt-leb, or_from, not_from_true, attribute1, status_byte}
+use Rattle.olr_spec.proofs.Common.{V3Fault, extra, attribute1_bytes, v3_fault}
 use Rattle.olr_spec.proofs.BytesLemmas.{flag_below, flag_is}
 
 abbrev pub AreBytes : List ℕ → Type 0

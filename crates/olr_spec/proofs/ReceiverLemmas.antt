@@ -1,19 +1,17 @@
 -- Every receiver recovers the legs between the remaining LRPs.
-use Rattle.olr_spec.specs.Margins.{no_margin, Margin, allowed}
-use Rattle.olr_spec.proofs.Common.{◌≡◌, ◌≢◌, ℕ, Bool, true, ◌↔◌, IsTrue, arith, eqb-true, eq-eqb, ltb-true, cases_Bool}
-use Rattle.olr_spec.proofs.Common.{cases_eq, both_ways, or_cases, Map, has_line, line_at, Leg, leg, candidates}
-use Rattle.olr_spec.proofs.Common.{Receiver, is_nearest, has_no_twin, AllPass-from_list_all, list_all, list_all-map}
-use Rattle.olr_spec.proofs.Common.{suc, ◌+◌, ◌-◌, List, ◌∷◌, length, map, ◌<◌, ℤ, Some, None, refl, sym, ap, ◌∙◌}
-use Rattle.olr_spec.proofs.Common.{slice_get, [], option_map, slice_index, ⊤, get_or-map, IsMap, Path, is_path}
-use Rattle.olr_spec.proofs.Common.{none_twice, extended_path, stretch, OfPathWith, Reference, legs, leg_at, no_leg}
-use Rattle.olr_spec.proofs.Common.{attrs_with, Middle, middle_points_with, last_two, reference_by_kept_with, Points}
-use Rattle.olr_spec.proofs.Common.{path_fault, EncodingWith, Side, Within, RecoversTo, RecoversLast, Recovered}
-use Rattle.olr_spec.proofs.Common.{EncodesWith, inr, fold, max, subst}
-use Rattle.olr_spec.proofs.Facts.{at_index, has_number, Each, has_index, Known, path_also, path_at, LinkedWith}
-use Rattle.olr_spec.proofs.Facts.{joins_to, joins_last}
+use Rattle.olr_spec.proofs.Common.{no_margin, Margin, allowed, ◌≡◌, ◌≢◌, ℕ, Bool, true, ◌↔◌, IsTrue, arith, eqb-true, eq-eqb}
+use Rattle.olr_spec.proofs.Common.{ltb-true, cases_Bool, cases_eq, both_ways, or_cases, Map, has_line, line_at, Leg, leg}
+use Rattle.olr_spec.proofs.Common.{candidates, Receiver, is_nearest, has_no_twin, AllPass-from_list_all, list_all, list_all-map}
+use Rattle.olr_spec.proofs.Common.{suc, ◌+◌, ◌-◌, List, ◌∷◌, length, map, ◌<◌, ℤ, Some, None, refl, sym, ap, ◌∙◌, slice_get, []}
+use Rattle.olr_spec.proofs.Common.{option_map, slice_index, ⊤, get_or-map, IsMap, Path, is_path, none_twice, extended_path}
+use Rattle.olr_spec.proofs.Common.{stretch, OfPathWith, Reference, legs, leg_at, no_leg, attrs_with, Middle, middle_points_with}
+use Rattle.olr_spec.proofs.Common.{last_two, reference_by_kept_with, Points, path_fault, EncodingWith, Side, Within, RecoversTo}
+use Rattle.olr_spec.proofs.Common.{RecoversLast, Recovered, EncodesWith, inr, fold, max, subst}
 use Rattle.olr_spec.specs.Receiver.{sector_on, Lrp, rating, Takes, Outgoing, Incoming, lrp_at, last_number, last_lrp}
 use Rattle.olr_spec.specs.Receiver.{decoded_coord, RecoversFrom, RecoversBy}
 use Rattle.olr_spec.specs.Recovery.{line_by, IsLineAtWith, stretches, IsStretchesWith}
+use Rattle.olr_spec.proofs.Facts.{at_index, has_number, Each, has_index, Known, path_also, path_at, LinkedWith}
+use Rattle.olr_spec.proofs.Facts.{joins_to, joins_last}
 use Rattle.olr_spec.proofs.FieldLemmas.{range_legs}
 use Rattle.olr_spec.proofs.FitLemmas.{extended_sound, by_answer}
 use Rattle.olr_spec.proofs.DecodedLemmas.{answer_decodes, Back, Form, Front, Kept, form}

@@ -1,15 +1,13 @@
 -- A shortest route over lines within the LFRCNP is the leg of the extended path.
-use Rattle.olr_spec.specs.Margins.{Margin, allowed}
-use Rattle.olr_spec.proofs.Common.{IsMap, nat_tests, cases_Bool, ◌==◌, inl, inr, ◌≡◌, ◌≢◌, ℕ, zero, suc, ◌+◌, ◌-◌, max}
-use Rattle.olr_spec.proofs.Common.{true, false, not, List, ◌∷◌, ◌++◌, length, ◌<◌, ◌≤◌, ◌↔◌, IsTrue, map, refl, ap, ◌∙◌}
-use Rattle.olr_spec.proofs.Common.{subst, arith, [], slice_index, fold, eq-eqb, ne_eqb, both_ways, and_parts, and_from}
+use Rattle.olr_spec.proofs.Common.{Margin, allowed, IsMap, nat_tests, cases_Bool, ◌==◌, inl, inr, ◌≡◌, ◌≢◌, ℕ, zero, suc, ◌+◌}
+use Rattle.olr_spec.proofs.Common.{◌-◌, max, true, false, not, List, ◌∷◌, ◌++◌, length, ◌<◌, ◌≤◌, ◌↔◌, IsTrue, map, refl, ap}
+use Rattle.olr_spec.proofs.Common.{◌∙◌, subst, arith, [], slice_index, fold, eq-eqb, ne_eqb, both_ways, and_parts, and_from}
 use Rattle.olr_spec.proofs.Common.{or_parts, list_any-append, Map, line_at, start, end, has, LrpRoute, Path, is_path}
-use Rattle.olr_spec.proofs.Common.{none_twice, Tried, extended_path, stretch, Leg, legs, JoinsTo, JoinsLast, Within}
-use Rattle.olr_spec.proofs.Common.{RecoversTo, RecoversLast, length-drop, length-append, drop, not_from_false, not-true}
-use Rattle.olr_spec.proofs.Common.{length-take-le}
+use Rattle.olr_spec.proofs.Common.{none_twice, Tried, extended_path, stretch, Leg, legs, JoinsTo, JoinsLast, Within, RecoversTo}
+use Rattle.olr_spec.proofs.Common.{RecoversLast, length-drop, length-append, drop, not_from_false, not-true, length-take-le}
+use Rattle.olr_spec.specs.Receiver.{Shortest, One_line, More_lines}
 use Rattle.olr_spec.proofs.ListLemmas.{Each, Each-head, Each-tail, Known, dec_same}
 use Rattle.olr_spec.proofs.Facts.{has_index, extended_keeps}
-use Rattle.olr_spec.specs.Receiver.{Shortest, One_line, More_lines}
 
 -- ---- lists
 

@@ -1,9 +1,9 @@
 -- Routes, and the shortest path.
-use Rattle.olr_spec.proofs.Common.{◌≡◌, ℕ, ◌+◌, ◌<◌, ◌≤◌, List, ◌∷◌, ◌++◌, reverse, inl, inr, refl, sym, ap, ◌∙◌}
-use Rattle.olr_spec.proofs.Common.{subst, arith, IsTrue, [], cases_order, and_parts, nat_tests, reverse-append, Map}
-use Rattle.olr_spec.proofs.Common.{IsMap, has_node, has_line, end, dm, IsRoute, dm_of, FirstSmaller, PrecedesInTieOrder}
-use Rattle.olr_spec.proofs.Common.{reverse-reverse, append_cancel_right, NoLongerSuffix, OneLeast, PrefixOfLeast}
-use Rattle.olr_spec.proofs.Common.{◌⊎◌, EmptyIsLeast, EmptyIsUnique, UniqueIsLeast, PrefixOfUnique}
+use Rattle.olr_spec.proofs.Common.{◌≡◌, ℕ, ◌+◌, ◌<◌, ◌≤◌, List, ◌∷◌, ◌++◌, reverse, inl, inr, refl, sym, ap, ◌∙◌, subst, arith}
+use Rattle.olr_spec.proofs.Common.{IsTrue, [], cases_order, and_parts, nat_tests, reverse-append, Map, IsMap, has_node}
+use Rattle.olr_spec.proofs.Common.{has_line, end, dm, IsRoute, dm_of, FirstSmaller, PrecedesInTieOrder, reverse-reverse}
+use Rattle.olr_spec.proofs.Common.{append_cancel_right, NoLongerSuffix, OneLeast, PrefixOfLeast, ◌⊎◌, EmptyIsLeast}
+use Rattle.olr_spec.proofs.Common.{EmptyIsUnique, UniqueIsLeast, PrefixOfUnique}
 
 pub positive : (M : Map) → IsMap M → (x : ℕ) → IsTrue (has_line M x) → 0 < dm M x
 positive M m x h = let good = m.good x h in grind (arith, nat_tests, and_parts)

@@ -1,9 +1,9 @@
 -- Unique shortest paths within a length are the same on two maps that agree around each node that a route within this
 -- length reaches, or where no changed line offers a detour.
 use Rattle.olr_spec.proofs.Common.{inl, inr, ◌≡◌, ℕ, ◌+◌, List, ◌∷◌, ◌++◌, ◌≤◌, ◌↔◌, IsTrue, refl, sym, ◌∙◌, arith, ◌⊎◌}
-use Rattle.olr_spec.proofs.Common.{Contains, true, false, ◌-◌, [], cases_lt, cases_Bool, Map, has_line, start, end}
-use Rattle.olr_spec.proofs.Common.{SameLine, SameRound, dm, has, IsRoute, dm_of, Reaches, UniqueShortest, ChangedLine}
-use Rattle.olr_spec.proofs.Common.{AccountsFor, Detour, Near, NearStays, SameWay}
+use Rattle.olr_spec.proofs.Common.{Contains, true, false, ◌-◌, [], cases_lt, cases_Bool, Map, has_line, start, end, SameLine}
+use Rattle.olr_spec.proofs.Common.{SameRound, dm, has, IsRoute, dm_of, Reaches, UniqueShortest, ChangedLine, AccountsFor}
+use Rattle.olr_spec.proofs.Common.{Detour, Near, NearStays, SameWay}
 use Rattle.olr_spec.proofs.RouteLemmas.{IsRoute-append, dm_of-append}
 use Rattle.olr_spec.proofs.ListLemmas.{Each, Each-nil, Each-cons, Each-head, Each-tail, has_here}
 use Rattle.olr_spec.proofs.AgreeLemmas.{turned_round, by_leaving, same_known, same_start, same_end, same_dm}

@@ -1,10 +1,9 @@
 -- From a degree-two node only one line leads on, so a run of such nodes is determined by its length.
-use Rattle.olr_spec.proofs.Common.{◌≡◌, ◌≢◌, ℕ, ◌+◌, true, List, ◌∷◌, ◌++◌, map, length, ◌<◌, ◌≤◌}
-use Rattle.olr_spec.proofs.Common.{IsTrue, refl, sym, subst, arith, append-nil, append_assoc, [], cases_lt}
-use Rattle.olr_spec.proofs.Common.{cases_order, and_parts, cond_both, nat_tests, Map, IsMap, dm, has_line, lines_in}
-use Rattle.olr_spec.proofs.Common.{lines_out, start, end, has, line_at, dm_of, passes_between, first, last}
-use Rattle.olr_spec.proofs.Common.{MayPrecede, MayFollow, StartRun, EndRun, LongestEnd, Tried, Path, from_start}
-use Rattle.olr_spec.proofs.Common.{taken_start, limit, extended_path, OneStartRun, OneEndRun}
+use Rattle.olr_spec.proofs.Common.{◌≡◌, ◌≢◌, ℕ, ◌+◌, true, List, ◌∷◌, ◌++◌, map, length, ◌<◌, ◌≤◌, IsTrue, refl, sym, subst}
+use Rattle.olr_spec.proofs.Common.{arith, append-nil, append_assoc, [], cases_lt, cases_order, and_parts, cond_both, nat_tests}
+use Rattle.olr_spec.proofs.Common.{Map, IsMap, dm, has_line, lines_in, lines_out, start, end, has, line_at, dm_of}
+use Rattle.olr_spec.proofs.Common.{passes_between, first, last, MayPrecede, MayFollow, StartRun, EndRun, LongestEnd, Tried}
+use Rattle.olr_spec.proofs.Common.{Path, from_start, taken_start, limit, extended_path, OneStartRun, OneEndRun}
 use Rattle.olr_spec.proofs.RouteLemmas.{positive}
 use Rattle.olr_spec.proofs.OrderLemmas.{exactly_in, exactly_out}
 use Rattle.olr_spec.proofs.AgreeLemmas.{known_record}

@@ -1,8 +1,7 @@
 -- The tried runs are the same on two maps that agree around their nodes.
-use Rattle.olr_spec.proofs.Common.{IsTrue, ap, ◌≡◌, ℕ, List, ◌∷◌, ◌++◌, length, ◌<◌, ◌∙◌, arith, append_assoc}
-use Rattle.olr_spec.proofs.Common.{append-nil, length-append, [], cases_lt, Map, IsMap, start, end, dm, SameLine}
-use Rattle.olr_spec.proofs.Common.{has_line, passing, first, last, MayPrecede, MayFollow, StartRun, EndRun}
-use Rattle.olr_spec.proofs.Common.{LongestStart, LongestEnd}
+use Rattle.olr_spec.proofs.Common.{IsTrue, ap, ◌≡◌, ℕ, List, ◌∷◌, ◌++◌, length, ◌<◌, ◌∙◌, arith, append_assoc, append-nil}
+use Rattle.olr_spec.proofs.Common.{length-append, [], cases_lt, Map, IsMap, start, end, dm, SameLine, has_line, passing, first}
+use Rattle.olr_spec.proofs.Common.{last, MayPrecede, MayFollow, StartRun, EndRun, LongestStart, LongestEnd}
 use Rattle.olr_spec.proofs.RouteLemmas.{dm_of-append, positive}
 use Rattle.olr_spec.proofs.ListLemmas.{Each, Each-nil, Each-cons, Each-tail, Each-left, Each-right, has_first, has_last}
 use Rattle.olr_spec.proofs.ListLemmas.{Known, EndsSame}

@@ -1,14 +1,11 @@
 -- Ascending lists of numbers, by the numbers that they contain.
-use Rattle.olr_spec.proofs.Common.{IsStrictlyIncreasing, nat_cmp, eqb-true, ne_eqb, arith, subst, Less, AllByRecursion}
-use Rattle.olr_spec.proofs.Common.{List, refl, true, ◌==◌, has, sym, ◌<◌, ◌∙◌, ◌∷◌, ◌≡◌, ◌≤◌, [], ap, ℕ, Contains}
-use Rattle.olr_spec.proofs.Common.{get_or_default, eq-eqb, list_any_at}
-use Rattle.olr_spec.proofs.ListLemmas.{has_here}
-use Rattle.std.proofs.lemmas.Cmp.{ranked}
+use Rattle.olr_spec.proofs.Common.{IsStrictlyIncreasing, nat_cmp, eqb-true, ne_eqb, arith, subst, Less, AllByRecursion, List}
+use Rattle.olr_spec.proofs.Common.{refl, true, ◌==◌, has, sym, ◌<◌, ◌∙◌, ◌∷◌, ◌≡◌, ◌≤◌, [], ap, ℕ, Contains, get_or_default}
+use Rattle.olr_spec.proofs.Common.{eq-eqb, list_any_at, ranked, Any-from_list_any, IsDistinct}
 use Rattle.std.proofs.lemmas.Grind.{common_steps}
 use Rattle.std.proofs.lemmas.Map.Keys.{IsDistinct-from_apart, sorted_from_strictly_increasing, below_from_sorted}
-use Rattle.std.proofs.lemmas.List.Folds.{Any-from_list_any}
-use Rattle.std.specs.List.{IsDistinct}
 use Rattle.std.specs.List.Sorted.{IsStrictlySortedBy}
+use Rattle.olr_spec.proofs.ListLemmas.{has_here}
 
 pub distinct_from_ascending : (xs : List ℕ) → IsStrictlyIncreasing xs → IsDistinct ◌==◌ xs
 distinct_from_ascending xs up = grind (arith, common_steps, IsDistinct-from_apart, ne_eqb, below_from_sorted, sorted_from_strictly_increasing)

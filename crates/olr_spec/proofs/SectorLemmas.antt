@@ -1,11 +1,10 @@
 -- Each direction is in one sector.
-use Rattle.olr_spec.proofs.Common.{inl, inr, ◌≡◌, ℕ, zero, suc, ◌+◌, ◌-◌, ◌*◌, ◌/◌, ◌%◌, ◌<◌, ◌≤◌, ℤ, pos, ◌≤ℤ◌, ◌<ℤ◌}
-use Rattle.olr_spec.proofs.Common.{◌-ℤ◌, Bool, true, T, List, ◌∷◌, unwrap_or, IsTrue, map, refl, sym, subst}
-use Rattle.olr_spec.proofs.Common.{arith, [], eq-eqb, int_le, find, and_parts, cases_order, or_left, or_right}
-use Rattle.olr_spec.proofs.Common.{cond_both, list_any-append, negsuc, ints, vector, boundary, lies_between, up_to, has}
-use Rattle.olr_spec.proofs.Common.{◌*ℤ◌, by_lt_z, quarter_turn, beyond, IsSector, OneSector, SomeSector}
+use Rattle.olr_spec.proofs.Common.{inl, inr, ◌≡◌, ℕ, zero, suc, ◌+◌, ◌-◌, ◌*◌, ◌/◌, ◌%◌, ◌<◌, ◌≤◌, ℤ, pos, ◌≤ℤ◌, ◌<ℤ◌, ◌-ℤ◌}
+use Rattle.olr_spec.proofs.Common.{Bool, true, T, List, ◌∷◌, unwrap_or, IsTrue, map, refl, sym, subst, arith, [], eq-eqb}
+use Rattle.olr_spec.proofs.Common.{int_le, find, and_parts, cases_order, or_left, or_right, cond_both, list_any-append, negsuc}
+use Rattle.olr_spec.proofs.Common.{ints, vector, boundary, lies_between, up_to, has, ◌*ℤ◌, by_lt_z, quarter_turn, beyond}
+use Rattle.olr_spec.proofs.Common.{IsSector, OneSector, SomeSector, neg_ℤ}
 use Rattle.olr_spec.proofs.Facts.{Each, Each-nil, Each-head, Each-tail, has_cases, Each-push}
-use Rattle.std.proofs.Common.{neg_ℤ}
 
 -- ---- tests on whole numbers
 

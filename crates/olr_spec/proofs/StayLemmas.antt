@@ -1,21 +1,18 @@
 -- If nothing that a path depends on has changed, its answer, traversed nodes, coverage queries and footprint are the
 -- same.
-use Rattle.olr_spec.specs.Margins.{Margin}
-use Rattle.olr_spec.proofs.Common.{◌⊎◌, inl, inr, ◌≡◌, ℕ, ◌+◌, List, ◌∷◌, length, true, ◌<◌, ◌≤◌, Option, None, IsTrue}
-use Rattle.olr_spec.proofs.Common.{All, Contains, sym, ◌∙◌, subst, arith, MatchOption, ◌↔◌, ◌++◌, length-append, cond}
-use Rattle.olr_spec.proofs.Common.{T, [], ap, ◌==◌, cases_lt, cases_Bool, both_ways, Map, IsMap, start, end, SameLine}
-use Rattle.olr_spec.proofs.Common.{SameRound, has, IsRoute, dm_of, Path, is_path, first, last, Tried, extended_path}
-use Rattle.olr_spec.proofs.Common.{taken_start, limit, from_start, taken_end, AreJoined, LongestEnd, stretch}
-use Rattle.olr_spec.proofs.Common.{CoveredWith, FollowWith, OfPathWith, last_position, Answer, Refused, Refusal}
-use Rattle.olr_spec.proofs.Common.{path_fault, answer_by_points_with, EncodingWith, Points, ChangedLine, AccountsFor}
-use Rattle.olr_spec.proofs.Common.{NodeOf, Traversed, TraversedOfExtended, IsLastTestedWith, CoverageQuery}
-use Rattle.olr_spec.proofs.Common.{query_to_with, IsQueryWith, IsClear, querying, QueriesOfExtendedWith, reference_with}
-use Rattle.olr_spec.proofs.Common.{All-contains, No_next_point, UntouchedRetained, AnswersRetained}
+use Rattle.olr_spec.proofs.Common.{Margin, answer_by_points_with, TraversedOfExtended, QueriesOfExtendedWith, UntouchedRetained}
+use Rattle.olr_spec.proofs.Common.{◌⊎◌, extended_path, last_position, EncodingWith, CoverageQuery, query_to_with, No_next_point}
+use Rattle.olr_spec.proofs.Common.{inl, Contains, cases_lt, SameLine, IsRoute, is_path, AreJoined, stretch, Traversed, querying}
+use Rattle.olr_spec.proofs.Common.{inr, length, Option, IsTrue, subst, arith, Answer, Refused, Refusal, Points, NodeOf, IsClear}
+use Rattle.olr_spec.proofs.Common.{◌≡◌, ℕ, ◌+◌, ◌∷◌, ◌<◌, ◌≤◌, All, sym, ◌∙◌, ◌↔◌, T, ap, Map, end, has}
+use Rattle.olr_spec.proofs.Common.{List, true, None, ◌++◌, cond, [], ◌==◌, IsMap, start, dm_of, Path, first, last, Tried, limit}
+use Rattle.olr_spec.proofs.Common.{MatchOption, taken_start, CoveredWith, ChangedLine, AccountsFor, IsQueryWith, All-contains}
+use Rattle.olr_spec.proofs.Common.{length-append, both_ways, IsLastTestedWith, reference_with, AnswersRetained, QueriesFromWith}
+use Rattle.olr_spec.proofs.Common.{cases_Bool, SameRound, from_start, taken_end, LongestEnd, FollowWith, OfPathWith, path_fault}
 use Rattle.olr_spec.proofs.Facts.{Each, Each-from, has_first, has_last, Known, Each-append, Each-left, Each-right}
 use Rattle.olr_spec.proofs.Facts.{Each-to, Each-cons, Each-push, sound_lines, path_nonempty, path_at, by_fault}
 use Rattle.olr_spec.proofs.Facts.{one_tried, extended_keeps, Alike, same_begin, same_finish, longest_start_moves}
 use Rattle.olr_spec.proofs.Facts.{StartRun-known, EndRun-known, longest_end_moves, same_dm_of, same_known, by_entering}
-use Rattle.olr_spec.specs.Queries.{QueriesFromWith}
 use Rattle.olr_spec.proofs.PointMoves.{fault_same, close_stays, Traversed-same, follow_moves, legs_same}
 use Rattle.olr_spec.proofs.JoinedLemmas.{extended_joined}
 use Rattle.olr_spec.proofs.QueryLemmas.{RoutesStay, to_same, clear_routes, query_stays, covered_stays}

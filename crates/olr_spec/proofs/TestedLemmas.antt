@@ -1,14 +1,12 @@
 -- A path has exactly one list of coverage queries, and they determine its footprint.
-use Rattle.olr_spec.specs.Margins.{Margin}
-use Rattle.olr_spec.proofs.Common.{inl, inr, ◌≡◌, ℕ, zero, suc, ◌+◌, ◌-◌, min, true, List, ◌∷◌, length, ◌<◌, ◌≤◌, None}
-use Rattle.olr_spec.proofs.Common.{IsTrue, Contains, refl, sym, ap, ◌∙◌, subst, arith, MatchOption, ◌⊎◌, T, []}
-use Rattle.olr_spec.proofs.Common.{cases_lt, cases_eq, cases_order, dec_le, AllZip, Map, IsMap, has, dm_of, Path}
-use Rattle.olr_spec.proofs.Common.{is_path, extended_path, limit, stretch, CoveredWith, Greatest, path_fault, Sees}
-use Rattle.olr_spec.proofs.Common.{Traversed, TraversedOfExtended, Needed, IsLastTestedWith, CoverageQuery}
-use Rattle.olr_spec.proofs.Common.{query_to_with, IsQueryWith, querying, QueriesOfExtendedWith, Near, OneLastTested}
-use Rattle.olr_spec.proofs.Common.{SomeLastTested, OneQueries, SomeQueries, FootIsQueried, FootAffected}
-use Rattle.olr_spec.proofs.Facts.{path_also, path_at, same_by, by_fault, has_here, has_there, near_same, empty_stretch}
+use Rattle.olr_spec.proofs.Common.{Margin, length, IsTrue, Contains, cases_lt, cases_eq, is_path, stretch, Greatest, querying}
+use Rattle.olr_spec.proofs.Common.{inl, inr, ◌≡◌, ℕ, suc, ◌+◌, ◌-◌, min, ◌∷◌, ◌<◌, ◌≤◌, sym, ap, ◌∙◌, ◌⊎◌, T, [], Map, has}
+use Rattle.olr_spec.proofs.Common.{zero, true, List, None, refl, dec_le, AllZip, IsMap, dm_of, Path, limit, Sees, Needed, Near}
+use Rattle.olr_spec.proofs.Common.{subst, MatchOption, CoverageQuery, query_to_with, OneLastTested, FootIsQueried, FootAffected}
+use Rattle.olr_spec.proofs.Common.{arith, cases_order, CoveredWith, path_fault, Traversed, IsQueryWith, OneQueries, SomeQueries}
+use Rattle.olr_spec.proofs.Common.{extended_path, TraversedOfExtended, IsLastTestedWith, QueriesOfExtendedWith, SomeLastTested}
 use Rattle.olr_spec.specs.Footprint.{TouchedWith, On_path, On_start_run, On_end_run, Within_reach, FootOfWith}
+use Rattle.olr_spec.proofs.Facts.{path_also, path_at, same_by, by_fault, has_here, has_there, near_same, empty_stretch}
 use Rattle.olr_spec.proofs.DecideLemmas.{dec_and, dec_Covered, greatest_or_none, some_follow, some_encoding}
 use Rattle.olr_spec.proofs.QueryLists.{query_for, query_from_with, queries_here}
 

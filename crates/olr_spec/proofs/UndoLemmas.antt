@@ -1,10 +1,9 @@
 -- One edit restores the map from before an accepted edit, and the empty map is sound.
-use Rattle.olr_spec.proofs.Common.{◌≡◌, ◌≢◌, ℕ, Bool, true, false, ◌||◌, List, ◌∷◌, map, Option, Some}
-use Rattle.olr_spec.proofs.Common.{None, Result, Ok, ap, nat_cmp, ◌==◌, [], arith, eqb-true, filter, cases_eq}
-use Rattle.olr_spec.proofs.Common.{cases_Bool, and_from, or_cases, list_any, nat_cmp_total, FinMap, get, insert, remove}
-use Rattle.olr_spec.proofs.Common.{entries, nat_cmp-IsAntisymmetric, Map, IsMap, Line, has_node, line_at, coord_at}
-use Rattle.olr_spec.proofs.Common.{Edit, Add_node, Move_node, Drop_node, Add_line, Set_line, Drop_line, edited, in_use}
-use Rattle.olr_spec.proofs.Common.{has, get-empty, same_map, unless, EmptyIsSound, EditsUndo, inl, inr}
+use Rattle.olr_spec.proofs.Common.{◌≡◌, true, false, ◌||◌, arith, filter, FinMap, insert, remove, IsMap, edited, in_use, unless}
+use Rattle.olr_spec.proofs.Common.{◌≢◌, ℕ, List, ◌∷◌, map, Some, None, Ok, ap, ◌==◌, [], get, Map, Line, Edit, has, inl, inr}
+use Rattle.olr_spec.proofs.Common.{Bool, cases_Bool, nat_cmp_total, nat_cmp-IsAntisymmetric, Move_node, Drop_node, EmptyIsSound}
+use Rattle.olr_spec.proofs.Common.{Option, Result, nat_cmp, entries, line_at, coord_at, Add_node, Add_line, Set_line, same_map}
+use Rattle.olr_spec.proofs.Common.{eqb-true, cases_eq, and_from, or_cases, list_any, has_node, Drop_line, get-empty, EditsUndo}
 use Rattle.olr_spec.proofs.Facts.{has-lines_where, passes_at, has_here, some_is, none_of, there_not}
 use Rattle.olr_spec.proofs.EditLemmas.{got_other, got_same, left_other, left_same, edit_laws}
 

@@ -1,7 +1,6 @@
 -- Lines that join are routes between the positions along them, and an extended path's lines join.
-use Rattle.olr_spec.proofs.Common.{◌≡◌, ◌<◌, ◌≤◌, ◌-◌, ◌+◌, ℕ, zero, suc, List, ◌∷◌, length, take, drop, refl, sym}
-use Rattle.olr_spec.proofs.Common.{arith, length-drop, [], get_or-drop, slice_index, Map, start, end, IsRoute, stretch}
-use Rattle.olr_spec.proofs.Common.{IsTrue, has_line}
+use Rattle.olr_spec.proofs.Common.{◌≡◌, ◌<◌, ◌≤◌, ◌-◌, ◌+◌, ℕ, zero, suc, List, ◌∷◌, take, drop, refl, sym, Map, start, end}
+use Rattle.olr_spec.proofs.Common.{length, arith, length-drop, [], get_or-drop, slice_index, IsRoute, stretch, IsTrue, has_line}
 use Rattle.olr_spec.proofs.ListLemmas.{Each, Each-nil, Each-cons}
 
 -- each line of a route is on the map

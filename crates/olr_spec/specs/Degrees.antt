@@ -1,9 +1,8 @@
 -- Degrees as text: an optional minus sign, 1 to 3 digits, and optionally a decimal point with 1 to 7 digits (profile).
 --     degrees text      the value of the text in units, if it has this form
 --     read_degrees text      this value, if it is at most 180 degrees either way; otherwise the fault
-use Rattle.std.specs.Prelude.{ℕ, ◌+◌, ◌-◌, ◌*◌, ◌^◌, ℤ, pos, neg_ℤ, Bool, not, ◌&&◌, List, [], ◌∷◌, length, drop, fold}
-use Rattle.std.specs.Prelude.{take_while, nat_le, ◌==◌, Option, Some, None, option_map, option_and_then, Result, Ok}
-use Rattle.std.specs.Prelude.{Err, if◌then◌else◌}
+use Rattle.std.specs.Prelude.{ℕ, ◌+◌, ◌-◌, ◌*◌, ◌^◌, ℤ, pos, Bool, not, ◌&&◌, List, ◌∷◌, drop, fold, ◌==◌, Some, None, Ok, Err}
+use Rattle.std.specs.Prelude.{neg_ℤ, [], length, take_while, nat_le, Option, option_map, option_and_then, Result, if◌then◌else◌}
 use Rattle.std.specs.List.{list_all}
 use Rattle.std.specs.Char.{is_ascii_digit}
 use Rattle.olr_spec.specs.Coordinates.{unit4, within}

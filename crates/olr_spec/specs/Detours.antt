@@ -9,8 +9,7 @@
 --         most d decimetres together
 --     Near M T s d      a route of at most d decimetres from s to one of the nodes T
 use Rattle.std.specs.Prelude.{◌≡◌, ℕ, ◌+◌, ◌≤◌, ◌==◌, min, List, [], ◌∷◌, ◌⊎◌, Contains, IsTrue, IsFalse, if◌then◌else◌}
-use Rattle.olr_spec.specs.Map.{Map, Edit, Add_line, Set_line, Drop_line, has_line, start, end, dm, SameLine, SameRound}
-use Rattle.olr_spec.specs.Map.{has}
+use Rattle.olr_spec.specs.Map.{Map, Edit, Add_line, Set_line, Drop_line, has_line, start, end, dm, SameLine, SameRound, has}
 use Rattle.olr_spec.specs.Routes.{IsRoute, dm_of}
 
 pub record ChangedLine : Type 0 where

@@ -9,8 +9,7 @@
 --     RecoversLegs g M N ls ks      from the path's own line at each LRP to the next, the shortest route on N over lines
 --         of at least the importance that the reference of M names recovers the leg, and nothing else
 --     suffices g a b      these differences are within the margin
-use Rattle.std.specs.Prelude.{◌≡◌, ℕ, ◌+◌, ◌-◌, ◌*◌, ◌≤◌, Bool, List, [], ◌∷◌, slice_index, nat_le, ◌↔◌, ⊤, IsTrue}
-use Rattle.std.specs.Prelude.{IsFalse}
+use Rattle.std.specs.Prelude.{◌≡◌, ℕ, ◌+◌, ◌-◌, ◌*◌, ◌≤◌, Bool, List, [], ◌∷◌, slice_index, nat_le, ◌↔◌, ⊤, IsTrue, IsFalse}
 use Rattle.olr_spec.specs.Map.{Map, has_line, line_at, start, end, dm, has}
 use Rattle.olr_spec.specs.Margins.{Margin, allowed}
 use Rattle.olr_spec.specs.Extension.{Path}

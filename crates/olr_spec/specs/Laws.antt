@@ -33,8 +33,7 @@ use Rattle.olr_spec.specs.Encoding.{Answer, Points, EncodesWith}
 use Rattle.olr_spec.specs.Bytes.{IsReference, HasBytes, v3_fault}
 use Rattle.olr_spec.specs.Joins.{Joins}
 use Rattle.olr_spec.specs.Receiver.{Measure, Receiver, Recovers}
-use Rattle.olr_spec.specs.Recovery.{DistinctWith, IsStretchesWith}
-use Rattle.olr_spec.specs.Recovery.{IsWeighted, are_cosines, lon_apart, lat_apart}
+use Rattle.olr_spec.specs.Recovery.{DistinctWith, IsStretchesWith, IsWeighted, are_cosines, lon_apart, lat_apart}
 use Rattle.olr_spec.specs.Footprint.{Sees, FootWith}
 use Rattle.olr_spec.specs.Detours.{ChangedLine, changes_of, AccountsFor, Difference, Detour, Near}
 use Rattle.olr_spec.specs.Queries.{TraversedOf, IsLastTestedWith, CoverageQuery, query_to_with, QueriesOfWith, IsClear}

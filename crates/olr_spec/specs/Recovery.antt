@@ -25,8 +25,7 @@ use Rattle.olr_spec.specs.Map.{Map, has_line}
 use Rattle.olr_spec.specs.Extension.{Path, first, last}
 use Rattle.olr_spec.specs.Points.{stretch, OfPathWith}
 use Rattle.olr_spec.specs.Bearings.{Leg, up_to}
-use Rattle.olr_spec.specs.Reference.{Attrs, Reference, leg, legs, from_front, to_back, first_kept, last_kept}
-use Rattle.olr_spec.specs.Reference.{kept_points}
+use Rattle.olr_spec.specs.Reference.{Attrs, Reference, leg, legs, from_front, to_back, first_kept, last_kept, kept_points}
 use Rattle.olr_spec.specs.Encoding.{Answer, Points, Refused}
 use Rattle.olr_spec.specs.Decoded.{decoded_bound}
 use Rattle.olr_spec.specs.Receiver.{Side, Outgoing, Incoming, node_on, coordinate_on, Measure, candidates}

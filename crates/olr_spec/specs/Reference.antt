@@ -7,9 +7,8 @@
 --         whole legs
 --     reference gs positive negative js      the reference of the remaining LRPs
 --     reference_with g gs positive negative js      the same with a margin
-use Rattle.std.specs.Prelude.{ℕ, ◌+◌, ◌-◌, ◌*◌, ◌/◌, max, ℤ, Bool, ◌&&◌, List, [], ◌∷◌, length, filter, take, drop, map}
-use Rattle.std.specs.Prelude.{fold, nat_lt, nat_le, ◌==◌, slice_index_or, slice_range, Option, Some, None}
-use Rattle.std.specs.Prelude.{if◌then◌else◌}
+use Rattle.std.specs.Prelude.{ℕ, ◌+◌, ◌-◌, ◌*◌, ◌/◌, max, ℤ, Bool, ◌&&◌, List, [], ◌∷◌, length, filter, take, drop, map, fold}
+use Rattle.std.specs.Prelude.{nat_lt, nat_le, ◌==◌, slice_index_or, slice_range, Option, Some, None, if◌then◌else◌}
 use Rattle.olr_spec.specs.Margins.{Margin, no_margin, allowed}
 use Rattle.olr_spec.specs.Coordinates.{Coord, abs24, relative}
 use Rattle.olr_spec.specs.Map.{Map, line_at, coord_at, no_line, no_coord}
