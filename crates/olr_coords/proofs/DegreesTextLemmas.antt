@@ -1,16 +1,15 @@
 -- The text of degrees is read as the same number of units.
-use Rattle.olr_spec.proofs.Common.{◌≡◌, ℕ, ◌+◌, ◌*◌, ◌-◌, ◌/◌, ◌%◌, ◌<◌, ◌≤◌, ◌^◌, true, false, Bool, ◌==◌, not, ℤ, pos}
-use Rattle.olr_spec.proofs.Common.{negsuc, List, [], ◌∷◌, ◌++◌, length, fold, refl, ap, IsTrue, Some, None, Ok, Err}
-use Rattle.olr_spec.proofs.Common.{sym, ◌∙◌, arith, zero, suc, Option, option_map, list_all, is_ascii_digit}
-use Rattle.olr_spec.proofs.Common.{cond_both, and_parts, and_from, eqb-true, le-leb, eq-eqb, ne_eqb, nat_tests}
-use Rattle.olr_spec.proofs.Common.{drop-append_seam, before_point, digits_value}
+use Rattle.olr_spec.proofs.Common.{◌≡◌, ℕ, ◌+◌, ◌*◌, ◌-◌, ◌/◌, ◌%◌, ◌<◌, ◌≤◌, ◌^◌, true, false, Bool, ◌==◌, not, ℤ, pos, negsuc}
+use Rattle.olr_spec.proofs.Common.{List, [], ◌∷◌, ◌++◌, length, fold, refl, ap, IsTrue, Some, None, Ok, Err, sym, ◌∙◌, arith}
+use Rattle.olr_spec.proofs.Common.{zero, suc, Option, option_map, list_all, is_ascii_digit, cond_both, and_parts, and_from}
+use Rattle.olr_spec.proofs.Common.{eqb-true, le-leb, eq-eqb, ne_eqb, nat_tests, drop-append_seam, before_point, digits_value}
 use Rattle.std.specs.Prelude.{decimal, if◌then◌else◌, option_and_then, nat_abs, neg_ℤ, IfSome}
 use Rattle.std.proofs.lemmas.Fmt.{digits_decimal, digits_value-decimal, decimal_nonempty, length-decimal-le}
-use Rattle.std.proofs.Math.Nat.{pow-succ', div-add-mod, mod-lt, mul_assoc, mul_comm, add-mul, div-lt_iff_lt-mul}
-use Rattle.std.proofs.Math.Nat.{one-le-pow, pow-le-pow_right}
+use Rattle.std.proofs.Math.Nat.{pow-succ', div-add-mod, mod-lt, mul_assoc, mul_comm, add-mul, div-lt_iff_lt-mul, one-le-pow}
+use Rattle.std.proofs.Math.Nat.{pow-le-pow_right}
 use Rattle.olr_spec.specs.Degrees.{whole, fraction, unsigned_degrees, degrees, unit7, degrees_or_fault, Range}
 use Rattle.olr_coords.specs.Bounds.{is_degrees}
-use Rattle.olr_coords.specs.DegreesText.{decimals, after_point, steps_text, degrees_text, has_degrees_text}
+use Rattle.olr_coords.specs.DegreesText.{after_point, steps_text, degrees_text, has_degrees_text, decimals}
 use Rattle.olr_coords.specs.Laws.{TextsRead, ReadHaveText}
 use Rattle.olr_coords.proofs.DigitLemmas.{own, before-more, before-none}
 

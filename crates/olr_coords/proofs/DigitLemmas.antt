@@ -1,7 +1,7 @@
 -- The values of digits.
-use Rattle.olr_spec.proofs.Common.{◌≡◌, ℕ, ◌+◌, ◌*◌, ◌-◌, ◌<◌, ◌≤◌, ◌^◌, true, ◌==◌, List, [], ◌∷◌, length, fold, refl}
-use Rattle.olr_spec.proofs.Common.{ap, sym, ◌∙◌, arith, rules, take, not, list_all, is_ascii_digit}
-use Rattle.olr_spec.proofs.Common.{length-take, take_while-cons, pow-add, before_point, digits_value}
+use Rattle.olr_spec.proofs.Common.{◌≡◌, ℕ, ◌+◌, ◌*◌, ◌-◌, ◌<◌, ◌≤◌, ◌^◌, true, ◌==◌, List, [], ◌∷◌, length, fold, refl, ap, sym}
+use Rattle.olr_spec.proofs.Common.{◌∙◌, arith, rules, take, not, list_all, is_ascii_digit, length-take, take_while-cons}
+use Rattle.olr_spec.proofs.Common.{pow-add, before_point, digits_value}
 use Rattle.std.proofs.Math.Nat.{mul-lt-mul_of_pos_right}
 use Rattle.std.proofs.lemmas.Str.Parse.{IsNumeralModel, numerals_by_fold, digits_value_short}
 

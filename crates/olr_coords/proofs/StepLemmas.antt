@@ -1,6 +1,6 @@
 -- Whole numbers in 16 and in 64 bits.
-use Rattle.olr_spec.proofs.Common.{◌≡◌, ℤ, pos, negsuc, ◌-ℤ◌, true, IsTrue, Some, None, Result, Ok, Err}
-use Rattle.olr_spec.proofs.Common.{FitsSigned, w16, w64, refl, arith, nat_tests, ints, fits16}
+use Rattle.olr_spec.proofs.Common.{◌≡◌, ℤ, pos, negsuc, ◌-ℤ◌, true, IsTrue, Some, None, Result, Ok, Err, FitsSigned, w16, w64}
+use Rattle.olr_spec.proofs.Common.{refl, arith, nat_tests, ints, fits16}
 use Rattle.std.proofs.Common.{if◌then◌else◌}
 use Rattle.std.specs.Result.{OkIff, result_ok}
 use Rattle.olr_coords.specs.Bounds.{is_degrees}

@@ -1,7 +1,6 @@
 //! Degrees as text: reading.
 ghost use Rattle.std.specs.Prelude.{◌≡◌, ◌^◌, ◌<◌, length, IfSome, IfOk, IfErr};
-ghost use Rattle.olr_spec.specs.Degrees.{before_point, whole, fraction, unsigned_degrees};
-ghost use Rattle.olr_spec.specs.Degrees.{degrees, read_degrees};
+ghost use Rattle.olr_spec.specs.Degrees.{before_point, whole, fraction, unsigned_degrees, degrees, read_degrees};
 ghost use Rattle.olr_coords.specs.Faults.{coord_fault_of};
 
 use crate::digits::read_digits;
@@ -81,12 +80,7 @@ pub fn read_degrees(text: &[u8]) -> Result<i64, CoordFault>
     ensures ok { IfOk result (λ units. read_degrees text.now ≡ Ok units) }
     ensures fault { IfErr result (λ fault. read_degrees text.now ≡ Err (coord_fault_of fault)) }
 {
-    let Some(units) = degrees(text) else {
-        return Err(CoordFault::Text);
-    };
-    if (-GREATEST..=GREATEST).contains(&units) {
-        Ok(units)
-    } else {
-        Err(CoordFault::Range)
-    }
+    let units = degrees(text).ok_or(CoordFault::Text)?;
+    let in_range = (-GREATEST..=GREATEST).contains(&units);
+    in_range.then_some(units).ok_or(CoordFault::Range)
 }
