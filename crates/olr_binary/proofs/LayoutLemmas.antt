@@ -1,9 +1,8 @@
 -- The indices of the parts of a reference.
-use Rattle.olr_spec.proofs.Common.{◌≡◌, ℕ, zero, suc, ◌+◌, ◌-◌, ◌*◌, ◌/◌, ◌<◌, ◌≤◌, Bool, true, false, not, ◌||◌, ◌==◌}
-use Rattle.olr_spec.proofs.Common.{nat_lt, List, length, Some, None, nat_le, slice_index, refl, sym, subst, ◌∙◌, arith}
-use Rattle.olr_spec.proofs.Common.{add-zero, take, drop, list_any, get_or-take, get_or-drop, or_parts, leb-false}
-use Rattle.olr_spec.proofs.Common.{eqb-true, nat_tests, status_byte, bit, extra, flags_of, attribute1_bytes}
-use Rattle.olr_spec.proofs.Common.{has_reserved, slice_range, v3_fault}
+use Rattle.olr_binary.proofs.Common.{◌≡◌, suc, ◌+◌, ◌-◌, ◌*◌, ◌/◌, ◌<◌, ◌≤◌, List, Some, None, refl, sym, ◌∙◌, take, drop}
+use Rattle.olr_binary.proofs.Common.{zero, length, nat_le, slice_index, arith, nat_tests, status_byte, slice_range, v3_fault}
+use Rattle.olr_spec.proofs.Common.{ℕ, Bool, true, false, ◌||◌, ◌==◌, nat_lt, subst, or_parts, eqb-true, bit, extra, flags_of}
+use Rattle.olr_spec.proofs.Common.{not, add-zero, list_any, get_or-take, get_or-drop, leb-false, attribute1_bytes, has_reserved}
 use Rattle.std.proofs.Common.{if◌then◌else◌}
 use Rattle.olr_spec.specs.Bytes.{Length, Status, Flags, Reserved}
 use Rattle.olr_binary.specs.Layout.{IsLayout}

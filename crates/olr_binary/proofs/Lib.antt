@@ -1,3 +1,4 @@
+mod Common
 pub mod LayoutLemmas
 pub mod PlaceLemmas
 pub mod PointLemmas

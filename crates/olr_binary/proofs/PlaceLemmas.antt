@@ -1,8 +1,8 @@
 -- Coordinates after relative steps.
-use Rattle.olr_spec.proofs.Common.{◌≡◌, ℕ, ◌+◌, ◌<◌, ◌≤◌, ℤ, pos, ◌+ℤ◌, List, [], ◌∷◌, ◌++◌, length, map, take, get_or}
-use Rattle.olr_spec.proofs.Common.{nat_le, Some, sym, ap, ◌∙◌, arith, length-append, ints, nat_tests, map-append}
-use Rattle.olr_spec.proofs.Common.{take-map, length-map, take_more, take_all, take-append-le, from_abs24, from_rel16}
-use Rattle.olr_spec.proofs.Common.{Middle, Reference, decoded, steps_sum}
+use Rattle.olr_binary.proofs.Common.{◌≡◌, ◌+◌, ◌<◌, ◌≤◌, ◌+ℤ◌, List, [], ◌∷◌, ◌++◌, length, map, take, nat_le, Some, sym, ap}
+use Rattle.olr_binary.proofs.Common.{◌∙◌, arith, ints, nat_tests, take_all, from_abs24, Middle, Reference, steps_sum}
+use Rattle.olr_spec.proofs.Common.{ℕ, ℤ, pos, get_or, length-append, map-append, take-map, length-map, take_more}
+use Rattle.olr_spec.proofs.Common.{take-append-le, from_rel16, decoded}
 use lib.IntN.{+ℤ_assoc}
 
 pub add_none : (z : ℤ) → z +ℤ pos 0 ≡ z

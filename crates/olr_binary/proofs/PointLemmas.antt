@@ -1,12 +1,10 @@
 -- LRPs decoded from their bytes.
-use Rattle.olr_spec.proofs.Common.{◌≡◌, ℕ, zero, suc, ◌+◌, ◌<◌, ◌≤◌, ◌*◌, List, [], ◌∷◌, ◌++◌, length, drop}
-use Rattle.olr_spec.proofs.Common.{slice_index, slice_range, refl, sym, ap, ◌∙◌, arith, flat_map, drop-cons, drop_all}
-use Rattle.olr_spec.proofs.Common.{First, Middle, Reference, signed16, signed24, attr_bytes, first_bytes, middle_bytes}
-use Rattle.olr_spec.proofs.Common.{last_bytes, reference_bytes, status_byte}
+use Rattle.olr_binary.proofs.Common.{◌≡◌, zero, suc, ◌+◌, ◌<◌, ◌≤◌, ◌*◌, List, [], ◌∷◌, ◌++◌, length, drop, slice_index}
+use Rattle.olr_binary.proofs.Common.{slice_range, refl, sym, ap, ◌∙◌, arith, flat_map, First, Middle, Reference, first_bytes}
+use Rattle.olr_binary.proofs.Common.{middle_bytes, last_bytes, reference_bytes, status_byte, part, stretch_parts}
+use Rattle.olr_spec.proofs.Common.{ℕ, drop-cons, drop_all, signed16, signed24, attr_bytes}
 use Rattle.std.proofs.lemmas.List.Concat.{flat_map-append}
 use Rattle.std.proofs.lemmas.Slice.{between_to_end}
-use Rattle.olr_spec.proofs.BytesLemmas.{part}
-use Rattle.olr_spec.proofs.QueryLemmas.{stretch_parts}
 
 pub part-drop : (i n : ℕ) (xs : List ℕ) → length xs ≡ i + n → part i n xs ≡ drop i xs
 part-drop i zero xs e = sym (drop_all i xs (omega arith))

@@ -1,17 +1,14 @@
 -- The text of a reference decodes to this reference.
-use Rattle.olr_spec.proofs.Common.{◌≡◌, ℕ, List, Some, None, IfErr, Result, Ok, Err, refl, sym, ap, ◌∙◌, Reference}
-use Rattle.olr_spec.proofs.Common.{reference_bytes, v3_fault}
+use Rattle.olr_binary.proofs.Common.{◌≡◌, List, Some, None, refl, sym, ap, ◌∙◌, Reference, reference_bytes, v3_fault, decode_of}
+use Rattle.olr_binary.proofs.Common.{one_decoding, encoded_passes, Bytes, NotBase64}
+use Rattle.olr_spec.proofs.Common.{ℕ, IfErr, Result, Ok, Err}
 use Rattle.base64.specs.Engines.{standard}
-use Rattle.base64.specs.GeneralPurpose.{decode_of}
 use Rattle.base64.proofs.EngineFacts.{decode_of-encode_of}
-use Rattle.olr_spec.specs.Bytes.{V3Fault as Fault}
-use Rattle.olr_spec.proofs.BytesLemmas.{one_decoding}
-use Rattle.olr_spec.proofs.ReadLemmas.{encoded_passes}
 use Rattle.olr_binary.specs.declared.faults.V3Fault.TheVariants.{Memory}
 use Rattle.olr_binary.specs.declared.faults.TextFault.{TextFault}
-use Rattle.olr_binary.specs.declared.faults.TextFault.TheVariants.{Bytes, NotBase64}
 use Rattle.olr_binary.specs.Faults.{IsFaultOf, IsOfText}
 use Rattle.olr_binary.specs.Text.{IsTextOf, text_of}
+use Rattle.olr_spec.specs.Bytes.{V3Fault as Fault}
 use Rattle.olr_binary.proofs.EncodedLemmas.{reference_bytes-bytes}
 
 decode-text : (r : Reference) (text : List ℕ) → IsTextOf r text → decode_of standard text ≡ Ok (reference_bytes r)

@@ -5,9 +5,9 @@ ghost use Rattle.olr_spec.specs.Coordinates.{fits16};
 ghost use Rattle.olr_spec.specs.Bytes.{bit, fits24, signed24, signed16, attribute1, attribute2, attribute4};
 
 /// The bit of attribute byte 4 that flags a positive offset.
-const POSITIVE: u8 = 6;
+pub(crate) const POSITIVE: u8 = 6;
 /// The bit of attribute byte 4 that flags a negative offset.
-const NEGATIVE: u8 = 5;
+pub(crate) const NEGATIVE: u8 = 5;
 
 /// A number as three bytes, high byte first.
 pub(crate) fn signed24(value: i32) -> [u8; 3]
@@ -94,16 +94,10 @@ pub(crate) fn read_attribute2(byte: u8) -> (u8, u8)
     (byte >> 5, byte & 0b1_1111)
 }
 
-/// Whether attribute byte 4 flags a positive offset.
-pub(crate) fn has_positive(byte: u8) -> bool
-    ensures { from_bool result ≡ bit 6 byte }
+/// Whether attribute byte 4 has this flag of an offset.
+pub(crate) fn has_flag(byte: u8, flag: u8) -> bool
+    requires { flag < 8 }
+    ensures { from_bool result ≡ bit flag byte }
 {
-    (byte >> POSITIVE) & 1 == 1
-}
-
-/// Whether attribute byte 4 flags a negative offset.
-pub(crate) fn has_negative(byte: u8) -> bool
-    ensures { from_bool result ≡ bit 5 byte }
-{
-    (byte >> NEGATIVE) & 1 == 1
+    (byte >> flag) & 1 == 1
 }

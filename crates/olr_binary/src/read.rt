@@ -3,19 +3,16 @@ ghost use Rattle.std.specs.Prelude.{◌≡◌, ◌+◌, ◌*◌, ◌<◌, ◌≤
 ghost use Rattle.std.specs.Prelude.{IfSome, IfNone, IfOk, IfErr, OnOk};
 ghost use Rattle.std.specs.List.{AllByRecursion, flat_map};
 ghost use Rattle.olr_spec.specs.Reference.{Reference as Fields};
-ghost use Rattle.olr_spec.specs.Bytes.{AreAttrs, IsFirst, IsMiddle, IsLast, HasBytes, Length as Wrong_length};
-ghost use Rattle.olr_spec.specs.Bytes.{attr_bytes};
-ghost use Rattle.olr_spec.specs.Bytes.{bit, first_bytes, flag, has_reserved, last_bytes, middle_bytes, offset_bytes};
-ghost use Rattle.olr_spec.specs.Bytes.{v3_fault};
+ghost use Rattle.olr_spec.specs.Bytes.{AreAttrs, IsFirst, IsMiddle, IsLast, HasBytes, Length as Wrong_length, attr_bytes, bit};
+ghost use Rattle.olr_spec.specs.Bytes.{first_bytes, flag, has_reserved, last_bytes, middle_bytes, offset_bytes, v3_fault};
 ghost use Rattle.olr_binary.specs.Faults.{bytes_fault_of};
 ghost use Rattle.olr_binary.specs.Layout.{IsLayout};
 
-use crate::bits::{
-    has_negative, has_positive, read_attribute1, read_attribute2, read_signed16, read_signed24,
-};
+use crate::bits::{NEGATIVE, POSITIVE, has_flag};
+use crate::bits::{read_attribute1, read_attribute2, read_signed16, read_signed24};
 use crate::faults::V3Fault;
 use crate::fields::{Attrs, First, Last, Middle, Reference};
-use crate::write::STATUS;
+use crate::write::{POINT, STATUS};
 use std::alloc::{AllocError, Global};
 
 /// The number of bytes of a reference with two LRPs and no offset.
@@ -24,8 +21,6 @@ const LEAST: usize = 16;
 const FIRST: usize = 1;
 /// The index of the LRP after it.
 const MIDDLE: usize = 10;
-/// The number of bytes of an LRP between the first and the last.
-const POINT: usize = 7;
 /// The number of bytes of the last LRP, without the offset bytes.
 const LAST: usize = 6;
 /// The index of attribute byte 1 of the first LRP. That of each later LRP is `POINT` bytes later.
@@ -107,8 +102,8 @@ fn read_offsets(four: u8, bytes: &[u8]) -> (Option<u8>, Option<u8>)
     ensures positive { flag result.0 ≡ bit 6 four }
     ensures negative { flag result.1 ≡ bit 5 four }
 {
-    let pos = has_positive(four).then(|| bytes[0]);
-    let neg = has_negative(four).then(|| bytes[bytes.len() - 1]);
+    let pos = has_flag(four, POSITIVE).then(|| bytes[0]);
+    let neg = has_flag(four, NEGATIVE).then(|| bytes[bytes.len() - 1]);
     (pos, neg)
 }
 
@@ -181,7 +176,8 @@ fn check(bytes: &[u8]) -> Result<Layout, V3Fault>
         return Err(V3Fault::Status);
     }
     let four = bytes[bytes.len() - 1 - layout.offsets];
-    if usize::from(has_positive(four)) + usize::from(has_negative(four)) != layout.offsets {
+    let flags = usize::from(has_flag(four, POSITIVE)) + usize::from(has_flag(four, NEGATIVE));
+    if flags != layout.offsets {
         return Err(V3Fault::Flags);
     }
     if has_reserved(bytes, layout) {

@@ -13,7 +13,7 @@ pub(crate) const STATUS: u8 = 0x0b;
 /// The number of bytes of a reference with two LRPs and two offsets.
 const TWO_POINTS: usize = 18;
 /// The number of bytes of an LRP between the first and the last.
-const POINT: usize = 7;
+pub(crate) const POINT: usize = 7;
 
 /// Attribute bytes 1 and 2, and the distance to the next point (DNP).
 fn attr_bytes(attrs: Attrs) -> [u8; 3]

@@ -1,4 +1,4 @@
-use Rattle.olr_spec.proofs.Common.{arith, w16, to_z-of_z, take_all}
+use Rattle.olr_binary.proofs.Common.{arith, w16, to_z-of_z, take_all}
 use Rattle.olr_binary.proofs.PlaceLemmas.{decoded-between, decoded-last}
 use Rattle.olr_binary.proofs.places.decoded.Goals as goal
 

@@ -1,6 +1,5 @@
-use Rattle.std.proofs.lemmas.Grind.{common_steps}
-use Rattle.olr_spec.proofs.Common.{◌≡◌, ◌+ℤ◌, ap, ◌∙◌, rules, arith, w16, w32, w64, FitsSigned, w128, ints}
-use Rattle.olr_spec.proofs.Common.{to_z-of_z, from_abs24, from_rel16, Middle}
+use Rattle.olr_binary.proofs.Common.{common_steps, ◌≡◌, ◌+ℤ◌, ap, ◌∙◌, rules, arith, w16, ints, to_z-of_z, from_abs24, Middle}
+use Rattle.olr_spec.proofs.Common.{w32, w64, FitsSigned, w128, from_rel16}
 use Rattle.olr_binary.proofs.PlaceLemmas.{add_none, place-more}
 use Rattle.olr_binary.proofs.places.way.Goals as goal
 

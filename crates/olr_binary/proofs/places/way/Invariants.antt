@@ -1,4 +1,4 @@
-use Rattle.olr_spec.proofs.Common.{◌≡◌, ◌+◌, ◌*◌, ◌^◌, ◌≤◌, ◌+ℤ◌, take, map, nat_abs, from_abs24, steps_sum}
+use Rattle.olr_binary.proofs.Common.{◌≡◌, ◌+◌, ◌*◌, ◌^◌, ◌≤◌, ◌+ℤ◌, take, map, nat_abs, from_abs24, steps_sum}
 use Rattle.olr_binary.proofs.places.way.Given as goal
 
 abbrev pub invariant-loop-point : goal.invariant-loop-point

@@ -1,4 +1,4 @@
-use Rattle.olr_spec.proofs.Common.{arith}
+use Rattle.olr_binary.proofs.Common.{arith}
 use Rattle.olr_binary.proofs.LayoutLemmas.{extra-is}
 use Rattle.olr_binary.proofs.read.check.Goals as goal
 

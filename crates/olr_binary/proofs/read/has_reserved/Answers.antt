@@ -1,4 +1,4 @@
-use Rattle.olr_spec.proofs.Common.{arith}
+use Rattle.olr_binary.proofs.Common.{arith}
 use Rattle.olr_binary.proofs.LayoutLemmas.{some_reserved_more}
 use Rattle.olr_binary.proofs.read.has_reserved.Goals as goal
 

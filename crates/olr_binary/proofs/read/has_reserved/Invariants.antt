@@ -1,4 +1,4 @@
-use Rattle.olr_spec.proofs.Common.{◌≡◌, ◌+◌, ◌-◌, ◌*◌}
+use Rattle.olr_binary.proofs.Common.{◌≡◌, ◌+◌, ◌-◌, ◌*◌}
 use Rattle.olr_binary.proofs.LayoutLemmas.{some_reserved}
 use Rattle.olr_binary.proofs.read.has_reserved.Given as goal
 

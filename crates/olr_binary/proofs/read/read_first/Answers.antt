@@ -1,4 +1,4 @@
-use Rattle.olr_spec.proofs.Common.{arith, rules, to_z-of_z}
+use Rattle.olr_binary.proofs.Common.{arith, rules, to_z-of_z}
 use Rattle.olr_binary.proofs.PointLemmas.{first_bytes-parts}
 use Rattle.olr_binary.proofs.read.read_first.Goals as goal
 

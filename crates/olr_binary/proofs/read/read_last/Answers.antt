@@ -1,5 +1,4 @@
-use Rattle.olr_spec.proofs.Common.{arith}
-use Rattle.std.proofs.lemmas.Grind.{common_steps}
+use Rattle.olr_binary.proofs.Common.{arith, common_steps}
 use Rattle.olr_binary.proofs.read.read_last.Goals as goal
 
 pub returns-clause-encoded : goal.returns-clause-encoded

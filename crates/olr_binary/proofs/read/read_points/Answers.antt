@@ -1,5 +1,5 @@
-use Rattle.olr_spec.proofs.Common.{ℕ, ◌∙◌, ◌+◌, ◌-◌, ◌*◌, List, arith, All-push, All-from_recursion, recursion_from_All}
-use Rattle.olr_spec.proofs.Common.{IsMiddle}
+use Rattle.olr_binary.proofs.Common.{◌∙◌, ◌+◌, ◌-◌, ◌*◌, List, arith, IsMiddle}
+use Rattle.olr_spec.proofs.Common.{ℕ, All-push, All-from_recursion, recursion_from_All}
 use Rattle.olr_binary.proofs.LayoutLemmas.{low_at}
 use Rattle.olr_binary.proofs.PointLemmas.{flat_map-push}
 use Rattle.olr_binary.proofs.read.read_points.Goals as goal

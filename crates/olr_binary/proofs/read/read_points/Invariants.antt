@@ -1,4 +1,4 @@
-use Rattle.olr_spec.proofs.Common.{◌≡◌, ◌+◌, ◌*◌, slice_range, AllByRecursion, flat_map, IsMiddle, middle_bytes}
+use Rattle.olr_binary.proofs.Common.{◌≡◌, ◌+◌, ◌*◌, slice_range, AllByRecursion, flat_map, IsMiddle, middle_bytes}
 use Rattle.olr_binary.proofs.read.read_points.Given as goal
 
 abbrev pub invariant-loop-i : goal.invariant-loop-i

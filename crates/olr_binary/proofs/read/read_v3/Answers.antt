@@ -1,11 +1,9 @@
-use Rattle.olr_spec.proofs.Common.{◌≡◌, ◌∙◌, ℕ, ◌+◌, ◌*◌, List, slice_range, arith, rules, length-drop, length-take}
-use Rattle.olr_spec.proofs.Common.{flat_map, Reference, IsReference, middle_bytes}
-use Rattle.olr_spec.proofs.Common.{ap, sym, ◌++◌, length}
-use Rattle.olr_spec.proofs.QueryLemmas.{stretch_parts}
+use Rattle.olr_binary.proofs.Common.{◌≡◌, ◌∙◌, ◌+◌, ◌*◌, List, slice_range, arith, rules, flat_map, Reference, IsReference}
+use Rattle.olr_binary.proofs.Common.{middle_bytes, ap, sym, ◌++◌, length, stretch_parts, encoded_passes}
+use Rattle.olr_spec.proofs.Common.{ℕ, length-drop, length-take}
 use Rattle.olr_binary.specs.Parts.{reference_from}
 use Rattle.olr_binary.proofs.LayoutLemmas.{last_bytes, no_fault}
 use Rattle.olr_binary.proofs.PointLemmas.{reference_bytes-parts}
-use Rattle.olr_spec.proofs.ReadLemmas.{encoded_passes}
 use Rattle.olr_binary.proofs.read.read_v3.Goals as goal
 
 pub returns-in_err-layout-clause-unspelled : goal.returns-in_err-layout-clause-unspelled

@@ -1,5 +1,4 @@
-use Rattle.olr_spec.proofs.Common.{rules}
-use Rattle.olr_binary.specs.declared.faults.TextFault.TheVariants.{NotBase64}
+use Rattle.olr_binary.proofs.Common.{rules, NotBase64}
 use Rattle.olr_binary.proofs.TextLemmas.{fault-no_text, no_text}
 use Rattle.olr_binary.proofs.text.from_text.Goals as goal
 

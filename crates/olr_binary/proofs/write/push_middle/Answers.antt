@@ -1,5 +1,4 @@
-use Rattle.olr_spec.proofs.Common.{arith}
-use Rattle.std.proofs.lemmas.Grind.{common_steps}
+use Rattle.olr_binary.proofs.Common.{arith, common_steps}
 use Rattle.olr_binary.proofs.write.push_middle.Goals as goal
 
 pub loop-point-preserved : goal.loop-point-preserved

@@ -1,4 +1,4 @@
-use Rattle.olr_spec.proofs.Common.{◌≡◌, ◌++◌, take, flat_map, middle_bytes}
+use Rattle.olr_binary.proofs.Common.{◌≡◌, ◌++◌, take, flat_map, middle_bytes}
 use Rattle.olr_binary.proofs.write.push_middle.Given as goal
 
 -- the LRPs so far are written
