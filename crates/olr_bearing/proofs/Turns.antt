@@ -1,7 +1,7 @@
 -- A quarter turn of a direction turns its sector, so the sectors of one quarter determine those of the others.
-use Rattle.olr_spec.proofs.Common.{◌≡◌, ℕ, ◌+◌, ◌<◌, ℤ, pos, ◌<ℤ◌, refl, sym, ap, ◌∙◌, subst, arith, ints, IsSector}
-use Rattle.olr_spec.proofs.Common.{sector}
-use Rattle.std.proofs.Common.{neg_ℤ}
+use Rattle.olr_spec.proofs.Common.{◌≡◌, ℕ, zero, suc, ◌+◌, ◌*◌, ◌<◌, ℤ, pos, refl, sym, ap, ◌∙◌, subst, arith, Vector, vector}
+use Rattle.olr_spec.proofs.Common.{IsSector, sector}
+use Rattle.olr_bearing.specs.Turned.{turned}
 use Rattle.olr_spec.proofs.SectorLemmas.{one_sector, sector_is, sector_turned}
 
 -- ---- the sector of a direction
@@ -15,33 +15,15 @@ nowhere_sector e n p q = sym (ap (λ d. sector d n) p ∙ ap (sector (pos 0)) q)
 abbrev pub IsOnly : ℤ → ℤ → ℕ → Type 0
 IsOnly e n k = (k ≡ sector e n) × IsSector e n k
 
-the_sector : (e n : ℤ) (k : ℕ) → ¬ ((e ≡ pos 0) × (n ≡ pos 0)) → IsSector e n k → IsOnly e n k
-the_sector e n k ne s = (one_sector e n k (sector e n) s (sector_is e n ne), s)
+-- each quarter turn adds 8 to the sector
+turned_sector : (q : ℕ) (v : Vector) (k j : ℕ) → q < 4 → k < 8 → j ≡ q * 8 + k → IsSector v.east v.north k →
+    IsSector (turned q v).east (turned q v).north j
+turned_sector zero v k j few h is s = subst (IsSector v.east v.north) (let same : k ≡ j = omega arith in same) s
+turned_sector (suc q) v k j few h is s = sector_turned (turned q v).east (turned q v).north _ _ j (q * 8 + k)
+    (turned_sector q v k (q * 8 + k) (omega arith) h refl s) refl refl (omega arith) (omega arith)
 
-pub first_quarter_is : (e n a b : ℤ) (k : ℕ) → IsSector a b k → a ≡ e → b ≡ n → pos 0 <ℤ n → IsOnly e n k
-first_quarter_is e n a b k s p q north =
-    the_sector e n k (λ z. omega (arith, ints, z.1)) (subst (λ m. IsSector e m k) q (subst (λ d. IsSector d b k) p s))
-
-pub second_quarter_is : (e n a b : ℤ) (k : ℕ) → IsSector a b k → a ≡ neg_ℤ n → b ≡ e → k < 8 → pos 0 <ℤ e →
-    IsOnly e n (8 + k)
-second_quarter_is e n a b k s p q h east =
-    the_sector e n (8 + k) (λ z. omega (arith, ints, z.0))
-    (sector_turned a b e n (8 + k) k s (sym q) (omega (arith, ints)) (omega arith) refl)
-
-pub third_quarter_is : (e n a b : ℤ) (k : ℕ) → IsSector a b k → a ≡ neg_ℤ e → b ≡ neg_ℤ n → k < 8 → n <ℤ pos 0 →
-    IsOnly e n (16 + k)
-third_quarter_is e n a b k s p q h south = the_sector e n (16 + k) (λ z. omega (arith, ints, z.1))
-    (sector_turned (neg_ℤ n) e e n (16 + k) (8 + k)
-    (sector_turned a b (neg_ℤ n) e (8 + k) k s (sym q) (omega (arith, ints)) (omega arith) refl) refl (omega (arith, ints))
-    (omega arith) (omega arith))
-
-pub fourth_quarter_is : (e n a b : ℤ) (k : ℕ) → IsSector a b k → a ≡ n → b ≡ neg_ℤ e → k < 8 → e <ℤ pos 0 →
-    IsOnly e n (24 + k)
-fourth_quarter_is e n a b k s p q h west =
-    let once : IsSector (neg_ℤ e) (neg_ℤ n) (8 + k) =
-    sector_turned a b (neg_ℤ e) (neg_ℤ n) (8 + k) k s (sym q) (omega (arith, ints)) (omega arith) refl in
-    let twice : IsSector (neg_ℤ n) e (16 + k) =
-    sector_turned (neg_ℤ e) (neg_ℤ n) (neg_ℤ n) e (16 + k) (8 + k) once refl (omega (arith, ints)) (omega arith)
-    (omega arith) in
-    the_sector e n (24 + k) (λ z. omega (arith, ints, z.0))
-    (sector_turned (neg_ℤ n) e e n (24 + k) (16 + k) twice refl (omega (arith, ints)) (omega arith) (omega arith))
+pub quarter_is : (q : ℕ) (e n a b : ℤ) (k j : ℕ) → q < 4 → k < 8 → IsSector a b k → j ≡ q * 8 + k →
+    e ≡ (turned q (vector a b)).east → n ≡ (turned q (vector a b)).north → ¬ ((e ≡ pos 0) × (n ≡ pos 0)) → IsOnly e n j
+quarter_is q e n a b k j few h s is p r ne =
+    let sector_j : IsSector e n j = coe 1 0 (i. IsSector (p i) (r i) j) (turned_sector q (vector a b) k j few h is s) in
+    (one_sector e n j (sector e n) sector_j (sector_is e n ne), sector_j)

@@ -93,9 +93,9 @@ fn direction_to(origin: Coord, place: Scaled) -> Direction
     ensures in_range { HasParts result }
 {
     let Scaled { lon, lat, width } = place;
-    let cosine = cosine_at(origin);
-    let east = part(cosine.numerator, lon, width, origin.lon());
-    let north = part(cosine.denominator, lat, width, origin.lat());
+    let (numerator, denominator) = cosine_at(origin);
+    let east = part(numerator, lon, width, origin.lon());
+    let north = part(denominator, lat, width, origin.lat());
     Direction { east, north }
 }
 
@@ -111,24 +111,15 @@ fn part(factor: i128, scaled: i128, width: u32, origin: i64) -> i128
     factor * (scaled - i128::from(width) * i128::from(origin))
 }
 
-/// A cosine greater than 0, as the quotient of two whole numbers.
-#[derive(Clone, Copy)]
-struct Cosine {
-    numerator: i128,
-    denominator: i128,
-}
-
-/// The cosine of a coordinate's latitude, approximated (profile): for `x` degrees Bhaskara's
-/// `4 (8100 - x^2) / (32400 + x^2)`, with `x` in whole thousandths, rounded toward zero.
-fn cosine_at(place: Coord) -> Cosine
-    ensures numerator { let m = thousandths place.lat in result.numerator ≡ pos 4 *ℤ (pos 8100000000 -ℤ m *ℤ m) }
-    ensures denominator { let m = thousandths place.lat in result.denominator ≡ pos 32400000000 +ℤ m *ℤ m }
-    ensures in_range { IsFactor result.numerator × IsFactor result.denominator }
+/// The numerator and the denominator of the cosine of a coordinate's latitude, which is greater than 0, approximated
+/// (profile): for `x` degrees Bhaskara's `4 (8100 - x^2) / (32400 + x^2)`, with `x` in whole thousandths, rounded toward
+/// zero.
+fn cosine_at(place: Coord) -> (i128, i128)
+    ensures numerator { let m = thousandths place.lat in result.0 ≡ pos 4 *ℤ (pos 8100000000 -ℤ m *ℤ m) }
+    ensures denominator { let m = thousandths place.lat in result.1 ≡ pos 32400000000 +ℤ m *ℤ m }
+    ensures in_range { IsFactor result.0 × IsFactor result.1 }
 {
     let thousandths = i128::from(place.lat() / THOUSANDTH);
     let square = thousandths * thousandths;
-    Cosine {
-        numerator: 4 * (8_100_000_000 - square),
-        denominator: 32_400_000_000 + square,
-    }
+    (4 * (8_100_000_000 - square), 32_400_000_000 + square)
 }

@@ -35,14 +35,11 @@ fn beyond(boundary: Direction, direction: Direction) -> i128
     direction.east * boundary.north - direction.north * boundary.east
 }
 
-/// A direction by small parts.
-fn at(east: i32, north: i32) -> Direction
+/// A direction by its parts.
+fn at(east: i128, north: i128) -> Direction
     ensures { result ≡ vector east north }
 {
-    Direction {
-        east: i128::from(east),
-        north: i128::from(north),
-    }
+    Direction { east, north }
 }
 
 /// 2.8125 degrees before the boundary 0 to 7 of the sectors.
@@ -91,18 +88,12 @@ fn turned(direction: Direction, quarters: u8) -> Direction
     let Direction { east, north } = direction;
     match quarters {
         0 => direction,
-        1 => Direction {
-            east: north,
-            north: -east,
-        },
+        1 => at(north, -east),
         2 => Direction {
             east: -east,
             north: -north,
         },
-        _ => Direction {
-            east: -north,
-            north: east,
-        },
+        _ => at(-north, east),
     }
 }
 

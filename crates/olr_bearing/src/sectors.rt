@@ -46,25 +46,15 @@ fn quarter_sector(east: u128, north: u128) -> u8
     ensures below { result < 8 }
     ensures between { IsSector (pos east) (pos north) result }
 {
-    if east < north {
-        if east * ONE < north * TANGENT_22 {
-            if east * ONE < north * TANGENT_11 {
-                0
-            } else {
-                1
-            }
-        } else if east * ONE < north * TANGENT_33 {
-            2
-        } else {
-            3
-        }
-    } else if east * TANGENT_22 < north * ONE {
-        if east * TANGENT_33 < north * ONE {
-            4
-        } else {
-            5
-        }
-    } else if east * TANGENT_11 < north * ONE {
+    let across = east * ONE;
+    let up = north * ONE;
+    if across < north * TANGENT_22 {
+        if across < north * TANGENT_11 { 0 } else { 1 }
+    } else if east < north {
+        if across < north * TANGENT_33 { 2 } else { 3 }
+    } else if east * TANGENT_22 < up {
+        if east * TANGENT_33 < up { 4 } else { 5 }
+    } else if east * TANGENT_11 < up {
         6
     } else {
         7

@@ -12,7 +12,7 @@ factor_fits z h = omega (arith, ints, h.0, h.1)
 
 pub part-east-requires : goal.part-east-requires
 part-east-requires c =
-    let factor = c.cosine_at-cosine.ensures.in_range.0 in
+    let factor = c.cosine_at-numerator.ensures.in_range.0 in
     let range = c.requires.in_range.0 in
     record {
       factor = held_within 40500000000 _ (factor_fits _ factor) factor;
@@ -24,7 +24,7 @@ part-east-requires c =
 
 pub part-north-requires : goal.part-north-requires
 part-north-requires c =
-    let factor = c.cosine_at-cosine.ensures.in_range.1 in
+    let factor = c.cosine_at-numerator.ensures.in_range.1 in
     let range = wider c.args.place.width c.args.place.lat c.requires.in_range.1 in
     record {
       factor = held_within 40500000000 _ (factor_fits _ factor) factor;
@@ -45,7 +45,7 @@ returns-clause-value c =
     let m = thousandths c.args.origin.lat in
     let above : ℤ = pos 4 *ℤ (pos 8100000000 -ℤ m *ℤ m) in
     let below : ℤ = pos 32400000000 +ℤ m *ℤ m in
-    let factors = c.cosine_at-cosine.ensures in
+    let factors = c.cosine_at-numerator.ensures in
     let from = c.args.origin in
     let to = c.args.place in
     let range = c.requires.in_range in
