@@ -88,9 +88,8 @@ module _ (g : Margin) (M K : Map) (sound : IsSoundFor g M) (ls : List ℕ) (a b 
 
 -- each LRP is a candidate after the one before
 abbrev pub LinkedWith : Margin → Map → List ℕ → List ℕ → Type 0
-LinkedWith g M ls [] = ⊤
-LinkedWith g M ls (p ∷ []) = ⊤
 LinkedWith g M ls (p ∷ q ∷ ks) = CandidateWith g M ls p q × LinkedWith g M ls (q ∷ ks)
+LinkedWith g M ls _ = ⊤
 
 pub follow_linked_with : (g : Margin) (M : Map) (ls : List ℕ) (i : ℕ) (js : List ℕ) → FollowWith g M ls i js → LinkedWith g M ls (i ∷ js)
 follow_linked_with g M ls i [] f = tt

@@ -89,8 +89,7 @@ scaled_between p q t =
     let d = t - p.at in
     record {
       lon = pos w *ℤ p.place.lon +ℤ pos d *ℤ (q.place.lon -ℤ p.place.lon);
-      lat =
-          pos w *ℤ p.place.lat +ℤ pos d *ℤ (q.place.lat -ℤ p.place.lat);
+      lat = pos w *ℤ p.place.lat +ℤ pos d *ℤ (q.place.lat -ℤ p.place.lat);
       width = w;
     }
 

@@ -42,14 +42,13 @@ KeptLines g M P Q =
     Q (stretch E.lines (first_kept (legs M E.lines) E.pos js) (last_kept (legs M E.lines) E.neg js)))
 
 abbrev pub RecoversLegs : Margin → Map → Map → List ℕ → List ℕ → Type 0
-RecoversLegs g M N ls [] = ⊤
-RecoversLegs g M N ls (p ∷ []) = ⊤
 RecoversLegs g M N ls (p ∷ q ∷ []) =
     (w : List ℕ) → RecoversLast N (attrs_with g (legs M ls) p q).lfrc (slice_index ls p) (slice_index ls (q - 1)) w
     ↔ (w ≡ stretch ls p q)
 RecoversLegs g M N ls (p ∷ q ∷ r ∷ ks) =
     ((w : List ℕ) → RecoversTo N (attrs_with g (legs M ls) p q).lfrc (slice_index ls p) (slice_index ls q) w
     ↔ (w ≡ stretch ls p q)) × RecoversLegs g M N ls (q ∷ r ∷ ks)
+RecoversLegs g M N ls _ = ⊤
 
 abbrev pub suffices : Margin → ℕ → ℕ → Bool
 suffices g a b = nat_le ((1000 + a) * 1000) ((1000 - b) * (1000 + g.routes))

@@ -3,7 +3,7 @@
 --     path_fault M P      the first of the reasons that the path's own lines give
 --     Encodes M P A, EncodesWith g M P A      A is the answer, with a margin
 --     IsPointWith g M P k v      node v is LRP k of its reference
-use Rattle.std.specs.Prelude.{◌≡◌, ℕ, suc, ◌+◌, List, [], ◌∷◌, length, find, nat_le, ◌==◌, not, slice_get, Option, Some}
+use Rattle.std.specs.Prelude.{◌≡◌, ℕ, suc, ◌+◌, List, ◌∷◌, length, find, nat_le, ◌==◌, not, slice_get, Option, Some}
 use Rattle.std.specs.Prelude.{None, option_map, MatchOption, if◌then◌else◌}
 use Rattle.std.specs.Option.{option_or}
 use Rattle.olr_spec.specs.Margins.{Margin, no_margin}
@@ -31,9 +31,8 @@ first_unknown M ls = find (λ x. not (has_line M x)) ls
 
 -- the index, counted from k, of the first line that doesn't end where the next starts
 abbrev pub first_break : Map → ℕ → List ℕ → Option ℕ
-first_break M k [] = None
-first_break M k (x ∷ []) = None
 first_break M k (x ∷ y ∷ ls) = if end M x == start M y then first_break M (suc k) (y ∷ ls) else Some k
+first_break M k _ = None
 
 -- the sum of the offsets must be less than the path's length (White Paper, data format rules)
 abbrev pub path_fault : Map → Path → Option Refusal

@@ -29,10 +29,9 @@ JoinsLast M ls p q =
 
 -- for each two neighbours of the remaining LRPs
 abbrev pub Joins : Map → List ℕ → List ℕ → Type 0
-Joins M ls [] = ⊤
-Joins M ls (p ∷ []) = ⊤
 Joins M ls (p ∷ q ∷ []) = JoinsLast M ls p q
 Joins M ls (p ∷ q ∷ r ∷ ks) = JoinsTo M ls p q × Joins M ls (q ∷ r ∷ ks)
+Joins M ls _ = ⊤
 
 -- the LRPs lead to the end of the extended path
 abbrev pub JoinedWith : Margin → Map → Path → Reference → Type 0

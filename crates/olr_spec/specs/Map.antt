@@ -166,12 +166,10 @@ touched_nodes M (Drop_line x) = start M x ∷ end M x ∷ []
 
 -- the line that an edit touches
 abbrev pub touched_lines : Edit → List ℕ
-touched_lines (Add_node v c) = []
-touched_lines (Move_node v c) = []
-touched_lines (Drop_node v) = []
 touched_lines (Add_line x l) = x ∷ []
 touched_lines (Set_line x frc fow len shape) = x ∷ []
 touched_lines (Drop_line x) = x ∷ []
+touched_lines _ = []
 
 -- ---- agreement
 

@@ -68,9 +68,8 @@ pub record DistinctWith (g : Margin) (far : Measure) (M : Map) (P : Path) (r : R
 -- ---- what is recovered
 
 abbrev pub stretches : List ℕ → List ℕ → List (List ℕ)
-stretches ls [] = []
-stretches ls (p ∷ []) = []
 stretches ls (p ∷ q ∷ ks) = stretch ls p q ∷ stretches ls (q ∷ ks)
+stretches ls _ = []
 
 abbrev pub IsStretchesWith : Margin → Map → Path → List (List ℕ) → Type 0
 IsStretchesWith g M P ws = OfPathWith g M P (λ E _ _ js. ws ≡ stretches E.lines (kept_points (legs M E.lines) E.pos E.neg js))

@@ -132,8 +132,7 @@ abbrev pub middle_point_with : Margin → List Leg → ℕ → ℕ → ℕ → M
 middle_point_with g gs h i j =
     record {
       dlon = relative (position gs h).lon (position gs i).lon;
-      dlat =
-          relative (position gs h).lat (position gs i).lat;
+      dlat = relative (position gs h).lat (position gs i).lat;
       attrs = attrs_with g gs i j;
     }
 
@@ -143,8 +142,7 @@ last_point gs h i =
     let g = leg_at gs (i - 1) in
     record {
       dlon = relative (position gs h).lon (position gs i).lon;
-      dlat =
-          relative (position gs h).lat (position gs i).lat;
+      dlat = relative (position gs h).lat (position gs i).lat;
       frc = g.line.frc;
       fow = g.line.fow;
       bearing = bearing_back g;
