@@ -12,7 +12,7 @@ use Rattle.std.proofs.lemmas.Map.Keys.{non_decreasing_from_sorted, sorted_from_s
 use Rattle.std.specs.Ordering.{nat_cmp}
 use Rattle.std.proofs.lemmas.List.Edits.{length-insert, get_or-insert_at, get_or-insert_below, get_or-insert_above, insert_end}
 use Rattle.std.proofs.lemmas.List.Edits.{length-remove, get_or-remove_below, get_or-remove_above}
-use Rattle.olr_spec.proofs.ListLemmas.{Contains-cases, Contains-later}
+use Rattle.olr_spec.proofs.Facts.{Contains-cases, Contains-later}
 
 -- ---- where a search finds a number
 

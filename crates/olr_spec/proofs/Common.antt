@@ -10,8 +10,8 @@ pub use Rattle.olr_spec.specs.Decoded.{IsNear, decoded_bound, decoded, steps_sum
 pub use Rattle.olr_spec.specs.Degrees.{before_point, digits_value}
 pub use Rattle.olr_spec.specs.Detours.{AccountsFor, ChangedLine, Detour, Near, IsChangedLine, SameWay, changes_of}
 pub use Rattle.olr_spec.specs.Encoding.{Answer, Encodes, EncodesWith, Encoding, EncodingWith, Points, Refusal, Refused}
-pub use Rattle.olr_spec.specs.Encoding.{IsPointWith, No_next_point, Unknown_line}
-pub use Rattle.olr_spec.specs.Encoding.{answer_by_points, answer_by_points_with, first_break, first_unknown, path_fault}
+pub use Rattle.olr_spec.specs.Encoding.{IsPointWith, No_next_point, Unknown_line, answer_by_points, answer_by_points_with}
+pub use Rattle.olr_spec.specs.Encoding.{first_break, first_unknown, path_fault}
 pub use Rattle.olr_spec.specs.Extension.{AreJoined, EndRun, LongestEnd, LongestStart, MayFollow, MayPrecede, Path, StartRun}
 pub use Rattle.olr_spec.specs.Extension.{Tried, extended_path, first, from_start, is_path, last, limit, none_twice}
 pub use Rattle.olr_spec.specs.Extension.{passes_between, passing, taken_end, taken_start}
@@ -26,13 +26,13 @@ pub use Rattle.olr_spec.specs.Laws.{SomeQueries, SomeReceiver, SomeSector, SomeW
 pub use Rattle.olr_spec.specs.Laws.{UntouchedRetained, CountedIsUnique, RecoveredElsewhere, RoutesJoinElsewhere}
 pub use Rattle.olr_spec.specs.Map.{Add_line, Add_node, Agree, Drop_line, Drop_node, Edit, IsMap, Line, Map, Move_node, SameLine}
 pub use Rattle.olr_spec.specs.Map.{SameRound, Set_line, coord_at, dm, edited, end, has, has_line, has_node, in_use, is_good}
-pub use Rattle.olr_spec.specs.Map.{ascends_between, no_coord, no_line, touched_lines, unless}
-pub use Rattle.olr_spec.specs.Map.{line_at, lines_in, lines_out, lines_where, start, touched_nodes, ShapePoint, are_coords}
+pub use Rattle.olr_spec.specs.Map.{ascends_between, no_coord, no_line, touched_lines, unless, line_at, lines_in, lines_out}
+pub use Rattle.olr_spec.specs.Map.{lines_where, start, touched_nodes, ShapePoint, are_coords}
 pub use Rattle.olr_spec.specs.Margins.{CountedRoute, IsSoundFor, Margin, allowed, counted, counted_dm, counted_dm_of}
 pub use Rattle.olr_spec.specs.Margins.{counted_lines, no_margin}
 pub use Rattle.olr_spec.specs.Points.{Candidate, CandidateWith, CoveredWith, Follow, FollowWith, Greatest, NextWith, OfPathWith}
-pub use Rattle.olr_spec.specs.Points.{NoNextWith}
-pub use Rattle.olr_spec.specs.Points.{To_end, To_passing, To_valid, ValidCandidateWith, fit16, last_position, node_at, stretch}
+pub use Rattle.olr_spec.specs.Points.{NoNextWith, To_end, To_passing, To_valid, ValidCandidateWith, fit16, last_position}
+pub use Rattle.olr_spec.specs.Points.{node_at, stretch}
 pub use Rattle.olr_spec.specs.Queries.{CoverageQuery, IsClear, IsLastTestedWith, IsQueryWith, KnownQuery, Needed, NodeOf}
 pub use Rattle.olr_spec.specs.Queries.{QueriesOfWith, QueriesOfExtendedWith, Traversed, TraversedOf, TraversedOfExtended}
 pub use Rattle.olr_spec.specs.Queries.{query_to_with, querying, IsKnownWith, QueriesFromWith}
@@ -60,14 +60,14 @@ pub use Rattle.std.proofs.Math.Decide.{dec_le, dec_lt, map_dec, ℕ_discrete}
 pub use Rattle.std.proofs.Math.Seq.{drop-append_seam, drop-cons}
 pub use Rattle.std.proofs.lemmas.Bool.Decides.{nat_tests}
 pub use Rattle.std.proofs.lemmas.Bool.{and_from, and_parts, both_ways, cases_Bool, cases_eq, cases_lt, cases_order, cond_both}
-pub use Rattle.std.proofs.lemmas.Bool.{false_from_ne_true, lt-leb, not-true, not_from_false, not_from_true, or_from}
-pub use Rattle.std.proofs.lemmas.Bool.{not-false, or_cases, or_left, or_parts, or_right, cond-false, cond-true}
+pub use Rattle.std.proofs.lemmas.Bool.{false_from_ne_true, lt-leb, not-true, not_from_false, not_from_true, or_from, not-false}
+pub use Rattle.std.proofs.lemmas.Bool.{or_cases, or_left, or_parts, or_right, cond-false, cond-true}
 pub use Rattle.std.proofs.lemmas.Cmp.{eq_by_cmp_equiv, ranked}
 pub use Rattle.std.proofs.lemmas.Int.{ints, by_lt_z, to_z-of_z}
 pub use Rattle.std.proofs.lemmas.List.Elements.{All-nil, All-cons, All-contains, All-from_recursion, All-push}
 pub use Rattle.std.proofs.lemmas.List.Elements.{Contains-append_left, Contains-append_right, recursion_from_All}
 pub use Rattle.std.proofs.lemmas.List.Folds.{list_any-append, list_any_at, list_all-map, Any-from_list_any}
-pub use Rattle.std.proofs.lemmas.List.Sums.{AllPass-from_list_all, list_all-from_AllPass, take_while-cons}
+pub use Rattle.std.proofs.lemmas.List.Sums.{AllPass-from_list_all, list_all-from_AllPass, take_while-cons, sum_by-append}
 pub use Rattle.std.proofs.lemmas.List.{get_or-map, get_or-take, get_or_past, length-take, length-take-le, take-append-le}
 pub use Rattle.std.proofs.lemmas.List.{length-map, take_more, drop-map, drop_all, drop_more, map-append, take-map, take_all}
 pub use Rattle.std.proofs.lemmas.List.{reverse-append, append_cancel_right, get_or_append_left, get_or_default, reverse-reverse}

@@ -3,13 +3,11 @@ use Rattle.olr_spec.proofs.Common.{◌≡◌, ℕ, ◌+◌, ◌≤◌, ◌↔◌
 use Rattle.olr_spec.proofs.Common.{◌&&◌, ◌==◌, cases_Bool, has, SameWay, Map, has_line, dm, dm_of, IsRoute, append-nil}
 use Rattle.olr_spec.proofs.Common.{list_any-append, or_left, ChangedLine, AccountsFor, Detour, Margin, counted, counted_dm}
 use Rattle.olr_spec.proofs.Common.{counted_dm_of, CountedRoute}
-use Rattle.olr_spec.proofs.ListLemmas.{Each, Each-tail, Each-left, Each-right, has_here, has_there}
-use Rattle.olr_spec.proofs.RouteLemmas.{dm_of-append, IsRoute-append}
-use Rattle.olr_spec.proofs.WayLemmas.{route_known}
-use Rattle.olr_spec.proofs.RouteMoves.{SameRoutes, IsRoute-moves, unique_same, same_there, same_here, detour_of}
-use Rattle.olr_spec.proofs.RouteMoves.{ways_dm_of}
-use Rattle.olr_spec.proofs.CountedLemmas.{get_counted, route_counted, counted_least, counted_own, counted_other}
-use Rattle.olr_spec.proofs.CountedLemmas.{counted_none, counted_known, counted_start, counted_end}
+use Rattle.olr_spec.proofs.Facts.{Each, Each-tail, Each-left, Each-right, has_here, has_there, dm_of-append, IsRoute-append}
+use Rattle.olr_spec.proofs.Facts.{route_known, IsRoute-moves, unique_same, same_there, route_counted, counted_least}
+use Rattle.olr_spec.proofs.Facts.{counted_known}
+use Rattle.olr_spec.proofs.RouteMoves.{SameRoutes, same_here, detour_of, ways_dm_of}
+use Rattle.olr_spec.proofs.CountedLemmas.{get_counted, counted_own, counted_other, counted_none, counted_start, counted_end}
 
 -- what a line counts, by whether it is on the map, and its length
 abbrev as_counted : Margin → List ℕ → ℕ → Bool → ℕ → ℕ

@@ -1,17 +1,15 @@
 -- Each definition is decidable, so each path has an answer.
-use Rattle.olr_spec.proofs.Common.{Margin, LongestEnd, from_start, CoveredWith, To_passing, FollowWith, path_fault, slice_index}
-use Rattle.olr_spec.proofs.Common.{counted, coord_at, IsRoute, is_path, passing, node_at, stretch, Greatest, NextWith, To_valid}
+use Rattle.olr_spec.proofs.Common.{Margin, from_start, FollowWith, path_fault, NoNextWith, SomeAnswer, lines_where, taken_start}
+use Rattle.olr_spec.proofs.Common.{LongestEnd, CoveredWith, slice_index, MatchOption, LongestStart, EncodingWith, Bool-discrete}
+use Rattle.olr_spec.proofs.Common.{counted, IsRoute, is_path, passing, node_at, stretch, cases_lt, cases_eq, has_line, To_valid}
+use Rattle.olr_spec.proofs.Common.{coord_at, Greatest, NextWith, true, MayFollow, OneUnique, ℕ_discrete, MayPrecede, To_passing}
 use Rattle.olr_spec.proofs.Common.{◌⊎◌, UniqueShortest, extended_path, CandidateWith, ValidCandidateWith, answer_by_points_with}
-use Rattle.olr_spec.proofs.Common.{inl, inr, ◌≡◌, true, List, ◌++◌, None, refl, Path, first, last, Tried, limit, fit16, start}
-use Rattle.olr_spec.proofs.Common.{ℕ, suc, ◌+◌, ◌∷◌, ◌<◌, ◌≤◌, ap, [], ◌≢◌, Map, end, dm, has, min, ◌-◌, sym, ◌∙◌}
-use Rattle.olr_spec.proofs.Common.{zero, cases_lt, cases_eq, has_line, MayFollow, NoNextWith, OneUnique, SomeAnswer, ℕ_discrete}
-use Rattle.olr_spec.proofs.Common.{false, length, IsTrue, arith, dec_le, IsMap, dm_of, To_end, Answer, Refused, dec_lt, map_dec}
-use Rattle.olr_spec.proofs.Common.{MatchOption, lines_where, MayPrecede, LongestStart, taken_start, EncodingWith, Bool-discrete}
-use Rattle.olr_spec.proofs.ListLemmas.{dec_same}
-use Rattle.olr_spec.proofs.CountedLemmas.{counted_known, counted_least}
-use Rattle.olr_spec.proofs.Facts.{positive, dm_of-append, Each, Each-nil, Each-cons, Each-head, Each-tail, Known}
-use Rattle.olr_spec.proofs.Facts.{AreRuns, no_longer, start_runs, end_runs, last_known, sound_lines, all_first}
-use Rattle.olr_spec.proofs.Facts.{all_last, path_nonempty, by_fault, EndRun-push, has_number}
+use Rattle.olr_spec.proofs.Common.{inl, ◌++◌, None, refl, Path, last, limit, fit16, start, ap, zero, false, arith, IsMap, dm_of}
+use Rattle.olr_spec.proofs.Common.{inr, ◌≡◌, ℕ, suc, ◌+◌, ◌∷◌, ◌<◌, ◌≤◌, [], ◌≢◌, Map, end, dm, has, min, ◌-◌, sym, ◌∙◌, List}
+use Rattle.olr_spec.proofs.Common.{first, Tried, length, IsTrue, dec_le, Answer, Refused, dec_lt, map_dec, To_end}
+use Rattle.olr_spec.proofs.Facts.{dec_same, positive, Each, Each-nil, AreRuns, end_runs, all_first, all_last, by_fault}
+use Rattle.olr_spec.proofs.Facts.{counted_known, counted_least, dm_of-append, Known, sound_lines, path_nonempty, Next-candidate}
+use Rattle.olr_spec.proofs.Facts.{Each-cons, Each-head, Each-tail, no_longer, start_runs, last_known, EndRun-push, has_number}
 
 -- ---- decidable propositions
 
@@ -123,14 +121,12 @@ next_or_none g M m ls i =
       ]
     ]
 
-next_after : {g : Margin} (M : Map) (ls : List ℕ) (i j : ℕ) → NextWith g M ls i j → (i < j) × (j ≤ length ls)
-next_after M ls i j n = grind arith
-
 pub some_follow : (g : Margin) (M : Map) → IsMap M → (ls : List ℕ) (fuel i : ℕ) → length ls ≤ i + fuel → (js : List ℕ) × FollowWith g M ls i js
 some_follow g M m ls zero i h = ([], λ j c. absurd (omega arith))
 some_follow g M m ls (suc fuel) i h = elim (next_or_none g M m ls i) [
   | inl n ↦
-      let r = some_follow g M m ls fuel n.0 (omega (arith, next_after M ls i n.0 n.1)) in
+      let c = Next-candidate M ls i n.0 n.1 in
+      let r = some_follow g M m ls fuel n.0 (omega arith) in
       (n.0 ∷ r.0, (n.1, r.1))
   | inr none ↦ ([], none)
 ]
@@ -202,5 +198,3 @@ pub some_answer_with : (g : Margin) → SomeAnswer g
 some_answer_with g M m P is =
     by_fault M P (λ o. (A : Answer) × MatchOption o (EncodingWith g M P A) (λ r. A ≡ Refused r)) (some_encoding g M m P is)
     (λ r. (Refused r, refl))
-
--- ---- without a margin

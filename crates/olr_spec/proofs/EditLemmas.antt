@@ -1,10 +1,10 @@
 -- What an edit changes, and what it leaves unchanged.
-use Rattle.olr_spec.proofs.Common.{◌⊎◌, ◌↔◌, ◌≡◌, ◌≢◌, Some, None, ◌==◌, get, Map, Line, end, Edit, has}
-use Rattle.olr_spec.proofs.Common.{ℕ, or_right, cases_eq, or_parts, is_coord, has_node, has_line, Add_node, Add_line, EditsKeep}
-use Rattle.olr_spec.proofs.Common.{Bool, IsTrue, nat_cmp, eq-eqb, ne_eqb, or_left, FinMap, entries, is_good, Set_line, SameLine}
-use Rattle.olr_spec.proofs.Common.{true, false, ◌||◌, List, arith, insert, remove, Coord, IsMap, start, edited, in_use, Agree}
-use Rattle.olr_spec.proofs.Common.{Ok, both_ways, and_parts, not-false, Move_node, Drop_node, Drop_line, get-remove, are_coords}
-use Rattle.olr_spec.proofs.Common.{nat_cmp_total, touched_nodes, false_from_ne_true, unsigned_tied, get-insert, touched_lines}
+use Rattle.olr_spec.proofs.Common.{◌⊎◌, ◌↔◌, ◌≡◌, ◌≢◌, Some, None, ◌==◌, get, Map, Line, end, Edit, has, ℕ, or_right, cases_eq}
+use Rattle.olr_spec.proofs.Common.{or_parts, is_coord, has_node, has_line, Add_node, Add_line, EditsKeep, Bool, IsTrue, nat_cmp}
+use Rattle.olr_spec.proofs.Common.{eq-eqb, ne_eqb, or_left, FinMap, entries, is_good, Set_line, SameLine, true, false, ◌||◌}
+use Rattle.olr_spec.proofs.Common.{List, arith, insert, remove, Coord, IsMap, start, edited, in_use, Agree, Ok, both_ways}
+use Rattle.olr_spec.proofs.Common.{and_parts, not-false, Move_node, Drop_node, Drop_line, get-remove, are_coords, nat_cmp_total}
+use Rattle.olr_spec.proofs.Common.{touched_nodes, false_from_ne_true, unsigned_tied, get-insert, touched_lines}
 use Rattle.olr_spec.proofs.Facts.{Each-to, known_record, has-lines_where, none_has}
 
 -- the conditions of an accepted edit, and the map that it makes

@@ -1,23 +1,24 @@
 -- A route that is the unique shortest one where its own lines count longer is so on a map whose lengths are nearly the
 -- same.
-use Rattle.olr_spec.proofs.Common.{inl, inr, ◌≡◌, ◌≢◌, ◌⊎◌, ℕ, ◌+◌, ◌-◌, ◌*◌, ◌≤◌, ◌<◌, Bool, true, false, List, [], ◌∷◌, ◌++◌}
-use Rattle.olr_spec.proofs.Common.{refl, sym, ap, ◌∙◌, not, subst, arith, IsTrue, ◌&&◌, ◌==◌, cases_Bool, has, none_twice}
-use Rattle.olr_spec.proofs.Common.{and_parts, and_from, Map, IsMap, has_line, end, dm, dm_of, IsRoute, LrpRoute, leb-true}
-use Rattle.olr_spec.proofs.Common.{le-leb, list_any-append, append_assoc, UniqueShortest, Margin, counted, counted_dm}
-use Rattle.olr_spec.proofs.Common.{CountedRoute, IsSoundFor, CountedIsUnique}
+use Rattle.olr_spec.proofs.Common.{inl, inr, [], ◌||◌, ◌≡◌, ◌≢◌, ◌⊎◌, ◌+◌, ◌-◌, ◌*◌, ◌≤◌, ◌<◌, ◌∷◌, sym, ap, ◌∙◌, not, has, Map}
+use Rattle.olr_spec.proofs.Common.{end, dm, ℕ, IsTrue, IsRoute, LrpRoute, leb-true, le-leb, Margin, counted, cases_eq, not-true}
+use Rattle.olr_spec.proofs.Common.{or_comm, Bool, true, false, List, ◌++◌, refl, subst, arith, ◌&&◌, ◌==◌, IsMap, dm_of, get_or}
+use Rattle.olr_spec.proofs.Common.{ne_eqb, cases_Bool, none_twice, and_parts, and_from, has_line, counted_dm, IsSoundFor}
+use Rattle.olr_spec.proofs.Common.{get_or-take, list_any-append, append_assoc, UniqueShortest, CountedRoute, CountedIsUnique}
+use Rattle.olr_spec.proofs.Common.{length-take-le, cases_lt, length, take_all, sum_by-append}
 use Rattle.olr_spec.specs.Elsewhere.{HasNoOther, IsNearly, suffices}
 use Rattle.std.proofs.Math.Nat.{mul-le-mul_left, mul-le-mul_right, mul-add, lt_of_mul-lt-mul_left}
-use Rattle.olr_spec.proofs.ListLemmas.{Each, Each-nil, Each-cons, has_cases, dec_same}
-use Rattle.olr_spec.proofs.ListLemmas.{has_here, has_there}
+use Rattle.std.proofs.lemmas.List.Sums.{sum_by-cons, split_at_first, fails_before_first, passes_at_first, prefix_len-le-length}
+use Rattle.std.specs.List.{sum_by, before_first, after_first, position_or_len}
+use Rattle.olr_spec.proofs.ListLemmas.{Each, Each-nil, has_cases, dec_same, has_here, has_there, at_index}
 use Rattle.olr_spec.proofs.RouteLemmas.{positive, IsRoute-split, IsRoute-append, dm_of-append, prefix_of_unique}
 use Rattle.olr_spec.proofs.WayLemmas.{route_known}
 use Rattle.olr_spec.proofs.CountedLemmas.{counted_other, counted_own, counted_route, route_counted, counted_least, counted_zero}
-use Rattle.olr_spec.proofs.OwnSums.{total, parts_total, exchange, others_most}
 
 -- ---- routes without a line twice
 
 -- a list from one of its lines on
-from_line : (y : ℕ) (ys : List ℕ) → has ys y ≡ true → (front : List ℕ) × (back : List ℕ) × (ys ≡ front ++ y ∷ back)
+pub from_line : (y : ℕ) (ys : List ℕ) → has ys y ≡ true → (front : List ℕ) × (back : List ℕ) × (ys ≡ front ++ y ∷ back)
 from_line y [] on = absurd cc
 from_line y (x ∷ ys) on = elim (has_cases x ys y on) [
   | inl e ↦ ([], ys, ap (λ z. z ∷ ys) e)
@@ -57,11 +58,45 @@ cut N n s t (y ∷ ys) w =
       }
     ]
 
--- ---- lengths
+-- ---- sums over the lines of a list
 
-scaled : (c : ℕ) (M : Map) (xs : List ℕ) → total (λ x. c * dm M x) xs ≡ c * dm_of M xs
+scaled : (c : ℕ) (M : Map) (xs : List ℕ) → sum_by (λ x. c * dm M x) xs ≡ c * dm_of M xs
 scaled c M [] = omega arith
-scaled c M (x ∷ xs) = omega (arith, scaled c M xs, mul-add c (dm M x) (dm_of M xs))
+scaled c M (x ∷ xs) = omega (arith, sum_by-cons (λ y. c * dm M y) x xs, scaled c M xs, mul-add c (dm M x) (dm_of M xs))
+
+sum_most : (p q : ℕ → ℕ) (xs : List ℕ) → Each (λ x. p x ≤ q x) xs → sum_by p xs ≤ sum_by q xs
+sum_most p q [] h = omega arith
+sum_most p q (x ∷ xs) h =
+    let rest = sum_most p q xs (λ y i. h y (has_there x xs y i)) in
+    omega (arith, sum_by-cons p x xs, sum_by-cons q x xs, h x (has_here x xs), rest)
+
+sum_without : (p : ℕ → ℕ) (y : ℕ) (xs front back : List ℕ) → xs ≡ front ++ y ∷ back →
+    sum_by p xs ≡ p y + sum_by p (front ++ back)
+sum_without p y xs front back is =
+    omega (arith, ap (sum_by p) is, sum_by-append p front (y ∷ back), sum_by-cons p y back, sum_by-append p front back)
+
+-- if p is at most q on the lines of xs, and q at most p on the other lines of ys
+exchange : (p q : ℕ → ℕ) (xs ys : List ℕ) → Each (λ x. p x ≤ q x) xs → Each (λ y. has xs y ≡ false → q y ≤ p y) ys →
+    none_twice ys ≡ true → sum_by p xs + sum_by q ys ≤ sum_by q xs + sum_by p ys
+exchange p q xs [] h k once = omega (arith, sum_most p q xs h)
+exchange p q xs (y ∷ ys) h k once =
+    let parts = and_parts (not (has ys y)) (none_twice ys) once in
+    let of_p = sum_by-cons p y ys in
+    let of_q = sum_by-cons q y ys in
+    elim (cases_Bool (has xs y)) [
+      | inl on ↦
+          let r = from_line y xs on in
+          let same : (z : ℕ) → has xs z ≡ (has (r.0 ++ r.1) z || y == z) = λ z. grind (arith, r.2, list_any-append, or_comm) in
+          let own : Each (λ x. p x ≤ q x) (r.0 ++ r.1) = λ x i. grind (arith, h x, same x, i) in
+          let others : Each (λ z. has (r.0 ++ r.1) z ≡ false → q z ≤ p z) ys =
+          λ z i off. grind (arith, k z, has_there, i, same z, off, parts.0, cases_eq y z, ne_eqb, not-true) in
+          let rest = exchange p q (r.0 ++ r.1) ys own others parts.1 in
+          omega (arith, rest, of_p, of_q, sum_without p y xs r.0 r.1 r.2, sum_without q y xs r.0 r.1 r.2)
+      | inr off ↦
+          omega (arith, exchange p q xs ys h (λ z i. k z (has_there y ys z i)) parts.1, of_p, of_q, k y (has_here y ys) off)
+    ]
+
+-- ---- lengths
 
 own_weight : (g : Margin) (a d n : ℕ) → 1000 * n ≤ (1000 + a) * d →
     (1000 + g.routes) * 1000 * n ≤ (1000 + a) * 1000 * counted_dm g d
@@ -115,12 +150,11 @@ module _ (g : Margin) (M N : Map) (n : IsMap N) (no_other : HasNoOther M N) (a b
       dm_of N xs < dm_of N ys
   longer_there ys known once lt =
       let less : (1000 + a) * 1000 * dm_of K xs < (1000 + a) * 1000 * dm_of K ys = grind (arith, mul-le-mul_left ((1000 + a) * 1000) lt) in
-      let common = exchange there here xs ys own_most once in
-      let rest = others_most here there xs ys (λ y on off. other_most y (known y on) off) in
+      let sums = exchange there here xs ys own_most (λ y on off. other_most y (known y on) off) once in
       let of_K = scaled ((1000 + a) * 1000) K in
       let of_N = scaled ((1000 + g.routes) * 1000) N in
       lt_of_mul-lt-mul_left ((1000 + g.routes) * 1000)
-      (omega (arith, less, common, rest, parts_total here xs ys, parts_total there xs ys, of_K xs, of_K ys, of_N xs, of_N ys))
+      (omega (arith, less, sums, of_K xs, of_K ys, of_N xs, of_N ys))
 
   pub unique_there : (s t : ℕ) → LrpRoute K s t xs → LrpRoute N s t xs
   unique_there s t u = record { route = route_there s t xs nearly.known (route_counted g M xs s t xs u.route); others = others }
@@ -145,31 +179,11 @@ counted_unique g M m s t xs u =
 
 -- ---- a part of it
 
--- the lines of a list before the first one of which a test holds
-record Before (test : ℕ → Bool) (ys : List ℕ) : Type 0 where
-  before : List ℕ
-  line : ℕ
-  after : List ℕ
-  are : ys ≡ before ++ line ∷ after
-  none : Each (λ y. test y ≡ false) before
-  holds : test line ≡ true
-
-before_first : (test : ℕ → Bool) (ys : List ℕ) → Each (λ y. test y ≡ false) ys ⊎ Before test ys
-before_first test [] = inl (Each-nil (λ y. test y ≡ false))
-before_first test (y ∷ ys) = elim (cases_Bool (test y)) [
-  | inl t ↦ inr (record { before = []; line = y; after = ys; are = refl; none = Each-nil (λ y. test y ≡ false); holds = t })
-  | inr f ↦ elim (before_first test ys) [
-    | inl none ↦ inl (Each-cons (λ y. test y ≡ false) y ys f none)
-    | inr p ↦ inr (record {
-      before = y ∷ p.before;
-      line = p.line;
-      after = p.after;
-      are = ap (λ zs. y ∷ zs) p.are;
-      none = Each-cons (λ y. test y ≡ false) y p.before f p.none;
-      holds = p.holds;
-    })
-  ]
-]
+-- of the lines before the first one of which a test holds it doesn't hold
+none_before : (test : ℕ → Bool) (ys : List ℕ) → Each (λ y. test y ≡ false) (before_first test ys)
+none_before test ys y on =
+    let k = at_index (before_first test ys) y on in
+    grind (arith, fails_before_first test ys k.0 0, get_or-take, length-take-le, prefix_len-le-length)
 
 -- on lines that are in neither list or in both the lengths are the same
 count_same : (g : Margin) (M : Map) (xs ws ys : List ℕ) → Each (λ x. IsTrue (has_line M x)) ys → Each (λ y. has xs y ≡ has ws y) ys →
@@ -201,24 +215,29 @@ module _ (g : Margin) (M : Map) (m : IsMap M) (s v t : ℕ) (xs rest : List ℕ)
   front_same = same_counts xs (route_known M s v xs w) (λ y on. grind (arith, on, cases_Bool (has rest y)))
 
   -- a route that comes to a later line is longer than the part up to this line
-  over_later : (ys : List ℕ) → IsRoute M s v ys → Before only_later ys → dm_of Front xs < dm_of Front ys
-  over_later ys r p =
-      let x = p.line in
-      let on = and_parts (has rest x) (not (has xs x)) p.holds in
+  over_later : (ys : List ℕ) → IsRoute M s v ys → position_or_len only_later ys < length ys → dm_of Front xs < dm_of Front ys
+  over_later ys r some =
+      let x = get_or ys (position_or_len only_later ys) 0 in
+      let before = before_first only_later ys in
+      let after = after_first only_later ys in
+      let are = split_at_first only_later ys 0 some in
+      let on = and_parts (has rest x) (not (has xs x)) (passes_at_first only_later ys 0 some) in
       let q = from_line x rest on.0 in
-      let mine = IsRoute-split M s v p.before (x ∷ p.after) (subst (IsRoute M s v) p.are r) in
+      let mine = IsRoute-split M s v before (x ∷ after) (subst (IsRoute M s v) are r) in
       let its = IsRoute-split M v t q.0 (x ∷ q.1) (subst (IsRoute M v t) q.2 z) in
       let is : xs ++ rest ≡ (xs ++ q.0) ++ x ∷ q.1 = ap (λ zs. xs ++ zs) q.2 ∙ sym (append_assoc xs q.0 (x ∷ q.1)) in
       let part = prefix_of_unique Whole s its.0 t (xs ++ q.0) (x ∷ q.1) (subst (UniqueShortest Whole s t) is u)
       (counted_route g M (xs ++ rest) s its.0 (xs ++ q.0) (IsRoute-append M s v its.0 xs q.0 w its.1))
       (counted_route g M (xs ++ rest) its.0 t (x ∷ q.1) its.2) in
-      let known = route_known M s mine.0 p.before mine.1 in
-      let to_x : IsRoute Whole s its.0 p.before =
-      counted_route g M (xs ++ rest) s its.0 p.before (subst (λ k. IsRoute M s k p.before) (sym mine.2.1 ∙ its.2.1) mine.1) in
-      let no_less : dm_of Whole (xs ++ q.0) ≤ dm_of Whole p.before = grind (arith, dec_same p.before (xs ++ q.0), part.others p.before to_x) in
-      let mine_is = ap (dm_of Front) p.are ∙ dm_of-append Front p.before (x ∷ p.after) in
+      let known = route_known M s mine.0 before mine.1 in
+      let to_x : IsRoute Whole s its.0 before =
+      counted_route g M (xs ++ rest) s its.0 before (subst (λ k. IsRoute M s k before) (sym mine.2.1 ∙ its.2.1) mine.1) in
+      let no_less : dm_of Whole (xs ++ q.0) ≤ dm_of Whole before =
+      grind (arith, dec_same before (xs ++ q.0), part.others before to_x) in
+      let mine_is = ap (dm_of Front) are ∙ dm_of-append Front before (x ∷ after) in
       let most = counted_least g M xs x mine.2.0 in
-      omega (arith, no_less, front_same, same_counts p.before known p.none, dm_of-append Whole xs q.0, mine_is, positive M m x mine.2.0, most)
+      let same = same_counts before known (none_before only_later ys) in
+      omega (arith, no_less, front_same, same, dm_of-append Whole xs q.0, mine_is, positive M m x mine.2.0, most)
 
   pub counted_front : LrpRoute Front s v xs
   counted_front = record { route = counted_route g M xs s v xs w; others = others }
@@ -226,11 +245,12 @@ module _ (g : Margin) (M : Map) (m : IsMap M) (s v t : ℕ) (xs rest : List ℕ)
       others : (ys : List ℕ) → IsRoute Front s v ys → ys ≢ xs → dm_of Front xs < dm_of Front ys
       others ys r ne =
           let here = route_counted g M xs s v ys r in
-          elim (before_first only_later ys) [
-            | inl none ↦
+          elim (cases_lt (position_or_len only_later ys) (length ys)) [
+            | inl some ↦ over_later ys here some
+            | inr past ↦
+                let none = subst (Each (λ y. only_later y ≡ false)) (take_all _ ys past) (none_before only_later ys) in
                 let part = prefix_of_unique Whole s v t xs rest u (counted_route g M (xs ++ rest) s v xs w) (counted_route g M (xs ++ rest) v t rest z) in
                 omega (arith, part.others ys (counted_route g M (xs ++ rest) s v ys here) ne, front_same, same_counts ys (route_known M s v ys here) none)
-            | inr p ↦ over_later ys here p
           ]
 
 -- the same without a margin on any map

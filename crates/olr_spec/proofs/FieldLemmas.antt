@@ -1,16 +1,15 @@
 -- The fields of an answer fit their bits.
-use Rattle.olr_spec.proofs.Common.{Margin, ◌≡◌, ℕ, suc, ◌+◌, ◌-◌, ◌*◌, ◌/◌, max, ℤ, min, Bool, true, false, List, ◌∷◌, length}
-use Rattle.olr_spec.proofs.Common.{take, drop, map, ◌<◌, ◌≤◌, Some, None, IfSome, unwrap_or, IsTrue, ap, ◌∙◌, arith, ◌==◌}
-use Rattle.olr_spec.proofs.Common.{take-add, [], ltb-true, fold, find, slice_range, cases_Bool, cases_lt, and_parts, and_from}
-use Rattle.olr_spec.proofs.Common.{cond_both, nat_tests, length-map, get_or-map, AllByRecursion, Coord, is_coord, abs24}
-use Rattle.olr_spec.proofs.Common.{relative, fits16, Map, IsMap, line_at, coord_at, has, dm_of, node_at, stretch, CandidateWith}
-use Rattle.olr_spec.proofs.Common.{Leg, up_to, vector, boundary, lies_between, leg, legs, no_leg, leg_at, position, dm_along}
-use Rattle.olr_spec.proofs.Common.{dm_between, from_front, last_where, first_where, attrs_with, last_two, middle_points_with}
-use Rattle.olr_spec.proofs.Common.{offset, last_point, AreAttrs, IsMiddle, IsLast, fits24, get_or_past, take-map, drop-map}
-use Rattle.olr_spec.proofs.Common.{Scaled, scaled_coord, bearing, sector, div-lt_iff_lt-mul}
-use Rattle.olr_spec.proofs.Facts.{Each, Each-nil, Each-cons, Each-head, Each-tail, Each-range, has_index, has_here}
-use Rattle.olr_spec.proofs.Facts.{last_index, has_there, has_cases, Known, LinkedWith, dm_along-legs, dm_along-append}
-use Rattle.olr_spec.proofs.SectorLemmas.{up_to_below, le_yes, le_test}
+use Rattle.olr_spec.proofs.Common.{Margin, length, IfSome, [], line_at, node_at, stretch, IsMiddle, take-map, drop-map, bearing}
+use Rattle.olr_spec.proofs.Common.{◌≡◌, ℤ, Bool, true, List, take, drop, Some, None, ◌==◌, fold, IsMap, dm_of, legs, ints, zero}
+use Rattle.olr_spec.proofs.Common.{ℕ, ltb-true, and_parts, cond_both, nat_tests, from_front, last_where, attrs_with, last_point}
+use Rattle.olr_spec.proofs.Common.{◌+◌, ◌-◌, ◌*◌, ◌/◌, max, min, ◌∷◌, map, ◌<◌, ◌≤◌, ◌∙◌, Map, has, Leg, leg, pos, false}
+use Rattle.olr_spec.proofs.Common.{slice_range, cases_Bool, length-map, get_or-map, dm_between, first_where, get_or_past}
+use Rattle.olr_spec.proofs.Common.{IsTrue, arith, Coord, abs24, fits16, no_leg, leg_at, offset, IsLast, fits24, Scaled, sector}
+use Rattle.olr_spec.proofs.Common.{ap, cases_lt, and_from, is_coord, relative, coord_at, position, dm_along, last_two, AreAttrs}
+use Rattle.olr_spec.proofs.Common.{take-add, AllByRecursion, CandidateWith, middle_points_with, scaled_coord, div-lt_iff_lt-mul}
+use Rattle.olr_spec.proofs.Facts.{Each, Each-nil, Each-cons, Each-head, Each-tail, Each-range, has_index, has_here, last_index}
+use Rattle.olr_spec.proofs.Facts.{has_there, has_cases, Known, LinkedWith, dm_along-legs, dm_along-append}
+use Rattle.olr_spec.proofs.SectorLemmas.{le_yes, le_test, sector_is}
 use Rattle.olr_spec.specs.Reference as fields
 
 -- ---- which LRPs remain
@@ -64,14 +63,9 @@ none_before g M ls test d p (q ∷ ks) l k i lt =
 
 -- ---- parts
 
-find_each : (Q : ℕ → Type 0) (p : ℕ → Bool) (xs : List ℕ) (d : ℕ) → Each Q xs → Q d → Q (unwrap_or (find p xs) d)
-find_each Q p [] d h q = q
-find_each Q p (x ∷ xs) d h q =
-    grind (arith, cond_both, Each-head, Each-tail, (find_each Q p xs d (Each-tail Q x xs h) q))
-
 pub sector_below : (e n : ℤ) → sector e n < 32
-sector_below e n = find_each (λ k. k < 32) (λ k. lies_between (boundary k) (boundary (suc k)) (vector e n)) (up_to 32) 0
-    (up_to_below 32) (omega arith)
+sector_below (pos zero) (pos zero) = omega arith
+sector_below e n = (sector_is e n (λ p. absurd (omega (arith, ints, p.0, p.1)))).0
 
 bearing_below : (o : Coord) (s : Scaled) → bearing o s < 32
 bearing_below o s = grind (arith, sector_below)

@@ -1,14 +1,14 @@
 -- The fields of an answer's reference fit, so it can be encoded as bytes.
 use Rattle.olr_spec.proofs.Common.{Margin, leb-false, cond_both, is_path, taken_end, Reference, last_kept, last_two, AnswerFits}
-use Rattle.olr_spec.proofs.Common.{◌≡◌, ℕ, ◌+◌, ◌-◌, ◌∷◌, ◌<◌, ◌≤◌, sym, ap, ◌∙◌, [], Map, has, leg, legs}
-use Rattle.olr_spec.proofs.Common.{true, length-append, extended_path, reference_by_with, reference_with, answer_by_points_with}
-use Rattle.olr_spec.proofs.Common.{List, length, None, IsTrue, subst, arith, nat_le, IsMap, dm_of, Path, Tried, to_back, Points}
-use Rattle.olr_spec.proofs.Common.{eqb-true, length-map, from_start, FollowWith, dm_between, from_front, first_kept, path_fault}
+use Rattle.olr_spec.proofs.Common.{◌≡◌, ℕ, ◌+◌, ◌-◌, ◌∷◌, ◌<◌, ◌≤◌, sym, ap, ◌∙◌, [], Map, has, leg, legs, true, length-append}
+use Rattle.olr_spec.proofs.Common.{extended_path, reference_by_with, reference_with, answer_by_points_with, List, length, None}
+use Rattle.olr_spec.proofs.Common.{IsTrue, subst, arith, nat_le, IsMap, dm_of, Path, Tried, to_back, Points, eqb-true}
+use Rattle.olr_spec.proofs.Common.{length-map, from_start, FollowWith, dm_between, from_front, first_kept, path_fault}
 use Rattle.olr_spec.proofs.Common.{cases_Bool, taken_start, last_position, kept_points, EncodingWith, EncodesWith, IsReference}
-use Rattle.olr_spec.proofs.Facts.{dm_of-append, Each, Each-append, Each-from, has_here, has_there, has_cases}
-use Rattle.olr_spec.proofs.Facts.{has_filter, filter_has, Known, sound_lines, path_nonempty, or_None, by_fault}
-use Rattle.olr_spec.proofs.Facts.{StartRun-known, EndRun-known, LinkedWith, follow_linked_with, kept_linked_with}
-use Rattle.olr_spec.proofs.Facts.{between, between_is, whole, front_within, back_within, two_kept}
+use Rattle.olr_spec.proofs.Facts.{dm_of-append, Each, Each-append, Each-from, has_here, has_there, has_cases, has_filter}
+use Rattle.olr_spec.proofs.Facts.{filter_has, Known, sound_lines, path_nonempty, or_None, by_fault, StartRun-known}
+use Rattle.olr_spec.proofs.Facts.{EndRun-known, LinkedWith, follow_linked_with, kept_linked_with, between, between_is, whole}
+use Rattle.olr_spec.proofs.Facts.{front_within, back_within, two_kept}
 use Rattle.olr_spec.proofs.PointMoves.{Each-cond}
 use Rattle.olr_spec.proofs.FieldLemmas.{linked_above, linked_last, has_last_two, last_two_linked, has_last_where}
 use Rattle.olr_spec.proofs.FieldLemmas.{none_after, none_before, attrs_fit, first_fits, middles_fit, last_fits}

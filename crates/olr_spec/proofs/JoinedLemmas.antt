@@ -2,8 +2,8 @@
 use Rattle.olr_spec.proofs.Common.{◌≡◌, ◌<◌, ℕ, suc, List, ◌∷◌, ◌++◌, length, None, refl, arith, length-append, ◌==◌, []}
 use Rattle.olr_spec.proofs.Common.{eqb-true, IsTrue, Map, start, end, Path, is_path, Tried, MayPrecede, MayFollow}
 use Rattle.olr_spec.proofs.Common.{extended_path, AreJoined, first_break, path_fault, cases_Bool}
-use Rattle.olr_spec.proofs.Facts.{IsRoute-append, Each, Each-head, Each-tail, Each-from, Known, or_None, map_None}
-use Rattle.olr_spec.proofs.Facts.{sound_lines, path_nonempty, last_push, extended_keeps}
+use Rattle.olr_spec.proofs.Facts.{IsRoute-append, Each, Each-head, Each-tail, Each-from, Known, or_None, map_None, sound_lines}
+use Rattle.olr_spec.proofs.Facts.{path_nonempty, last_push, extended_keeps}
 
 -- ---- a path without fault
 

@@ -8,7 +8,6 @@ pub mod AgreeLemmas
 pub mod EditLemmas
 pub mod UndoLemmas
 pub mod CountedLemmas
-pub mod OwnSums
 pub mod CountedMoves
 pub mod RouteLemmas
 pub mod RunLemmas
@@ -20,7 +19,6 @@ pub mod KeptLemmas
 pub mod FieldLemmas
 pub mod FitLemmas
 pub mod DecodedLemmas
-pub mod RecoverLemmas
 pub mod ReceiverLemmas
 pub mod ElsewhereLemmas
 pub mod SectorLemmas

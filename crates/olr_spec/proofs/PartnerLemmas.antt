@@ -1,17 +1,16 @@
 -- The routes between the LRPs on another map.
 use Rattle.olr_spec.proofs.Common.{inr, true, List, subst, arith, IsTrue, IsMap, start, legs, Margin, Within, Joins, fold, ◌==◌}
-use Rattle.olr_spec.proofs.Common.{◌≡◌, ℕ, ◌+◌, ◌≤◌, ◌<◌, [], ◌∷◌, sym, ap, Map, end, has, max, map, Leg, ◌-◌}
-use Rattle.olr_spec.proofs.Common.{length, has_line, stretch, last_kept, LrpRoute, allowed, none_twice, attrs_with, cases_Bool}
-use Rattle.olr_spec.proofs.Common.{slice_index, first_kept, RoutesJoinElsewhere, RecoveredElsewhere, extended_path, kept_points}
+use Rattle.olr_spec.proofs.Common.{◌≡◌, ℕ, ◌+◌, ◌≤◌, ◌<◌, [], ◌∷◌, sym, ap, Map, end, has, max, map, Leg, ◌-◌, length, has_line}
+use Rattle.olr_spec.proofs.Common.{stretch, last_kept, LrpRoute, allowed, none_twice, attrs_with, cases_Bool, slice_index}
+use Rattle.olr_spec.proofs.Common.{first_kept, RoutesJoinElsewhere, RecoveredElsewhere, extended_path, kept_points}
 use Rattle.olr_spec.specs.Elsewhere.{HasNoOther, IsNearly, IsNearlyAlong, HasClasses, RecoversLegs, suffices}
-use Rattle.olr_spec.proofs.ListLemmas.{Each, Each-head, Each-tail, Each-left, Each-right, Known, has_here, has_there, has_filter}
-use Rattle.olr_spec.proofs.JoinLemmas.{Carries, kept_joins, stretch_first, LinkedWith, kept_linked_with, follow_linked_with, between, between_is}
+use Rattle.olr_spec.proofs.Facts.{Each, Each-head, Each-tail, Each-left, Each-right, Known, has_here, has_there, has_filter}
+use Rattle.olr_spec.proofs.Facts.{Carries, kept_joins, stretch_first, LinkedWith, kept_linked_with, follow_linked_with, between}
+use Rattle.olr_spec.proofs.Facts.{between_is, unique_there, path_at, path_also}
 use Rattle.olr_spec.proofs.QueryLemmas.{stretch_parts}
-use Rattle.olr_spec.proofs.ElsewhereLemmas.{unique_there}
-use Rattle.olr_spec.proofs.AnswerLemmas.{path_at, path_also}
 use Rattle.olr_spec.proofs.FieldLemmas.{range_legs}
 use Rattle.olr_spec.proofs.FitLemmas.{by_answer, extended_sound, answered}
-use Rattle.olr_spec.proofs.RecoverLemmas.{within_greatest, recovers_to, recovers_last, extended_once, once_apart}
+use Rattle.olr_spec.proofs.ReceiverLemmas.{within_greatest, recovers_to, recovers_last, extended_once, once_apart}
 
 -- what holds of each line of a part holds of each line of a part of it
 part_of : (P : ℕ → Type 0) (ls : List ℕ) (a b p q : ℕ) → a ≤ p → p ≤ q → q ≤ b → Each P (stretch ls a b) → Each P (stretch ls p q)

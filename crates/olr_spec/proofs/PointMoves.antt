@@ -5,8 +5,7 @@ use Rattle.olr_spec.proofs.Common.{refl, sym, arith, ◌↔◌, suc, [], ltb-tru
 use Rattle.olr_spec.proofs.Common.{SameLine, SameRound, has, dm_of, Path, passing, limit, node_at, stretch, CoveredWith, fit16}
 use Rattle.olr_spec.proofs.Common.{CandidateWith, ValidCandidateWith, Greatest, NextWith, To_end, To_valid, To_passing}
 use Rattle.olr_spec.proofs.Common.{FollowWith, legs, first_unknown, first_break, path_fault, Traversed}
-use Rattle.olr_spec.proofs.CountedLemmas.{counted_nil}
-use Rattle.olr_spec.proofs.Facts.{empty_unique, empty_stretch, Each, Each-nil, Each-head, Each-tail, Each-range}
+use Rattle.olr_spec.proofs.Facts.{counted_nil, empty_unique, empty_stretch, Each, Each-nil, Each-head, Each-tail, Each-range}
 use Rattle.olr_spec.proofs.Facts.{has_last, has_index, map_same, Alike, same_record, same_start, same_end, same_dm_of}
 use Rattle.olr_spec.proofs.Facts.{same_coord, same_passing, same_known}
 

@@ -5,11 +5,8 @@ use Rattle.olr_spec.proofs.Common.{List, ◌++◌, length, ◌<◌, ◌≤◌, s
 use Rattle.olr_spec.proofs.Common.{Map, start, end, SameLine, SameRound, IsRoute, dm_of, Reaches, limit, stretch, CoveredWith}
 use Rattle.olr_spec.proofs.Common.{ChangedLine, AccountsFor, Detour, Needed, IsLastTestedWith, query_to_with, IsClear, SameWay}
 use Rattle.std.proofs.Math.Seq.{take-add}
-use Rattle.olr_spec.proofs.Facts.{Each, Each-range, has_index, same_start, same_end, same_dm_of, same_ways}
-use Rattle.olr_spec.proofs.Facts.{IsRoute-moves, unique_same, within, within_other, way_between, next_start}
-use Rattle.olr_spec.proofs.WayLemmas.{route_known}
-use Rattle.olr_spec.proofs.JoinLemmas.{CountedTo}
-use Rattle.olr_spec.proofs.ElsewhereLemmas.{counted_part}
+use Rattle.olr_spec.proofs.Facts.{Each, has_index, same_start, same_end, same_dm_of, same_ways, within, next_start, CountedTo}
+use Rattle.olr_spec.proofs.Facts.{Each-range, IsRoute-moves, unique_same, within_other, way_between, route_known, counted_part}
 use Rattle.olr_spec.proofs.CountedMoves.{counted_length_same, counted_routes, front_counts, clear_front}
 
 pub stretch_parts : {A : Type 0} (ls : List A) (p m k : ℕ) → p ≤ m → m ≤ k → stretch ls p k ≡ stretch ls p m ++ stretch ls m k

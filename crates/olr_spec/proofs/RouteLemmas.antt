@@ -1,5 +1,5 @@
 -- Routes, and the shortest path.
-use Rattle.olr_spec.proofs.Common.{◌≡◌, ℕ, ◌+◌, ◌<◌, ◌≤◌, List, ◌∷◌, ◌++◌, reverse, inl, inr, refl, sym, ap, ◌∙◌, subst, arith}
+use Rattle.olr_spec.proofs.Common.{inl, ◌≡◌, ℕ, ◌+◌, ◌<◌, ◌≤◌, List, ◌∷◌, ◌++◌, reverse, inr, refl, sym, ap, ◌∙◌, subst, arith}
 use Rattle.olr_spec.proofs.Common.{IsTrue, [], cases_order, and_parts, nat_tests, reverse-append, Map, IsMap, has_node}
 use Rattle.olr_spec.proofs.Common.{has_line, end, dm, IsRoute, dm_of, FirstSmaller, PrecedesInTieOrder, reverse-reverse}
 use Rattle.olr_spec.proofs.Common.{append_cancel_right, NoLongerSuffix, OneLeast, PrefixOfLeast, ◌⊎◌, EmptyIsLeast}
@@ -93,11 +93,12 @@ equally_long : (M : Map) → IsMap M → (s t : ℕ) (xs ys : List ℕ) → IsRo
 equally_long M m s t xs ys w u e a b c = grind (arith, same_end)
 
 pub one_least : OneLeast
-one_least M m s t xs ys l k = elim (cases_order (dm_of M xs) (dm_of M ys)) [
-  | inl e ↦ equally_long M m s t xs ys l.route k.route e (k.first xs l.route) (l.first ys k.route)
-      (compare_lists (reverse xs) (reverse ys))
-  | inr o ↦ elim o [ inl h ↦ absurd (k.first xs l.route (inl h)) | inr h ↦ absurd (l.first ys k.route (inl h)) ]
-]
+one_least M m s t xs ys l k =
+    let p = k.first xs l.route in
+    let q = l.first ys k.route in
+    let same = λ (e : dm_of M xs ≡ dm_of M ys).
+    equally_long M m s t xs ys l.route k.route e p q (compare_lists (reverse xs) (reverse ys)) in
+    grind (arith, cases_order (dm_of M xs) (dm_of M ys), same, p, q)
 
 pub prefix_of_least : PrefixOfLeast
 prefix_of_least M s v t xs ys l w u = grind (arith, IsRoute-append, dm_of-append, reverse-append, with_front)

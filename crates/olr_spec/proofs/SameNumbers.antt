@@ -1,11 +1,11 @@
 -- Ascending lists of numbers, by the numbers that they contain.
 use Rattle.olr_spec.proofs.Common.{IsStrictlyIncreasing, nat_cmp, eqb-true, ne_eqb, arith, subst, Less, AllByRecursion, List}
-use Rattle.olr_spec.proofs.Common.{refl, true, ◌==◌, has, sym, ◌<◌, ◌∙◌, ◌∷◌, ◌≡◌, ◌≤◌, [], ap, ℕ, Contains, get_or_default}
-use Rattle.olr_spec.proofs.Common.{eq-eqb, list_any_at, ranked, Any-from_list_any, IsDistinct}
+use Rattle.olr_spec.proofs.Common.{refl, true, ◌==◌, has, sym, ◌<◌, ◌∙◌, ◌∷◌, ◌≡◌, [], ℕ, Contains, get_or_default, eq-eqb}
+use Rattle.olr_spec.proofs.Common.{list_any_at, ranked, Any-from_list_any, IsDistinct}
 use Rattle.std.proofs.lemmas.Grind.{common_steps}
 use Rattle.std.proofs.lemmas.Map.Keys.{IsDistinct-from_apart, sorted_from_strictly_increasing, below_from_sorted}
 use Rattle.std.specs.List.Sorted.{IsStrictlySortedBy}
-use Rattle.olr_spec.proofs.ListLemmas.{has_here}
+use Rattle.olr_spec.proofs.Facts.{has_here, has_cases}
 
 pub distinct_from_ascending : (xs : List ℕ) → IsStrictlyIncreasing xs → IsDistinct ◌==◌ xs
 distinct_from_ascending xs up = grind (arith, common_steps, IsDistinct-from_apart, ne_eqb, below_from_sorted, sorted_from_strictly_increasing)
@@ -16,15 +16,6 @@ pub above : (x n : ℕ) (xs : List ℕ) → AllByRecursion (λ (y : ℕ). nat_cm
 above x n [] h e = absurd cc
 above x n (y ∷ ys) h e = let rest = above x n ys in grind (arith, common_steps, ranked, eqb-true, rest)
 
--- a number in a list is its first, or is greater
-in_list : (x n : ℕ) (xs : List ℕ) → AllByRecursion (λ (y : ℕ). nat_cmp x y ≡ Less) xs → has (x ∷ xs) n ≡ true → x ≤ n
-in_list x n xs h e = grind (arith, common_steps, eqb-true, above)
-
--- the numbers after the first
-tail_has : (x n : ℕ) (xs ys : List ℕ) → AllByRecursion (λ (y : ℕ). nat_cmp x y ≡ Less) xs →
-    AllByRecursion (λ (y : ℕ). nat_cmp x y ≡ Less) ys → has (x ∷ xs) n ≡ has (x ∷ ys) n → has xs n ≡ has ys n
-tail_has x n xs ys h k e = grind (arith, common_steps, above, eqb-true)
-
 same_sorted : (xs ys : List ℕ) → IsStrictlySortedBy nat_cmp xs → IsStrictlySortedBy nat_cmp ys →
     ((n : ℕ) → has xs n ≡ has ys n) → xs ≡ ys
 unfolding IsStrictlySortedBy
@@ -32,10 +23,10 @@ same_sorted [] [] a b h = refl
 same_sorted [] (y ∷ ys) a b h = let e = h y in let f = has_here y ys in absurd cc
 same_sorted (x ∷ xs) [] a b h = let e = h x in let f = has_here x xs in absurd cc
 same_sorted (x ∷ xs) (y ∷ ys) a b h =
-    let is : x ≡ y = grind (arith, in_list y x ys b.0, in_list x y xs a.0, h x, h y, has_here x xs, has_here y ys) in
+    let is : x ≡ y = grind (arith, common_steps, h x, h y, has_here, has_cases, above y x ys b.0, above x y xs a.0) in
     let above_y : AllByRecursion (λ (z : ℕ). nat_cmp x z ≡ Less) ys =
     subst (λ (k : ℕ). AllByRecursion (λ (z : ℕ). nat_cmp k z ≡ Less) ys) (sym is) b.0 in
-    let tails = same_sorted xs ys a.1 b.1 (λ n. tail_has x n xs ys a.0 above_y (h n ∙ ap (λ (k : ℕ). has (k ∷ ys) n) (sym is))) in
+    let tails = same_sorted xs ys a.1 b.1 (λ n. grind (arith, common_steps, h n, is, above x n xs a.0, above x n ys above_y, eqb-true)) in
     λ i. is i ∷ tails i
 
 pub same_ascending : (xs ys : List ℕ) → IsStrictlyIncreasing xs → IsStrictlyIncreasing ys →

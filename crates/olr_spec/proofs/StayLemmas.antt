@@ -4,15 +4,15 @@ use Rattle.olr_spec.proofs.Common.{Margin, answer_by_points_with, TraversedOfExt
 use Rattle.olr_spec.proofs.Common.{◌⊎◌, extended_path, last_position, EncodingWith, CoverageQuery, query_to_with, No_next_point}
 use Rattle.olr_spec.proofs.Common.{inl, Contains, cases_lt, SameLine, IsRoute, is_path, AreJoined, stretch, Traversed, querying}
 use Rattle.olr_spec.proofs.Common.{inr, length, Option, IsTrue, subst, arith, Answer, Refused, Refusal, Points, NodeOf, IsClear}
-use Rattle.olr_spec.proofs.Common.{◌≡◌, ℕ, ◌+◌, ◌∷◌, ◌<◌, ◌≤◌, All, sym, ◌∙◌, ◌↔◌, T, ap, Map, end, has}
-use Rattle.olr_spec.proofs.Common.{List, true, None, ◌++◌, cond, [], ◌==◌, IsMap, start, dm_of, Path, first, last, Tried, limit}
-use Rattle.olr_spec.proofs.Common.{MatchOption, taken_start, CoveredWith, ChangedLine, AccountsFor, IsQueryWith, All-contains}
-use Rattle.olr_spec.proofs.Common.{length-append, both_ways, IsLastTestedWith, reference_with, AnswersRetained, QueriesFromWith}
-use Rattle.olr_spec.proofs.Common.{cases_Bool, SameRound, from_start, taken_end, LongestEnd, FollowWith, OfPathWith, path_fault}
-use Rattle.olr_spec.proofs.Facts.{Each, Each-from, has_first, has_last, Known, Each-append, Each-left, Each-right}
-use Rattle.olr_spec.proofs.Facts.{Each-to, Each-cons, Each-push, sound_lines, path_nonempty, path_at, by_fault}
-use Rattle.olr_spec.proofs.Facts.{one_tried, extended_keeps, Alike, same_begin, same_finish, longest_start_moves}
-use Rattle.olr_spec.proofs.Facts.{StartRun-known, EndRun-known, longest_end_moves, same_dm_of, same_known, by_entering}
+use Rattle.olr_spec.proofs.Common.{◌≡◌, ℕ, ◌+◌, ◌∷◌, ◌<◌, ◌≤◌, All, sym, ◌∙◌, ◌↔◌, T, ap, Map, end, has, List, true, None, ◌++◌}
+use Rattle.olr_spec.proofs.Common.{cond, [], ◌==◌, IsMap, start, dm_of, Path, first, last, Tried, limit, MatchOption}
+use Rattle.olr_spec.proofs.Common.{taken_start, CoveredWith, ChangedLine, AccountsFor, IsQueryWith, All-contains, length-append}
+use Rattle.olr_spec.proofs.Common.{both_ways, IsLastTestedWith, reference_with, AnswersRetained, QueriesFromWith, cases_Bool}
+use Rattle.olr_spec.proofs.Common.{SameRound, from_start, taken_end, LongestEnd, FollowWith, OfPathWith, path_fault}
+use Rattle.olr_spec.proofs.Facts.{Each, Each-from, has_first, has_last, Known, Each-append, Each-left, Each-right, Each-to}
+use Rattle.olr_spec.proofs.Facts.{Each-cons, Each-push, sound_lines, path_nonempty, path_at, by_fault, one_tried}
+use Rattle.olr_spec.proofs.Facts.{extended_keeps, Alike, same_begin, same_finish, longest_start_moves, StartRun-known}
+use Rattle.olr_spec.proofs.Facts.{EndRun-known, longest_end_moves, same_dm_of, same_known, by_entering}
 use Rattle.olr_spec.proofs.PointMoves.{fault_same, close_stays, Traversed-same, follow_moves, legs_same}
 use Rattle.olr_spec.proofs.JoinedLemmas.{extended_joined}
 use Rattle.olr_spec.proofs.QueryLemmas.{RoutesStay, to_same, clear_routes, query_stays, covered_stays}

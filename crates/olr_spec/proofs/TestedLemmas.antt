@@ -1,10 +1,10 @@
 -- A path has exactly one list of coverage queries, and they determine its footprint.
 use Rattle.olr_spec.proofs.Common.{Margin, length, IsTrue, Contains, cases_lt, cases_eq, is_path, stretch, Greatest, querying}
 use Rattle.olr_spec.proofs.Common.{inl, inr, ◌≡◌, ℕ, suc, ◌+◌, ◌-◌, min, ◌∷◌, ◌<◌, ◌≤◌, sym, ap, ◌∙◌, ◌⊎◌, T, [], Map, has}
-use Rattle.olr_spec.proofs.Common.{zero, true, List, None, refl, dec_le, AllZip, IsMap, dm_of, Path, limit, Sees, Needed, Near}
-use Rattle.olr_spec.proofs.Common.{subst, MatchOption, CoverageQuery, query_to_with, OneLastTested, FootIsQueried, FootAffected}
-use Rattle.olr_spec.proofs.Common.{arith, cases_order, CoveredWith, path_fault, Traversed, IsQueryWith, OneQueries, SomeQueries}
-use Rattle.olr_spec.proofs.Common.{extended_path, TraversedOfExtended, IsLastTestedWith, QueriesOfExtendedWith, SomeLastTested}
+use Rattle.olr_spec.proofs.Common.{zero, true, List, None, refl, dec_le, AllZip, Path, Sees, Needed, arith, IsMap, dm_of, Near}
+use Rattle.olr_spec.proofs.Common.{limit, MatchOption, OneLastTested, FootIsQueried, FootAffected, extended_path, CoverageQuery}
+use Rattle.olr_spec.proofs.Common.{subst, cases_order, CoveredWith, path_fault, Traversed, IsQueryWith, OneQueries, SomeQueries}
+use Rattle.olr_spec.proofs.Common.{query_to_with, TraversedOfExtended, IsLastTestedWith, QueriesOfExtendedWith, SomeLastTested}
 use Rattle.olr_spec.specs.Footprint.{TouchedWith, On_path, On_start_run, On_end_run, Within_reach, FootOfWith}
 use Rattle.olr_spec.proofs.Facts.{path_also, path_at, same_by, by_fault, has_here, has_there, near_same, empty_stretch}
 use Rattle.olr_spec.proofs.DecideLemmas.{dec_and, dec_Covered, greatest_or_none, some_follow, some_encoding}
@@ -19,11 +19,7 @@ no_later M ls i j k p q lt = elim p.last [
 ]
 
 pub one_last_tested_with : (g : Margin) → OneLastTested g
-one_last_tested_with g M ls i j k p q = elim (cases_order j k) [
-  | inl e ↦ e
-  | inr (inl lt) ↦ absurd (no_later M ls i j k p q lt)
-  | inr (inr gt) ↦ absurd (no_later M ls i k j q p gt)
-]
+one_last_tested_with g M ls i j k p q = grind (arith, cases_order j k, no_later {g = g} M ls i j k, no_later {g = g} M ls i k j)
 
 -- from position i + 1 on, where f is the farthest position that is near enough
 module _ (g : Margin) (M : Map) (m : IsMap M) (ls : List ℕ) (i f : ℕ)
@@ -143,5 +139,3 @@ foot_affected_with g M N m T round P is queries o = (
         (n.node, n.touched, (foot_queried_with g M m P is queries o n.node).1 (inr (l, on, (n.route, n.leads, n.within))))
   ],
 )
-
--- ---- without a margin
