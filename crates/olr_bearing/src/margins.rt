@@ -98,6 +98,7 @@ fn turned(direction: Direction, quarters: u8) -> Direction
 }
 
 /// A quarter of a sector before the sector.
+#[tactic(auto, using(crate::proofs::Quarters::start_is))]
 fn margin_start(sector: u8) -> Direction
     requires { sector < 32 }
     ensures value { result ≡ margin_start sector }
@@ -107,6 +108,7 @@ fn margin_start(sector: u8) -> Direction
 }
 
 /// A quarter of a sector after it.
+#[tactic(auto, using(crate::proofs::Quarters::end_is))]
 fn margin_end(sector: u8) -> Direction
     requires { sector < 32 }
     ensures value { result ≡ margin_end sector }
