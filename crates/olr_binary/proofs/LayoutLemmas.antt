@@ -1,10 +1,9 @@
 -- The indices of the parts of a reference.
-use Rattle.olr_binary.proofs.Common.{◌≡◌, suc, ◌+◌, ◌-◌, ◌*◌, ◌/◌, ◌<◌, ◌≤◌, List, Some, None, refl, sym, ◌∙◌, take, drop}
-use Rattle.olr_binary.proofs.Common.{zero, length, nat_le, slice_index, arith, nat_tests, status_byte, slice_range, v3_fault}
-use Rattle.olr_spec.proofs.Common.{ℕ, Bool, true, false, ◌||◌, ◌==◌, nat_lt, subst, or_parts, eqb-true, bit, extra, flags_of}
-use Rattle.olr_spec.proofs.Common.{not, add-zero, list_any, get_or-take, get_or-drop, leb-false, attribute1_bytes, has_reserved}
-use Rattle.std.proofs.Common.{if◌then◌else◌}
-use Rattle.olr_spec.specs.Bytes.{Length, Status, Flags, Reserved}
+use Rattle.olr_binary.proofs.Common.{◌≡◌, suc, ◌+◌, ◌-◌, ◌*◌, ◌/◌, ◌<◌, ◌≤◌, List, None, refl, sym, ◌∙◌, take, drop, zero}
+use Rattle.olr_binary.proofs.Common.{length, nat_le, slice_index, arith, nat_tests, status_byte, slice_range, v3_fault}
+use Rattle.olr_spec.proofs.Common.{ℕ, Bool, false, ◌||◌, subst, or_parts, eqb-true, bit, extra, flags_of, add-zero, list_any}
+use Rattle.olr_spec.proofs.Common.{get_or-take, get_or-drop, leb-false, attribute1_bytes, has_reserved, not-false}
+use Rattle.olr_spec.proofs.ReadLemmas.{no_fault as test_passed}
 use Rattle.olr_binary.specs.Layout.{IsLayout}
 
 -- of n LRPs, the first of which has its attribute byte 1 at index i, some attribute byte 1 has a reserved bit
@@ -34,14 +33,14 @@ some_reserved_at b i (suc n) none (suc k) within =
     subst (λ (j : ℕ). slice_index b j < 64) next (some_reserved_at b (i + 7) n rest k (omega arith))
 
 module _ (b : List ℕ) (m o : ℕ) (w : IsLayout b m o) where
-  pub extra-is : extra b ≡ o
-  extra-is = omega (arith, w.size, w.few)
+  pub extra_is : extra b ≡ o
+  extra_is = omega (arith, w.size, w.few)
 
-  count-is : (length b - 16) / 7 ≡ m
-  count-is = omega (arith, w.size, w.few)
+  count_is : (length b - 16) / 7 ≡ m
+  count_is = omega (arith, w.size, w.few)
 
   pub has_reserved_is : has_reserved b ≡ (some_reserved b 7 (m + 2) || nat_le 128 (slice_index b (length b - 1 - o)))
-  has_reserved_is = grind (arith, extra-is, count-is)
+  has_reserved_is = grind (arith, extra_is, count_is)
 
 -- what holds of bytes without a fault
 pub record HasNoFault (b : List ℕ) : Type 0 where
@@ -49,24 +48,8 @@ pub record HasNoFault (b : List ℕ) : Type 0 where
   pub flags : bit 6 (flags_of b) + bit 5 (flags_of b) ≡ extra b
   pub reserved : has_reserved b ≡ false
 
-no_fault_tests : (p q r s : Bool)
-    → (if p then Some Length else
-    (if not q then Some Status else (if not r then Some Flags else (if s then Some Reserved else None)))) ≡ None
-    → (q ≡ true) × (r ≡ true) × (s ≡ false)
-no_fault_tests false true true false e = (refl, refl, refl)
-no_fault_tests p q r s e = absurd cc
-
 pub no_fault : (b : List ℕ) → v3_fault b ≡ None → HasNoFault b
-no_fault b e =
-    let t =
-    no_fault_tests (nat_lt (length b) 16 || nat_lt 2 (extra b)) (slice_index b 0 == status_byte)
-    (bit 6 (flags_of b) + bit 5 (flags_of b) == extra b) (has_reserved b) e in
-    record {
-      state = eqb-true (slice_index b 0) status_byte t.0;
-      flags =
-          eqb-true (bit 6 (flags_of b) + bit 5 (flags_of b)) (extra b) t.1;
-      reserved = t.2;
-    }
+no_fault b e = grind (arith, test_passed, not-false, eqb-true)
 
 -- indices of attribute bytes
 module _ (b : List ℕ) (m o : ℕ) (w : IsLayout b m o) (e : v3_fault b ≡ None) where
@@ -85,8 +68,8 @@ module _ (b : List ℕ) (m o : ℕ) (w : IsLayout b m o) (e : v3_fault b ≡ Non
       × (bit 6 (flags_of b) + bit 5 (flags_of b) ≡ o) × (flags_of b < 128)
       × (slice_index (slice_range b (10 + 7 * m) (10 + 7 * m + 6)) 4 < 64)
   last_bytes = (
-    grind (arith, get_or-take, get_or-drop, extra-is),
-    (no_fault b e).flags ∙ extra-is b m o w,
+    grind (arith, get_or-take, get_or-drop, extra_is),
+    (no_fault b e).flags ∙ extra_is b m o w,
     leb-false 128 (flags_of b) (or_parts _ _ (no_fault b e).reserved).1,
     low_at (m + 1) (10 + 7 * m) (10 + 7 * m + 6 - (10 + 7 * m)) (omega arith) (omega arith) (omega arith),
   )

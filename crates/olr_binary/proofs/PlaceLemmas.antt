@@ -2,7 +2,7 @@
 use Rattle.olr_binary.proofs.Common.{◌≡◌, ◌+◌, ◌<◌, ◌≤◌, ◌+ℤ◌, List, [], ◌∷◌, ◌++◌, length, map, take, nat_le, Some, sym, ap}
 use Rattle.olr_binary.proofs.Common.{◌∙◌, arith, ints, nat_tests, take_all, from_abs24, Middle, Reference, steps_sum}
 use Rattle.olr_spec.proofs.Common.{ℕ, ℤ, pos, get_or, length-append, map-append, take-map, length-map, take_more}
-use Rattle.olr_spec.proofs.Common.{take-append-le, from_rel16, decoded}
+use Rattle.olr_spec.proofs.Common.{take-append-le, from_rel16, decoded, to_z-of_z, w16}
 use lib.IntN.{+ℤ_assoc}
 
 pub add_none : (z : ℤ) → z +ℤ pos 0 ≡ z
@@ -47,3 +47,6 @@ pub decoded-last : (r : Reference) (k : ℕ) → k ≡ length r.middle + 1
       from_abs24 r.first.lat +ℤ steps_sum (map (λ m. m.dlat) r.middle) +ℤ from_rel16 r.last.dlat,
     )
 decoded-last r k last = grind (arith, nat_le, nat_tests, axis-last)
+
+-- what is decoded for each LRP
+pub ruleset decoded_laws = (to_z-of_z, take_all, w16, decoded-between, decoded-last)

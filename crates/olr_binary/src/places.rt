@@ -17,6 +17,7 @@ fn after_steps(coordinate: i128, steps: i16) -> i128
 }
 
 /// The longitude and the latitude, in units, of the first LRP plus the relative steps of the LRPs between.
+#[tactic(auto, using(std::proofs::lemmas::Grind::common_steps))]
 fn way(first: First, points: &[Middle]) -> (i128, i128)
     requires { IsFirst first }
     ensures lon { result.0 ≡ from_abs24 first.lon +ℤ steps_sum (map (λ m. m.dlon) points.now) }
@@ -35,6 +36,7 @@ fn way(first: First, points: &[Middle]) -> (i128, i128)
 
 /// The longitude and the latitude, in units, of LRP `k` of a reference, counted from 0: the first LRP by its 24-bit
 /// steps, each later one by adding its relative steps (White Paper, binary format). None exactly after the last LRP.
+#[tactic(auto, using(crate::proofs::PlaceLemmas::decoded_laws))]
 pub fn decoded(reference: &Reference, k: usize) -> Option<(i128, i128)>
     ensures value { result ≡ decoded reference.now k }
     ensures bound { IfSome result (λ p. (nat_abs p.0 ≤ 2 ^ 102) × (nat_abs p.1 ≤ 2 ^ 102)) }

@@ -8,8 +8,9 @@ ghost use Rattle.olr_spec.specs.Bytes.{first_bytes, flag, has_reserved, last_byt
 ghost use Rattle.olr_binary.specs.Faults.{bytes_fault_of};
 ghost use Rattle.olr_binary.specs.Layout.{IsLayout};
 
-use crate::bits::{NEGATIVE, POSITIVE, has_flag};
-use crate::bits::{read_attribute1, read_attribute2, read_signed16, read_signed24};
+use crate::bits::{
+    NEGATIVE, POSITIVE, has_flag, read_attribute1, read_attribute2, read_signed16, read_signed24,
+};
 use crate::faults::V3Fault;
 use crate::fields::{Attrs, First, Last, Middle, Reference};
 use crate::write::{POINT, STATUS};
@@ -108,6 +109,7 @@ fn read_offsets(four: u8, bytes: &[u8]) -> (Option<u8>, Option<u8>)
 }
 
 /// The last LRP and the offsets, from the six bytes of the LRP and the offset bytes.
+#[tactic(auto, using(std::proofs::lemmas::Grind::common_steps))]
 fn read_last(point: [u8; LAST], offsets: &[u8]) -> (Last, Option<u8>, Option<u8>)
     requires size { let four = slice_index point 5 in length offsets.now ≡ bit 6 four + bit 5 four }
     requires reserved_1 { slice_index point 4 < 64 }
@@ -165,6 +167,7 @@ fn has_reserved(bytes: &[u8], layout: Layout) -> bool
 }
 
 /// The layout of bytes that decode to a reference, or else their first fault.
+#[tactic(auto, using(crate::proofs::LayoutLemmas::extra_is))]
 fn check(bytes: &[u8]) -> Result<Layout, V3Fault>
     ensures ok { IfOk result (λ l. IsLayout bytes.now l.middle l.offsets) }
     ensures sound { OnOk result (v3_fault bytes.now ≡ None) }

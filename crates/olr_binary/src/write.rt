@@ -74,6 +74,7 @@ fn push_offset(bytes: &mut Vec<u8>, offset: Option<u8>) -> Result<(), AllocError
 }
 
 /// Appends the LRPs between the first and the last.
+#[tactic(auto, using(std::proofs::lemmas::Grind::common_steps))]
 fn push_middle(bytes: &mut Vec<u8>, points: &[Middle]) -> Result<(), AllocError>
     requires { AllByRecursion IsMiddle points.now }
     ensures { OnOk result (bytes.new.items ≡ bytes.old.items ++ flat_map middle_bytes points.now) }
