@@ -1,12 +1,12 @@
 -- A list has no duplicates exactly if its numbers, sorted, are strictly increasing.
-use Rattle.std.proofs.Common.{◌≡◌, ℕ, ◌+◌, ◌<◌, true, false, not, List, [], ◌∷◌, length, get_or, eqb}
-use Rattle.std.proofs.Common.{IsPermutation, refl, ◌∙◌, inl, inr, arith}
+use Rattle.std.proofs.Common.{◌≡◌, ℕ, ◌+◌, ◌<◌, true, false, List, [], ◌∷◌, length, get_or, eqb, IsPermutation, refl, ◌∙◌}
+use Rattle.std.proofs.Common.{arith}
 use Rattle.std.specs.List.{IsDistinct, AllByRecursion}
 use Rattle.std.specs.List.Sorted.{IsSorted}
 use Rattle.std.specs.Cmp.{nat_eq_equiv}
 use Rattle.std.specs.Ordering.{nat_cmp}
-use Rattle.std.proofs.lemmas.Bool.{both_ways, and_parts, and_from, or_parts, or_from, not-true, not_from_false, ne_eqb}
-use Rattle.std.proofs.lemmas.Bool.{eq-eqb, cases_Bool, cases_order}
+use Rattle.std.proofs.lemmas.Bool.{both_ways, and_parts, and_from, or_parts, or_from, not-true, not_from_false, ne_eqb, eq-eqb}
+use Rattle.std.proofs.lemmas.Bool.{cases_Bool, cases_order}
 use Rattle.std.proofs.lemmas.List.Kept.{AllPairs-from_increasing}
 use Rattle.std.proofs.lemmas.List.Sorted.{IsPermutation-sym, IsNonDecreasingBy-from_sort}
 use Rattle.std.proofs.lemmas.Map.Keys.{IsDistinct-head, IsDistinct-tail, IsDistinct-cons, IsDistinct-IsPermutation}
@@ -18,8 +18,7 @@ use Rattle.olr_spec.specs.Extension.{none_twice}
 
 differs_from_all : (x : ℕ) (xs : List ℕ) → has xs x ≡ false → AllByRecursion (λ y. eqb x y ≡ false) xs
 differs_from_all x [] h = tt
-differs_from_all x (y ∷ xs) h = let parts =
-    or_parts (eqb y x) (has xs x) h in (nat_eq_equiv.symm x y ∙ parts.0, differs_from_all x xs parts.1)
+differs_from_all x (y ∷ xs) h = grind (arith, or_parts, nat_eq_equiv.symm y x, differs_from_all x xs)
 
 is_none_of : (x : ℕ) (xs : List ℕ) → AllByRecursion (λ y. eqb x y ≡ false) xs → has xs x ≡ false
 is_none_of x [] h = refl
@@ -27,15 +26,12 @@ is_none_of x (y ∷ xs) h = or_from (eqb y x) (has xs x) (nat_eq_equiv.symm y x 
 
 distinct : (xs : List ℕ) → none_twice xs ≡ true → IsDistinct eqb xs
 distinct [] h = IsDistinct-from_apart eqb [] (λ i j d lt in_list. absurd (omega arith))
-distinct (x ∷ xs) h =
-    let parts = and_parts (not (has xs x)) (none_twice xs) h in
-    IsDistinct-cons eqb x xs (differs_from_all x xs (not-true (has xs x) parts.0)) (distinct xs parts.1)
+distinct (x ∷ xs) h = grind (arith, and_parts, not-true, differs_from_all x xs, IsDistinct-cons, distinct xs)
 
 named_once : (xs : List ℕ) → IsDistinct eqb xs → none_twice xs ≡ true
 named_once [] h = refl
 named_once (x ∷ xs) h =
-    and_from (not (has xs x)) (none_twice xs) (not_from_false (has xs x) (is_none_of x xs (IsDistinct-head eqb x xs h)))
-    (named_once xs (IsDistinct-tail eqb x xs h))
+    grind (arith, and_from, not_from_false, is_none_of x xs, IsDistinct-head eqb x xs h, IsDistinct-tail eqb x xs h, named_once xs)
 
 -- ---- after a sort
 
@@ -55,15 +51,9 @@ module _ (xs sorted : List ℕ) (moved : IsPermutation xs sorted) where
   pub equal_twice : (i j : ℕ) → i + 1 ≡ j → j < length sorted → get_or sorted i 0 ≡ get_or sorted j 0 →
       none_twice xs ≡ false
   equal_twice i j next h is =
-      elim (cases_Bool (none_twice xs)) [
-        | inl once ↦
-            let apart =
-            apart_from_distinct eqb sorted i j 0
-            (IsDistinct-IsPermutation eqb nat_eq_equiv.symm xs sorted moved (distinct xs once)) (omega arith) h in
-            absurd (both_ways (eqb (get_or sorted i 0) (get_or sorted j 0)) apart
-            (eq-eqb (get_or sorted i 0) (get_or sorted j 0) is))
-        | inr twice ↦ twice
-      ]
+      let apart = λ (once : none_twice xs ≡ true). apart_from_distinct eqb sorted i j 0
+      (IsDistinct-IsPermutation eqb nat_eq_equiv.symm xs sorted moved (distinct xs once)) (omega arith) h in
+      grind (arith, cases_Bool (none_twice xs), apart, eq-eqb)
 
 -- one more neighbour in a sorted list, which is another number
 pub ascends_more : (sorted : List ℕ) → IsSorted nat_cmp sorted → (i j : ℕ) → i + 1 ≡ j → j < length sorted →

@@ -53,12 +53,7 @@ impl Path {
     /// more than 10,000 lines or names a line twice, and `Memory` if an allocation fails first. The number of lines is
     /// tested without allocation.
     pub fn new(alloc: Global, lines: Vec<LineId>, pos: u32, neg: u32) -> Result<Path, PathFault>
-        ensures ok { IfOk result
-            (λ p. p ≡ record {
-              lines = lines.items;
-              pos = pos;
-              neg = neg;
-            }) }
+        ensures ok { IfOk result (λ p. p ≡ record { lines = lines.items; pos = pos; neg = neg }) }
         ensures good { OnOk result (IsTrue (is_path lines.items)) }
         ensures bad_path { IsErrOf result PathFault.BadPath → IsFalse (is_path lines.items) }
         ensures by_length { (length lines.items < 1) ⊎ (MOST_LINES < length lines.items)
