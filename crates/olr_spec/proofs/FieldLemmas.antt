@@ -70,9 +70,6 @@ sector_below e n = (sector_is e n (λ p. absurd (omega (arith, ints, p.0, p.1)))
 bearing_below : (o : Coord) (s : Scaled) → bearing o s < 32
 bearing_below o s = grind (arith, sector_below)
 
-coord_fits : (c : Coord) → IsTrue (is_coord c) → IsTrue (fits24 (abs24 c.lon)) × IsTrue (fits24 (abs24 c.lat))
-coord_fits c h = grind (arith, and_parts, le_yes, and_from, le_test)
-
 -- ---- lines with the coordinates of their ends
 
 record IsLeg (g : Leg) : Type 0 where
@@ -93,7 +90,7 @@ module _ (M : Map) (m : IsMap M) (ls : List ℕ) (known : Each (Known M) ls) whe
 
   pub first_fits : (i : ℕ) → IsTrue (fits24 (abs24 (position (legs M ls) i).lon))
       × IsTrue (fits24 (abs24 (position (legs M ls) i).lat))
-  first_fits i = coord_fits (position (legs M ls) i) (position_good i)
+  first_fits i = grind (arith, and_parts, le_yes, and_from, le_test, position_good i)
 
   -- ---- parts of the list of lines
 

@@ -6,19 +6,13 @@ use Rattle.olr_spec.proofs.Facts.{path_also, routes_join, two_kept, dm_of-append
 use Rattle.olr_spec.proofs.DecodedLemmas.{two_of}
 use Rattle.olr_spec.proofs.FitLemmas.{long_enough, kept_ends, answered}
 
--- the offsets are shorter than the extended path
-some_left : (M : Map) (P : Path) → path_fault M P ≡ None → (before after : List ℕ) →
-    (extended_path M P before after).pos + (extended_path M P before after).neg
-    < dm_of M (extended_path M P before after).lines
-some_left M P none before after = grind (arith, dm_of-append, long_enough)
-
--- so at least two LRPs remain
+-- at least two LRPs remain
 pub joined_with : (g : Margin) (M : Map) → IsSoundFor g M → (P : Path) (r : Reference) → path_fault M P ≡ None → EncodingWith g M P (Points r) → JoinedWith g M P r
 joined_with g M sound P r none p =
     let E = extended_path M P p.before p.after in
     let gs = legs M E.lines in
     let is = answered g M E p.points r p.holds in
-    let left = some_left M P none p.before p.after in
+    let left : E.pos + E.neg < dm_of M E.lines = grind (arith, dm_of-append, long_enough M P none) in
     let ends = kept_ends g M E.lines p.points E.pos E.neg p.follow is.0 left in
     let two =
     two_of (kept_points gs E.pos E.neg p.points) (first_kept gs E.pos p.points) (last_kept gs E.neg p.points) ends.0

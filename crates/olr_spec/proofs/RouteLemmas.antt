@@ -86,19 +86,14 @@ same_end M m s t xs ys rest is w e =
     let none = longer M m s t (reverse rest) xs (coe 0 1 (i. IsRoute M s t (split i)) w) (ap (dm_of M) (sym split) ∙ e) in
     split ∙ ap (λ (zs : List ℕ). zs ++ xs) none
 
--- of two equally long routes one precedes the other, or they are the same
-equally_long : (M : Map) → IsMap M → (s t : ℕ) (xs ys : List ℕ) → IsRoute M s t xs → IsRoute M s t ys →
-    dm_of M xs ≡ dm_of M ys → ¬ PrecedesInTieOrder M xs ys → ¬ PrecedesInTieOrder M ys xs →
-    Compared (reverse xs) (reverse ys) → xs ≡ ys
-equally_long M m s t xs ys w u e a b c = grind (arith, same_end)
-
 pub one_least : OneLeast
 one_least M m s t xs ys l k =
     let p = k.first xs l.route in
     let q = l.first ys k.route in
-    let same = λ (e : dm_of M xs ≡ dm_of M ys).
-    equally_long M m s t xs ys l.route k.route e p q (compare_lists (reverse xs) (reverse ys)) in
-    grind (arith, cases_order (dm_of M xs) (dm_of M ys), same, p, q)
+    let compared = compare_lists (reverse xs) (reverse ys) in
+    let there = λ (rest : List ℕ) (is : reverse ys ≡ reverse xs ++ rest). same_end M m s t xs ys rest is k.route in
+    let here = λ (rest : List ℕ) (is : reverse xs ≡ reverse ys ++ rest). same_end M m s t ys xs rest is l.route in
+    grind (arith, cases_order (dm_of M xs) (dm_of M ys), compared, there, here, p, q)
 
 pub prefix_of_least : PrefixOfLeast
 prefix_of_least M s v t xs ys l w u = grind (arith, IsRoute-append, dm_of-append, reverse-append, with_front)
