@@ -18,13 +18,6 @@ pub(crate) fn signed24(value: i32) -> [u8; 3]
     [high, middle, low]
 }
 
-/// A number as two bytes, high byte first.
-pub(crate) fn signed16(value: i16) -> [u8; 2]
-    ensures { result ≡ signed16 value }
-{
-    value.to_be_bytes()
-}
-
 /// Attribute byte 1: the functional road class (FRC) in bits 5 to 3, the form of way (FOW) in bits 2 to 0.
 pub(crate) fn attribute1(frc: u8, fow: u8) -> u8
     requires frc { frc < 8 }

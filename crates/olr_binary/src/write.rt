@@ -4,7 +4,7 @@ ghost use Rattle.std.specs.List.{AllByRecursion, flat_map};
 ghost use Rattle.olr_spec.specs.Bytes.{IsFirst, IsMiddle, IsLast, AreAttrs, HasBytes, attr_bytes, first_bytes};
 ghost use Rattle.olr_spec.specs.Bytes.{middle_bytes, last_bytes, offset_bytes, status_byte};
 
-use crate::bits::{attribute1, attribute2, attribute4, signed16, signed24};
+use crate::bits::{attribute1, attribute2, attribute4, signed24};
 use crate::fields::{Attrs, First, Last, Middle, Reference};
 use std::alloc::{AllocError, Global};
 
@@ -45,8 +45,8 @@ fn middle_bytes(point: Middle) -> [u8; 7]
     requires { IsMiddle point }
     ensures { result ≡ middle_bytes point }
 {
-    let [lon_high, lon_low] = signed16(point.dlon);
-    let [lat_high, lat_low] = signed16(point.dlat);
+    let [lon_high, lon_low] = point.dlon.to_be_bytes();
+    let [lat_high, lat_low] = point.dlat.to_be_bytes();
     let [one, two, dnp] = attr_bytes(point.attrs);
     [lon_high, lon_low, lat_high, lat_low, one, two, dnp]
 }
@@ -56,8 +56,8 @@ fn last_bytes(point: Last, pos: Option<u8>, neg: Option<u8>) -> [u8; 6]
     requires { IsLast point }
     ensures { result ++ offset_bytes pos ++ offset_bytes neg ≡ last_bytes point pos neg }
 {
-    let [lon_high, lon_low] = signed16(point.dlon);
-    let [lat_high, lat_low] = signed16(point.dlat);
+    let [lon_high, lon_low] = point.dlon.to_be_bytes();
+    let [lat_high, lat_low] = point.dlat.to_be_bytes();
     let one = attribute1(point.frc, point.fow);
     let four = attribute4(pos, neg, point.bearing);
     [lon_high, lon_low, lat_high, lat_low, one, four]
