@@ -1,8 +1,9 @@
 -- The text of degrees is read as the same number of units.
 use Rattle.olr_spec.proofs.Common.{◌≡◌, ℕ, ◌+◌, ◌*◌, ◌-◌, ◌/◌, ◌%◌, ◌<◌, ◌≤◌, ◌^◌, true, false, Bool, ◌==◌, not, ℤ, pos, negsuc}
-use Rattle.olr_spec.proofs.Common.{List, [], ◌∷◌, ◌++◌, length, fold, refl, ap, IsTrue, Some, None, Ok, Err, sym, ◌∙◌, arith}
-use Rattle.olr_spec.proofs.Common.{zero, suc, Option, option_map, list_all, is_ascii_digit, cond_both, and_parts, and_from}
-use Rattle.olr_spec.proofs.Common.{eqb-true, le-leb, eq-eqb, ne_eqb, nat_tests, drop-append_seam, before_point, digits_value}
+use Rattle.olr_spec.proofs.Common.{List, [], ◌∷◌, ◌++◌, length, fold, refl, ap, IsTrue, Some, Ok, Err, sym, ◌∙◌, arith, zero}
+use Rattle.olr_spec.proofs.Common.{suc, Option, option_map, list_all, is_ascii_digit, cond_both, and_parts, and_from, eqb-true}
+use Rattle.olr_spec.proofs.Common.{le-leb, eq-eqb, ne_eqb, nat_tests, drop-append_seam, before_point, digits_value, append-nil}
+use Rattle.olr_spec.proofs.Common.{append_assoc, cases_Bool, take_while-cons}
 use Rattle.std.specs.Prelude.{decimal, if◌then◌else◌, option_and_then, nat_abs, neg_ℤ, IfSome}
 use Rattle.std.proofs.lemmas.Fmt.{digits_decimal, digits_value-decimal, decimal_nonempty, length-decimal-le}
 use Rattle.std.proofs.Math.Nat.{pow-succ', div-add-mod, mod-lt, mul_assoc, mul_comm, add-mul, div-lt_iff_lt-mul, one-le-pow}
@@ -11,13 +12,13 @@ use Rattle.olr_spec.specs.Degrees.{whole, fraction, unsigned_degrees, degrees, u
 use Rattle.olr_coords.specs.Bounds.{is_degrees}
 use Rattle.olr_coords.specs.DegreesText.{after_point, steps_text, degrees_text, has_degrees_text, decimals}
 use Rattle.olr_coords.specs.Laws.{TextsRead, ReadHaveText}
-use Rattle.olr_coords.proofs.DigitLemmas.{own, before-more, before-none}
+use Rattle.olr_coords.proofs.DigitLemmas.{own}
 
 -- one more digit
 one-more : (a q p r n : ℕ) → p * q + r ≡ n → (10 * a + ((48 + q) - 48)) * p + r ≡ a * (10 * p) + n
 one-more a q p r n e = grind (arith, mul_assoc, mul_comm, add-mul)
 
-ten-positive : (k : ℕ) → 0 < 10 ^ k
+pub ten-positive : (k : ℕ) → 0 < 10 ^ k
 ten-positive k = one-le-pow k 10 (omega arith)
 
 decimals-fold : (k n a : ℕ) → n < 10 ^ k →
@@ -25,26 +26,9 @@ decimals-fold : (k n a : ℕ) → n < 10 ^ k →
 unfolding decimals
 decimals-fold zero n a h = omega arith
 decimals-fold (suc k) n a h =
-    let q : ℕ = n / 10 ^ k in
-    let r : ℕ = n % 10 ^ k in
-    let ds : List ℕ = decimals k r in
-    let ind = decimals-fold k r (10 * a + ((48 + q) - 48)) (mod-lt n (ten-positive k)) in
-    elim (n == 0) as (λ b. (n == 0) ≡ b
-    → fold (λ m d. 10 * m + (d - 48)) a (if b then [] else (48 + q) ∷ ds)
-    * 10 ^ (suc k - length (if b then [] else (48 + q) ∷ ds)) ≡ a * 10 ^ suc k + n) [
-      | true ↦
-          λ e.
-          let all : suc k - 0 ≡ suc k = omega arith in
-          omega (arith, eqb-true n 0 e, ap (λ (m : ℕ). a * 10 ^ m) all)
-      | false ↦
-          λ e.
-          let fewer : suc k - suc (length ds) ≡ k - length ds = omega arith in
-          ap (λ (m : ℕ). fold (λ m d. 10 * m + (d - 48)) (10 * a + ((48 + q) - 48)) ds * 10 ^ m) fewer
-          ∙ ind
-          ∙ one-more a q (10 ^ k) r n (div-add-mod n (10 ^ k))
-          ∙ ap (λ (p : ℕ). a * p + n) (sym (pow-succ' 10 k))
-    ]
-    refl
+    let rest = decimals-fold k (n % 10 ^ k) (10 * a + ((48 + n / 10 ^ k) - 48)) (mod-lt n (ten-positive k)) in
+    let more = one-more a (n / 10 ^ k) (10 ^ k) (n % 10 ^ k) n (div-add-mod n (10 ^ k)) in
+    grind (arith, cases_Bool (n == 0), eqb-true, rest, more, pow-succ' 10 k)
 
 pub decimals-short : (k n : ℕ) → length (decimals k n) ≤ k
 unfolding decimals
@@ -74,13 +58,11 @@ before-digits : (ds tail : List ℕ) → list_all is_ascii_digit ds ≡ true →
     before_point (ds ++ tail) ≡ ds
 before-digits [] tail all e = e
 before-digits (d ∷ ds) tail all e =
-    let p = and_parts (is_ascii_digit d) (list_all is_ascii_digit ds) all in
-    before-more d (ds ++ tail) (no-point-byte d p.0)
-    ∙ ap (λ (t : List ℕ). d ∷ t) (before-digits ds tail p.1 e)
+    grind (arith, take_while-cons (λ c. not (c == 46)) d (ds ++ tail), no-point-byte d, and_parts, before-digits ds tail)
 
 before-fraction : (ds : List ℕ) → before_point (after_point ds) ≡ []
 before-fraction [] = refl
-before-fraction (d ∷ ds) = before-none 46 (d ∷ ds) refl
+before-fraction (d ∷ ds) = take_while-cons (λ c. not (c == 46)) 46 (d ∷ ds)
 
 fraction-digits : (ds : List ℕ) (n : ℕ) → list_all is_ascii_digit ds ≡ true → length ds ≤ 7 →
     digits_value ds * 10 ^ (7 - length ds) ≡ n → fraction (after_point ds) ≡ Some n
@@ -137,19 +119,14 @@ texts-read z h = ap degrees_or_fault (degrees-read z h) ∙ rw (and_parts (is_de
 
 units-whole : (o p : Option ℕ) →
     IfSome (option_and_then (λ n. option_map (λ m. (n + m) * unit7) p) o) (λ u. u % unit7 ≡ 0)
-units-whole None p = tt
-units-whole (Some n) None = tt
-units-whole (Some n) (Some m) = omega arith
+units-whole o p = grind arith
 
 plain-whole : (o : Option ℕ) → IfSome o (λ u. u % unit7 ≡ 0) → IfSome (option_map pos o) (λ z. nat_abs z % unit7 ≡ 0)
-plain-whole None h = tt
-plain-whole (Some n) h = h
+plain-whole o h = grind arith
 
 minus-whole : (o : Option ℕ) → IfSome o (λ u. u % unit7 ≡ 0) →
     IfSome (option_map (λ n. neg_ℤ (pos n)) o) (λ z. nat_abs z % unit7 ≡ 0)
-minus-whole None h = tt
-minus-whole (Some zero) h = refl
-minus-whole (Some (suc n)) h = h
+minus-whole o h = grind arith
 
 pub degrees-whole : (text : List ℕ) → IfSome (degrees text) (λ z. nat_abs z % unit7 ≡ 0)
 degrees-whole [] = tt
@@ -157,13 +134,11 @@ degrees-whole (c ∷ text) = grind (arith, cond_both, minus-whole, units-whole, 
 
 -- a value that passes a test
 passed : (b : Bool) (y z : ℤ) → (if b then Ok y else Err Range) ≡ Ok z → (b ≡ true) × (y ≡ z)
-passed true y z e = (refl, cc)
-passed false y z e = absurd (cc)
+passed b y z e = grind arith
 
 found-whole : (o : Option ℤ) (z : ℤ) → IfSome o (λ z. nat_abs z % unit7 ≡ 0) → degrees_or_fault o ≡ Ok z →
     IsTrue (has_degrees_text z)
-found-whole None z h e = absurd (cc)
-found-whole (Some y) z h e = grind (arith, passed, and_from, eq-eqb)
+found-whole o z h e = grind (arith, passed, and_from, eq-eqb)
 
 pub read-have-text : ReadHaveText
 read-have-text text z e = found-whole (degrees text) z (degrees-whole text) e
@@ -200,3 +175,8 @@ step k n few h more = step-at k (k - 1) n few h more (omega (arith, places-left 
 
 pub point-first : (n : ℕ) → n < 10 ^ 7 → 0 < n → after_point (decimals 7 n) ≡ 46 ∷ decimals 7 n
 point-first n h more = ap after_point (next-digit 6 n more) ∙ ap (λ (ds : List ℕ). 46 ∷ ds) (sym (next-digit 6 n more))
+
+-- what the code that writes degrees needs
+pub ruleset degree_texts = (texts-read, append-nil, append_assoc, decimals-end, point-first)
+
+pub ruleset digit_steps = (step, ten-positive, append-nil, append_assoc, decimals-end)

@@ -1,7 +1,6 @@
 -- The values of digits.
-use Rattle.olr_spec.proofs.Common.{◌≡◌, ℕ, ◌+◌, ◌*◌, ◌-◌, ◌<◌, ◌≤◌, ◌^◌, true, ◌==◌, List, [], ◌∷◌, length, fold, refl, ap, sym}
-use Rattle.olr_spec.proofs.Common.{◌∙◌, arith, rules, take, not, list_all, is_ascii_digit, length-take, take_while-cons}
-use Rattle.olr_spec.proofs.Common.{pow-add, before_point, digits_value}
+use Rattle.olr_spec.proofs.Common.{◌≡◌, ℕ, ◌+◌, ◌*◌, ◌-◌, ◌<◌, ◌≤◌, ◌^◌, true, List, length, fold, ap, sym, ◌∙◌, arith, rules}
+use Rattle.olr_spec.proofs.Common.{take, list_all, is_ascii_digit, length-take, pow-add, digits_value}
 use Rattle.std.proofs.Math.Nat.{mul-lt-mul_of_pos_right}
 use Rattle.std.proofs.lemmas.Str.Parse.{IsNumeralModel, numerals_by_fold, digits_value_short}
 
@@ -27,8 +26,5 @@ scaled-lt n k below few =
     let scale : 0 < 10 ^ (7 - k) = search rules in
     coe 0 1 (i. n * 10 ^ (7 - k) < (whole i)) (mul-lt-mul_of_pos_right below scale)
 
-pub before-more : (c : ℕ) (text : List ℕ) → not (c == 46) ≡ true → before_point (c ∷ text) ≡ c ∷ before_point text
-before-more c text other = take_while-cons (λ d. not (d == 46)) c text ∙ rw other refl
-
-pub before-none : (c : ℕ) (text : List ℕ) → c ≡ 46 → before_point (c ∷ text) ≡ []
-before-none c text point = take_while-cons (λ d. not (d == 46)) c text ∙ rw point refl
+-- what the code that reads digits needs
+pub ruleset digit_bounds = (few-digits, digits-lt, scaled-lt)

@@ -31,6 +31,7 @@ fn whole(digits: &[u8]) -> Option<u64>
 }
 
 /// What follows the whole degrees, in the finest steps: nothing, or a decimal point and digits.
+#[tactic(auto, using(crate::proofs::DigitLemmas::digit_bounds))]
 fn fraction(text: &[u8]) -> Option<u64>
     ensures value { result ≡ fraction text.now }
     ensures bound { IfSome result (λ n. n < 10 ^ 7) }

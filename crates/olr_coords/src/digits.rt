@@ -4,6 +4,7 @@ ghost use Rattle.olr_spec.specs.Degrees.{are_digits, digits_value};
 
 /// The value of decimal digits. None if there are no digits, more than `most`, or another byte among them.
 #[inline]
+#[tactic(auto, using(crate::proofs::DigitLemmas::digit_bounds))]
 pub fn read_digits(digits: &[u8], most: usize) -> Option<u64>
     requires { most ≤ 18 }
     ensures value { result
