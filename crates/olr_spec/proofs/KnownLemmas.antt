@@ -4,7 +4,7 @@ use Rattle.olr_spec.proofs.Common.{arith, slice_index, [], Map, start, end, Same
 use Rattle.olr_spec.proofs.Common.{Detour, IsClear, KnownQuery, KnownRetained, All-contains, get_or, IsKnownWith}
 use Rattle.olr_spec.proofs.Facts.{route_known, route_counted, Each, Each-head, Each-right, IsRoute-split, IsRoute-moves}
 use Rattle.olr_spec.proofs.Facts.{same_there, stretch_first}
-use Rattle.olr_spec.proofs.CountedMoves.{counted_longer, counted_length_same, clear_front, clear_whole}
+use Rattle.olr_spec.proofs.RouteMoves.{counted_longer, counted_length_same, clear_front, clear_whole}
 use Rattle.olr_spec.proofs.QueryLemmas.{stretch_parts}
 
 -- ---- on another map

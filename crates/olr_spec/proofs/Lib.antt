@@ -8,7 +8,7 @@ pub mod AgreeLemmas
 pub mod EditLemmas
 pub mod UndoLemmas
 pub mod CountedLemmas
-pub mod CountedMoves
+pub mod RouteMoves
 pub mod RouteLemmas
 pub mod RunLemmas
 pub mod RunMoves
@@ -16,7 +16,6 @@ pub mod AnswerLemmas
 pub mod DecideLemmas
 pub mod JoinLemmas
 pub mod KeptLemmas
-pub mod FieldLemmas
 pub mod FitLemmas
 pub mod DecodedLemmas
 pub mod ReceiverLemmas
@@ -24,9 +23,7 @@ pub mod ElsewhereLemmas
 pub mod SectorLemmas
 pub mod BytesLemmas
 pub mod ReadLemmas
-pub mod RouteMoves
 pub mod PointMoves
-pub mod QueryLists
 pub mod ChangeLemmas
 pub mod JoinedAnswers
 pub mod JoinedLemmas

@@ -8,7 +8,7 @@ use Rattle.olr_spec.proofs.Facts.{Each, Each-head, Each-tail, Each-left, Each-ri
 use Rattle.olr_spec.proofs.Facts.{Carries, kept_joins, stretch_first, LinkedWith, kept_linked_with, follow_linked_with, between}
 use Rattle.olr_spec.proofs.Facts.{between_is, unique_there, path_at, path_also}
 use Rattle.olr_spec.proofs.QueryLemmas.{stretch_parts}
-use Rattle.olr_spec.proofs.FieldLemmas.{range_legs}
+use Rattle.olr_spec.proofs.FitLemmas.{range_legs}
 use Rattle.olr_spec.proofs.FitLemmas.{by_answer, extended_sound, answered}
 use Rattle.olr_spec.proofs.ReceiverLemmas.{within_greatest, recovers_to, recovers_last, extended_once, once_apart}
 

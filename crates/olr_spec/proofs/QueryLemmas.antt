@@ -7,7 +7,7 @@ use Rattle.olr_spec.proofs.Common.{ChangedLine, AccountsFor, Detour, Needed, IsL
 use Rattle.std.proofs.Math.Seq.{take-add}
 use Rattle.olr_spec.proofs.Facts.{Each, has_index, same_start, same_end, same_dm_of, same_ways, within, next_start, CountedTo}
 use Rattle.olr_spec.proofs.Facts.{Each-range, IsRoute-moves, unique_same, within_other, way_between, route_known, counted_part}
-use Rattle.olr_spec.proofs.CountedMoves.{counted_length_same, counted_routes, front_counts, clear_front}
+use Rattle.olr_spec.proofs.RouteMoves.{counted_length_same, counted_routes, front_counts, clear_front}
 
 pub stretch_parts : {A : Type 0} (ls : List A) (p m k : ℕ) → p ≤ m → m ≤ k → stretch ls p k ≡ stretch ls p m ++ stretch ls m k
 stretch_parts ls p m k h g =

@@ -16,7 +16,7 @@ use Rattle.olr_spec.specs.Receiver.{Incoming, last_lrp, Shortest, One_line, rati
 use Rattle.olr_spec.specs.Recovery.{IsStretchesWith, IsLineAtWith, stretches, line_by}
 use Rattle.olr_spec.proofs.Facts.{extended_keeps, has_number, LinkedWith, joins_last, has_index, path_also, at_index, joins_to}
 use Rattle.olr_spec.proofs.Facts.{path_at, Known, Each, carries_here, Carries, Each-range, Each-head, Each-tail, dec_same}
-use Rattle.olr_spec.proofs.FieldLemmas.{range_legs}
+use Rattle.olr_spec.proofs.FitLemmas.{range_legs}
 use Rattle.olr_spec.proofs.FitLemmas.{extended_sound, by_answer}
 use Rattle.olr_spec.proofs.DecodedLemmas.{answer_decodes, Front, Back, Form, Kept, form}
 use Rattle.olr_spec.specs.Reference as fields

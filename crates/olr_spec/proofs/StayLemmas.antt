@@ -16,7 +16,7 @@ use Rattle.olr_spec.proofs.Facts.{EndRun-known, longest_end_moves, same_dm_of, s
 use Rattle.olr_spec.proofs.PointMoves.{fault_same, close_stays, Traversed-same, follow_moves, legs_same}
 use Rattle.olr_spec.proofs.JoinedLemmas.{extended_joined}
 use Rattle.olr_spec.proofs.QueryLemmas.{RoutesStay, to_same, clear_routes, query_stays, covered_stays}
-use Rattle.olr_spec.proofs.QueryLists.{query_for, zip_moves}
+use Rattle.olr_spec.proofs.TestedLemmas.{query_for, zip_moves}
 
 -- along any lines of both maps, each of these coverage queries has the same routes
 abbrev pub RoutesOf : Margin → Map → Map → List CoverageQuery → Type 0

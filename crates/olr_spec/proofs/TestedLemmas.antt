@@ -1,14 +1,56 @@
 -- A path has exactly one list of coverage queries, and they determine its footprint.
-use Rattle.olr_spec.proofs.Common.{Margin, length, IsTrue, Contains, cases_lt, cases_eq, is_path, stretch, Greatest, querying}
-use Rattle.olr_spec.proofs.Common.{inl, inr, ◌≡◌, ℕ, suc, ◌+◌, ◌-◌, min, ◌∷◌, ◌<◌, ◌≤◌, sym, ap, ◌∙◌, ◌⊎◌, T, [], Map, has}
-use Rattle.olr_spec.proofs.Common.{zero, true, List, None, refl, dec_le, AllZip, Path, Sees, Needed, arith, IsMap, dm_of, Near}
-use Rattle.olr_spec.proofs.Common.{limit, MatchOption, OneLastTested, FootIsQueried, FootAffected, extended_path, CoverageQuery}
-use Rattle.olr_spec.proofs.Common.{subst, cases_order, CoveredWith, path_fault, Traversed, IsQueryWith, OneQueries, SomeQueries}
-use Rattle.olr_spec.proofs.Common.{query_to_with, TraversedOfExtended, IsLastTestedWith, QueriesOfExtendedWith, SomeLastTested}
-use Rattle.olr_spec.specs.Footprint.{TouchedWith, On_path, On_start_run, On_end_run, Within_reach, FootOfWith}
-use Rattle.olr_spec.proofs.Facts.{path_also, path_at, same_by, by_fault, has_here, has_there, near_same, empty_stretch}
-use Rattle.olr_spec.proofs.DecideLemmas.{dec_and, dec_Covered, greatest_or_none, some_follow, some_encoding}
-use Rattle.olr_spec.proofs.QueryLists.{query_for, query_from_with, queries_here}
+use Rattle.olr_spec.proofs.Common.{QueriesOfExtendedWith, TraversedOfExtended, IsLastTestedWith, SomeLastTested, OneLastTested}
+use Rattle.olr_spec.proofs.Common.{FootIsQueried, extended_path, CoverageQuery, query_to_with, FootAffected, MatchOption, arith}
+use Rattle.olr_spec.proofs.Common.{cases_order, CoveredWith, IsQueryWith, SomeQueries, path_fault, OneQueries, Traversed, IsMap}
+use Rattle.olr_spec.proofs.Common.{Contains, cases_lt, cases_eq, Greatest, querying, ltb-true, is_path, stretch, Margin, length}
+use Rattle.olr_spec.proofs.Common.{IsTrue, dec_le, AllZip, Needed, nat_lt, lt-ltb, dm_of, limit, subst, zero, true, List, None}
+use Rattle.olr_spec.proofs.Common.{refl, Path, Sees, Near, inl, inr, ◌≡◌, suc, ◌+◌, ◌-◌, min, ◌∷◌, ◌<◌, ◌≤◌, sym, ◌∙◌, ◌⊎◌, Map}
+use Rattle.olr_spec.proofs.Common.{has, ap, [], ℕ, T}
+use Rattle.olr_spec.specs.Footprint.{On_start_run, Within_reach, TouchedWith, On_end_run, FootOfWith, On_path}
+use Rattle.olr_spec.proofs.Facts.{Contains-later, Contains-cases, empty_stretch, Contains-here, has_filter, filter_has, path_at}
+use Rattle.olr_spec.proofs.Facts.{path_also, has_there, near_same, has_cases, by_fault, has_here, same_by}
+use Rattle.olr_spec.proofs.DecideLemmas.{greatest_or_none, some_encoding, dec_Covered, some_follow, dec_and}
+
+-- ---- lists, of which each element of one has one of the other
+
+module _ {X : Type 0} (R S : ℕ → X → Type 0) where
+  pub zip_moves : (is : List ℕ) (xs : List X) → ((i : ℕ) (x : X) → Contains xs x → R i x → S i x) → AllZip R is xs
+      → AllZip S is xs
+  zip_moves [] [] f z = tt
+  zip_moves (i ∷ is) (x ∷ xs) f z =
+      (f i x (Contains-here x xs) z.0, zip_moves is xs (λ j y c. f j y (Contains-later x y xs c)) z.1)
+  zip_moves _ _ f z = absurd z
+
+module _ {X : Type 0} (R : ℕ → X → Type 0) where
+  pub zip_right : (is : List ℕ) (xs : List X) → AllZip R is xs → (i : ℕ) → has is i ≡ true → (x : X) × Contains xs x × R i x
+  zip_right [] xs z i h = absurd cc
+  zip_right (j ∷ is) [] z i h = absurd z
+  zip_right (j ∷ is) (x ∷ xs) z i h = grind (arith, zip_right is xs z.1 i, has_cases, Contains-here, Contains-later)
+
+  pub zip_left : (is : List ℕ) (xs : List X) → AllZip R is xs → (x : X) → Contains xs x → (i : ℕ) × IsTrue (has is i) × R i x
+  zip_left [] [] z x c = absurd (omega arith)
+  zip_left [] (y ∷ xs) z x c = absurd z
+  zip_left (j ∷ is) [] z x c = absurd z
+  zip_left (j ∷ is) (y ∷ xs) z x c = grind (arith, zip_left is xs z.1 x, Contains-cases, has_here, has_there)
+
+-- ---- the LRPs with a coverage query
+
+pub queries_here : (ls is : List ℕ) (i : ℕ) → has (querying ls is) i ≡ true → IsTrue (has is i) × (i + 2 < length ls)
+queries_here ls is i h = grind (arith, has_filter, ltb-true)
+
+pub query_for : (g : Margin) (M : Map) (ls is : List ℕ) (queries : List CoverageQuery) →
+    AllZip (IsQueryWith g M ls) (querying ls is) queries → (i : ℕ)
+    → has is i ≡ true → i + 2 < length ls → (l : CoverageQuery) × Contains queries l × IsQueryWith g M ls i l
+query_for g M ls is queries z i h far = zip_right (IsQueryWith g M ls) (querying ls is) queries z i
+    (filter_has (λ y. nat_lt (y + 2) (length ls)) is i h (lt-ltb (i + 2) (length ls) far))
+
+pub query_from_with : (g : Margin) (M : Map) (ls is : List ℕ) (queries : List CoverageQuery) →
+    AllZip (IsQueryWith g M ls) (querying ls is) queries → (l : CoverageQuery) → Contains queries l
+    → (i : ℕ) × IsTrue (has is i) × (i + 2 < length ls) × IsQueryWith g M ls i l
+query_from_with g M ls is queries z l c =
+    let r = zip_left (IsQueryWith g M ls) (querying ls is) queries z l c in
+    let p = queries_here ls is r.0 r.1 in
+    (r.0, p.0, p.1, r.2)
 
 -- ---- the last position that is tested
 
