@@ -17,7 +17,7 @@ use Rattle.olr_spec.specs.Recovery.{IsLeftWith, are_spaced, Weighted, is_cosine}
 use Rattle.olr_spec.proofs.Facts.{path_also, path_at, Each, has_index, at_index, has-lines_where, has_last, last_index, Known}
 use Rattle.olr_spec.proofs.Facts.{LinkedWith, follow_linked_with, kept_linked_with, empty_stretch, stretch_first, positive}
 use Rattle.olr_spec.proofs.Facts.{next_start}
-use Rattle.olr_spec.proofs.FieldLemmas.{position_is, linked_above, dm_same, last_two_linked}
+use Rattle.olr_spec.proofs.FitLemmas.{position_is, linked_above, dm_same, last_two_linked}
 use Rattle.olr_spec.proofs.FitLemmas.{extended_sound, by_answer}
 use Rattle.olr_spec.proofs.DecodedLemmas.{Kept, answer_decodes, Back, Form, Front, form}
 use Rattle.std.proofs.Math.Nat.{le_of_mul-le-mul_left, mul_comm, mul-le-mul_left, mul-le-mul_right, mul-lt-mul_of_pos_left}

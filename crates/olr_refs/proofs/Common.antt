@@ -52,7 +52,7 @@ pub use Rattle.olr_spec.proofs.Common.{get_or_append_left, get_or_default, lengt
 pub use Rattle.olr_spec.proofs.Common.{reverse-reverse, take-map, take_all, take_more, All-contains}
 pub use Rattle.olr_spec.proofs.Common.{Contains-append_left, Contains-append_right, All-nil, All-cons, All-push}
 pub use Rattle.olr_spec.proofs.Common.{list_any-append, AllZip, IsBinarySearchResult, IsStrictlyIncreasing}
-pub use Rattle.olr_spec.proofs.FieldLemmas.{dm_same, from_front-add, position_is}
+pub use Rattle.olr_spec.proofs.FitLemmas.{dm_same, from_front-add, position_is}
 pub use Rattle.olr_spec.proofs.FitLemmas.{extended_sound, reference_fits_with, by_answer}
 pub use Rattle.olr_spec.proofs.JoinLemmas.{CountedTo, LinkedWith, between, follow_linked_with, kept_linked_with}
 pub use Rattle.olr_spec.proofs.JoinLemmas.{stretch_last, empty_stretch}

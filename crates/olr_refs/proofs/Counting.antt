@@ -8,7 +8,7 @@ use Rattle.olr_refs.proofs.Common.{begun_at, label_of, Margin, counted, counted_
 use Rattle.olr_refs.proofs.Common.{cases_Bool}
 use Rattle.olr_spec.proofs.CountedLemmas.{counted_own, counted_other, counted_zero, counted_least, counted_route}
 use Rattle.olr_spec.proofs.CountedLemmas.{route_counted}
-use Rattle.olr_spec.proofs.CountedMoves.{counted_longer}
+use Rattle.olr_spec.proofs.RouteMoves.{counted_longer}
 use Rattle.olr_route.proofs.UniqueLemmas.{label_way, way_le}
 use Rattle.olr_route.specs.declared.frontier.TheConstants.{GREATEST_LIMIT}
 

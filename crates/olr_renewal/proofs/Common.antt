@@ -64,7 +64,7 @@ pub use Rattle.olr_spec.proofs.Common.{or_left, and_parts, or_cases, or_right}
 pub use Rattle.olr_spec.proofs.KnownLemmas.{known_kept, known_stays}
 pub use Rattle.olr_spec.proofs.ListLemmas.{at_index}
 pub use Rattle.olr_spec.proofs.OptionLemmas.{none_of}
-pub use Rattle.olr_spec.proofs.QueryLists.{query_from_with}
+pub use Rattle.olr_spec.proofs.TestedLemmas.{query_from_with}
 pub use Rattle.olr_spec.proofs.RouteLemmas.{route_start, IsRoute-append, dm_of-append}
 pub use Rattle.olr_spec.specs.Margins.{Margin, is_margin, counted, counted_dm, counted_dm_of}
 pub use Rattle.olr_spec.specs.Queries.{AreKnownWith, IsKnownWith}
