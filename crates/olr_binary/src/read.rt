@@ -64,21 +64,10 @@ fn read_first(bytes: [u8; 9]) -> First
     ensures encoded { first_bytes result ≡ bytes }
     ensures fits { IsFirst result }
 {
-    let [
-        lon_high,
-        lon_middle,
-        lon_low,
-        lat_high,
-        lat_middle,
-        lat_low,
-        one,
-        two,
-        dnp,
-    ] = bytes;
     First {
-        lon: read_signed24([lon_high, lon_middle, lon_low]),
-        lat: read_signed24([lat_high, lat_middle, lat_low]),
-        attrs: read_attrs(one, two, dnp),
+        lon: read_signed24([bytes[0], bytes[1], bytes[2]]),
+        lat: read_signed24([bytes[3], bytes[4], bytes[5]]),
+        attrs: read_attrs(bytes[6], bytes[7], bytes[8]),
     }
 }
 
