@@ -177,6 +177,6 @@ pub point-first : (n : ℕ) → n < 10 ^ 7 → 0 < n → after_point (decimals 7
 point-first n h more = ap after_point (next-digit 6 n more) ∙ ap (λ (ds : List ℕ). 46 ∷ ds) (sym (next-digit 6 n more))
 
 -- what the code that writes degrees needs
-pub ruleset degree_texts = (texts-read, append-nil, append_assoc, decimals-end, point-first)
+pub ruleset read_back = (texts-read)
 
-pub ruleset digit_steps = (step, ten-positive, append-nil, append_assoc, decimals-end)
+pub ruleset digit_steps = (step, ten-positive, append-nil, append_assoc, decimals-end, point-first)

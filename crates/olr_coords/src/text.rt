@@ -25,7 +25,7 @@ pub fn has_degrees_text(units: i64) -> bool
 
 /// Appends a coordinate, in units, as degrees: with as many decimals as are needed, at most seven, and with `-` only if
 /// it is less than zero. Fails if an allocation fails.
-#[tactic(auto, using(crate::proofs::DegreesTextLemmas::degree_texts))]
+#[tactic(auto, using(crate::proofs::DegreesTextLemmas::read_back))]
 pub fn push_degrees(text: &mut Vec<u8>, units: i64) -> Result<(), AllocError>
     requires { IsTrue (has_degrees_text units) }
     ensures text { OnOk result (text.new.items ≡ text.old.items ++ degrees_text units) }
@@ -45,8 +45,9 @@ fn push_steps(text: &mut Vec<u8>, steps: u64) -> Result<(), AllocError>
     push_fraction(text, steps % STEPS)
 }
 
-/// Appends a decimal point and the digits of a fraction, in 10^-7 degrees, or nothing if the fraction is zero.
-#[tactic(auto, using(crate::proofs::DegreesTextLemmas::degree_texts))]
+/// Appends a decimal point and the digits of a fraction, in 10^-7 degrees, up to the last that isn't zero; nothing if the
+/// fraction is zero.
+#[tactic(auto, using(crate::proofs::DegreesTextLemmas::digit_steps))]
 fn push_fraction(text: &mut Vec<u8>, fraction: u64) -> Result<(), AllocError>
     requires { fraction < 10 ^ 7 }
     ensures { OnOk result (text.new.items ≡ text.old.items ++ after_point (decimals 7 fraction)) }
@@ -55,15 +56,6 @@ fn push_fraction(text: &mut Vec<u8>, fraction: u64) -> Result<(), AllocError>
         return Ok(());
     }
     text.push(b'.')?;
-    push_decimals(text, fraction)
-}
-
-/// Appends the digits of a fraction, in 10^-7 degrees, up to the last that isn't zero.
-#[tactic(auto, using(crate::proofs::DegreesTextLemmas::digit_steps))]
-fn push_decimals(text: &mut Vec<u8>, fraction: u64) -> Result<(), AllocError>
-    requires { fraction < 10 ^ 7 }
-    ensures { OnOk result (text.new.items ≡ text.old.items ++ decimals 7 fraction) }
-{
     let mut rest = fraction;
     let mut places = FRACTION_DIGITS;
     while rest > 0 {

@@ -1,6 +1,6 @@
 use Rattle.olr_spec.proofs.Common.{◌≡◌, ◌<◌, ◌≤◌, ◌^◌, ◌++◌}
 use Rattle.olr_coords.specs.DegreesText.{decimals}
-use Rattle.olr_coords.proofs.text.push_decimals.Given as goal
+use Rattle.olr_coords.proofs.text.push_fraction.Given as goal
 
 -- the rest has at most as many digits as there are decimals left
 abbrev pub invariant-loop-rest : goal.invariant-loop-rest
