@@ -1,7 +1,7 @@
 //! Degrees as text: writing.
 ghost use Rattle.std.specs.Prelude.{◌≡◌, ◌<◌, ◌^◌, ◌++◌, IsTrue, Ok, OnOk};
 ghost use Rattle.olr_spec.specs.Degrees.{read_degrees};
-ghost use Rattle.olr_coords.specs.DegreesText.{decimals, after_point, steps_text, degrees_text, has_degrees_text};
+ghost use Rattle.olr_coords.specs.DegreesText.{decimals, after_point, degrees_text, has_degrees_text};
 
 use itoa::Buffer;
 use std::alloc::AllocError;
@@ -34,13 +34,7 @@ pub fn push_degrees(text: &mut Vec<u8>, units: i64) -> Result<(), AllocError>
     if units < 0 {
         text.push(b'-')?;
     }
-    push_steps(text, units.unsigned_abs() / STEP)
-}
-
-/// Appends a number of 10^-7 degrees as degrees.
-fn push_steps(text: &mut Vec<u8>, steps: u64) -> Result<(), AllocError>
-    ensures { OnOk result (text.new.items ≡ text.old.items ++ steps_text steps) }
-{
+    let steps = units.unsigned_abs() / STEP;
     text.extend_from_slice(Buffer::new().format(steps / STEPS).as_bytes())?;
     push_fraction(text, steps % STEPS)
 }
