@@ -29,9 +29,8 @@ module _ {X : Type 0} (R : ℕ → X → Type 0) where
 
   pub zip_left : (is : List ℕ) (xs : List X) → AllZip R is xs → (x : X) → Contains xs x → (i : ℕ) × IsTrue (has is i) × R i x
   zip_left [] [] z x c = absurd (omega arith)
-  zip_left [] (y ∷ xs) z x c = absurd z
-  zip_left (j ∷ is) [] z x c = absurd z
   zip_left (j ∷ is) (y ∷ xs) z x c = grind (arith, zip_left is xs z.1 x, Contains-cases, has_here, has_there)
+  zip_left _ _ z x c = absurd z
 
 -- ---- the LRPs with a coverage query
 

@@ -3,8 +3,7 @@
 --     dm_of M xs      their length
 --     Reaches M s limit v      a route of at most the limit leads from s to v
 --     PrecedesInTieOrder M xs ys      xs precedes ys: it is shorter, or equally long with the smaller line number at
---         the first
---         difference, counted from the end
+--         the first difference, counted from the end
 --     Least M s t xs      the shortest path: a route from s to t that no other precedes
 --     UniqueShortest M s t xs      the unique shortest path: a route such that every other is longer
 --     LrpRoute M s t xs      the route between two location reference points (LRPs)
