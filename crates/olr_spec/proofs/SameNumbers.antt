@@ -1,11 +1,11 @@
 -- Ascending lists of numbers, by the numbers that they contain.
 use Rattle.olr_spec.proofs.Common.{IsStrictlyIncreasing, nat_cmp, eqb-true, ne_eqb, arith, subst, Less, AllByRecursion, List}
 use Rattle.olr_spec.proofs.Common.{refl, true, ◌==◌, has, sym, ◌<◌, ◌∙◌, ◌∷◌, ◌≡◌, [], ℕ, Contains, get_or_default, eq-eqb}
-use Rattle.olr_spec.proofs.Common.{list_any_at, ranked, Any-from_list_any, IsDistinct}
+use Rattle.olr_spec.proofs.Common.{list_any_at, ranked, IsDistinct}
 use Rattle.std.proofs.lemmas.Grind.{common_steps}
 use Rattle.std.proofs.lemmas.Map.Keys.{IsDistinct-from_apart, sorted_from_strictly_increasing, below_from_sorted}
 use Rattle.std.specs.List.Sorted.{IsStrictlySortedBy}
-use Rattle.olr_spec.proofs.Facts.{has_here, has_cases}
+use Rattle.olr_spec.proofs.Facts.{has_here, has_cases, at_index}
 
 pub distinct_from_ascending : (xs : List ℕ) → IsStrictlyIncreasing xs → IsDistinct ◌==◌ xs
 distinct_from_ascending xs up = grind (arith, common_steps, IsDistinct-from_apart, ne_eqb, below_from_sorted, sorted_from_strictly_increasing)
@@ -40,6 +40,4 @@ pub has_from : (xs : List ℕ) (x : ℕ) → Contains xs x → has xs x ≡ true
 has_from xs x h = list_any_at (λ y. y == x) xs h.0 x h.1 (eq-eqb _ x h.2)
 
 pub in_from : (xs : List ℕ) (x : ℕ) → has xs x ≡ true → Contains xs x
-in_from xs x h =
-    let found = Any-from_list_any (λ y. y == x) xs h in
-    (found.0, found.2, get_or_default xs found.0 x found.1 found.2 ∙ found.3 ∙ eqb-true found.1 x found.4)
+in_from xs x h = let k = at_index xs x h in (k.0, k.1, get_or_default xs k.0 x 0 k.1 ∙ k.2)
