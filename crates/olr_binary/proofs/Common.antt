@@ -6,7 +6,7 @@ pub use Rattle.olr_spec.proofs.Common.{AllByRecursion, First, IsMiddle, IsRefere
 pub use Rattle.olr_spec.proofs.Common.{ap, arith, drop, first_bytes, flat_map, from_abs24, ints, last_bytes, length, map}
 pub use Rattle.olr_spec.proofs.Common.{middle_bytes, nat_abs, nat_le, nat_tests, reference_bytes, refl, rules, slice_index}
 pub use Rattle.olr_spec.proofs.Common.{slice_range, status_byte, steps_sum, suc, sym, take, take_all, to_z-of_z, v3_fault, w16}
-pub use Rattle.olr_spec.proofs.Common.{zero, ◌*◌, ◌++◌, ◌+ℤ◌, ◌+◌, ◌-◌, ◌/◌, ◌<◌, ◌^◌, ◌∙◌, ◌∷◌, ◌≡◌, ◌≤◌}
+pub use Rattle.olr_spec.proofs.Common.{zero, ◌*◌, ◌++◌, ◌+ℤ◌, ◌+◌, ◌-◌, ◌/◌, ◌^◌, ◌∙◌, ◌∷◌, ◌≡◌, ◌≤◌, w128, w32, w64}
 pub use Rattle.olr_spec.proofs.QueryLemmas.{stretch_parts}
 pub use Rattle.olr_spec.proofs.ReadLemmas.{AreBytes, encoded_passes}
 pub use Rattle.std.proofs.lemmas.Grind.{common_steps}

@@ -1,8 +1,8 @@
 -- Each element of what a reference encodes as is a byte.
-use Rattle.olr_binary.proofs.Common.{rules, zero, suc, ◌<◌, List, [], ◌∷◌, ◌++◌, slice_index, arith, AllByRecursion, flat_map}
-use Rattle.olr_binary.proofs.Common.{First, Middle, Reference, IsMiddle, IsReference, first_bytes, last_bytes, middle_bytes}
+use Rattle.olr_binary.proofs.Common.{rules, zero, suc, List, [], ◌∷◌, ◌++◌, slice_index, arith, AllByRecursion, flat_map, First}
+use Rattle.olr_binary.proofs.Common.{Middle, Reference, IsMiddle, IsReference, first_bytes, last_bytes, middle_bytes}
 use Rattle.olr_binary.proofs.Common.{reference_bytes, IsBytes, AreBytes, flag_below}
-use Rattle.olr_spec.proofs.Common.{ℕ, ◌%◌, Option, IfSome, Last, IsFirst, IsLast}
+use Rattle.olr_spec.proofs.Common.{◌<◌, ℕ, ◌%◌, Option, IfSome, Last, IsFirst, IsLast}
 
 both : (xs ys : List ℕ) → AreBytes xs → AreBytes ys → AreBytes (xs ++ ys)
 both [] ys a b = b

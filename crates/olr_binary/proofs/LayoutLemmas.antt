@@ -1,10 +1,10 @@
 -- The indices of the parts of a reference.
-use Rattle.olr_binary.proofs.Common.{◌≡◌, suc, ◌+◌, ◌-◌, ◌*◌, ◌/◌, ◌<◌, ◌≤◌, List, None, refl, sym, ◌∙◌, take, drop, zero}
-use Rattle.olr_binary.proofs.Common.{length, nat_le, slice_index, arith, nat_tests, status_byte, slice_range, v3_fault}
-use Rattle.olr_spec.proofs.Common.{ℕ, Bool, false, ◌||◌, subst, or_parts, eqb-true, bit, extra, flags_of, add-zero, list_any}
-use Rattle.olr_spec.proofs.Common.{get_or-take, get_or-drop, leb-false, attribute1_bytes, has_reserved, not-false}
-use Rattle.olr_spec.proofs.ReadLemmas.{no_fault as test_passed}
+use Rattle.olr_binary.proofs.Common.{◌≡◌, suc, ◌+◌, ◌-◌, ◌*◌, ◌/◌, ◌≤◌, List, None, refl, sym, ◌∙◌, take, drop, zero, length}
+use Rattle.olr_binary.proofs.Common.{nat_le, slice_index, arith, nat_tests, status_byte, slice_range, v3_fault}
+use Rattle.olr_spec.proofs.Common.{◌<◌, ℕ, Bool, false, ◌||◌, subst, or_parts, eqb-true, bit, extra, flags_of, add-zero}
+use Rattle.olr_spec.proofs.Common.{list_any, get_or-take, get_or-drop, leb-false, attribute1_bytes, has_reserved, not-false}
 use Rattle.olr_binary.specs.Layout.{IsLayout}
+use Rattle.olr_spec.proofs.ReadLemmas.{no_fault as test_passed}
 
 -- of n LRPs, the first of which has its attribute byte 1 at index i, some attribute byte 1 has a reserved bit
 abbrev pub some_reserved : List ℕ → ℕ → ℕ → Bool

@@ -1,8 +1,8 @@
 -- Coordinates after relative steps.
-use Rattle.olr_binary.proofs.Common.{◌≡◌, ◌+◌, ◌<◌, ◌≤◌, ◌+ℤ◌, List, [], ◌∷◌, ◌++◌, length, map, take, nat_le, Some, sym, ap}
-use Rattle.olr_binary.proofs.Common.{◌∙◌, arith, ints, nat_tests, take_all, from_abs24, Middle, Reference, steps_sum}
-use Rattle.olr_spec.proofs.Common.{ℕ, ℤ, pos, get_or, length-append, map-append, take-map, length-map, take_more}
-use Rattle.olr_spec.proofs.Common.{take-append-le, from_rel16, decoded, to_z-of_z, w16}
+use Rattle.olr_binary.proofs.Common.{◌≡◌, ◌+◌, ◌≤◌, ◌+ℤ◌, List, [], ◌∷◌, ◌++◌, length, map, take, nat_le, Some, sym, ap, ◌∙◌}
+use Rattle.olr_binary.proofs.Common.{arith, ints, nat_tests, take_all, from_abs24, Middle, Reference, steps_sum, to_z-of_z, w16}
+use Rattle.olr_spec.proofs.Common.{◌<◌, ℕ, ℤ, pos, get_or, length-append, map-append, take-map, length-map, take_more}
+use Rattle.olr_spec.proofs.Common.{take-append-le, from_rel16, decoded}
 use lib.IntN.{+ℤ_assoc}
 
 pub add_none : (z : ℤ) → z +ℤ pos 0 ≡ z

@@ -1,8 +1,8 @@
 -- LRPs decoded from their bytes.
-use Rattle.olr_binary.proofs.Common.{◌≡◌, zero, suc, ◌+◌, ◌<◌, ◌≤◌, ◌*◌, List, [], ◌∷◌, ◌++◌, length, drop, slice_index}
-use Rattle.olr_binary.proofs.Common.{slice_range, refl, sym, ap, ◌∙◌, arith, flat_map, First, Middle, Reference, first_bytes}
-use Rattle.olr_binary.proofs.Common.{middle_bytes, last_bytes, reference_bytes, status_byte, part, stretch_parts}
-use Rattle.olr_spec.proofs.Common.{ℕ, drop-cons, drop_all, signed16, signed24, attr_bytes}
+use Rattle.olr_binary.proofs.Common.{◌≡◌, zero, suc, ◌+◌, ◌≤◌, ◌*◌, List, [], ◌∷◌, ◌++◌, length, drop, slice_index, slice_range}
+use Rattle.olr_binary.proofs.Common.{refl, sym, ap, ◌∙◌, arith, flat_map, First, Middle, Reference, first_bytes, middle_bytes}
+use Rattle.olr_binary.proofs.Common.{last_bytes, reference_bytes, status_byte, part, stretch_parts}
+use Rattle.olr_spec.proofs.Common.{◌<◌, ℕ, drop-cons, drop_all, signed16, signed24, attr_bytes}
 use Rattle.std.proofs.lemmas.List.Concat.{flat_map-append}
 use Rattle.std.proofs.lemmas.Slice.{between_to_end}
 

@@ -77,11 +77,10 @@ fn read_middle(bytes: [u8; POINT]) -> Middle
     ensures encoded { middle_bytes result ≡ bytes }
     ensures fits { IsMiddle result }
 {
-    let [lon_high, lon_low, lat_high, lat_low, one, two, dnp] = bytes;
     Middle {
-        dlon: read_signed16([lon_high, lon_low]),
-        dlat: read_signed16([lat_high, lat_low]),
-        attrs: read_attrs(one, two, dnp),
+        dlon: read_signed16([bytes[0], bytes[1]]),
+        dlat: read_signed16([bytes[2], bytes[3]]),
+        attrs: read_attrs(bytes[4], bytes[5], bytes[6]),
     }
 }
 

@@ -46,15 +46,15 @@ pub use Rattle.olr_spec.specs.Reference.{reference_by_with, reference_by_kept_wi
 pub use Rattle.olr_spec.specs.Routes.{FirstSmaller, IsRoute, LrpRoute, PrecedesInTieOrder, Reaches, UniqueShortest, dm_of}
 pub use Rattle.olr_spec.specs.Routes.{Least}
 pub use Rattle.std.proofs.Common.{All, Bool, Contains, IfSome, IsTrue, List, MatchOption, None, Ok, Option, Result, Some, T, []}
-pub use Rattle.std.proofs.Common.{IsFalse, IsOk, IsPermutation, IsSome, Less, MatchResult, add-one, add-zero, is_ok, ltb-false}
-pub use Rattle.std.proofs.Common.{ap, append-nil, append_assoc, arith, cond, drop, drop-drop, eq-eqb, eqb-true, false, filter}
-pub use Rattle.std.proofs.Common.{find, flat_map, fold, get_or, get_or-append-add, get_or-drop, inl, inr, int_le, is_some}
-pub use Rattle.std.proofs.Common.{le-leb, le-ltb, leb-false, leb-true, length, length-append, length-drop, lt-ltb, ltb-true}
-pub use Rattle.std.proofs.Common.{map, max, min, nat_abs, nat_cmp, nat_le, nat_lt, ne_eqb, negsuc, not, option_map, pos, refl}
-pub use Rattle.std.proofs.Common.{nat_eq, of_z, rules, to_z, w16, w32, w64, ⊎_elim, ◌*ℤ◌, ◌+ℤ◌, ◌^◌, div-lt_iff_lt-mul, neg_ℤ}
-pub use Rattle.std.proofs.Common.{reverse, slice_get, slice_index, slice_range, subst, suc, sym, take, take-add}
-pub use Rattle.std.proofs.Common.{take-append-drop, true, unwrap_or, zero, ℕ, ℤ, ◌%◌, ◌&&◌, ◌*◌, ◌++◌, ◌+◌, ◌-ℤ◌, ◌-◌, ◌/◌}
-pub use Rattle.std.proofs.Common.{◌<ℤ◌, ◌<◌, ◌==◌, ◌||◌, ◌↔◌, ◌∙◌, ◌∷◌, ◌≡◌, ◌≢◌, ◌≤ℤ◌, ◌≤◌, ◌⊎◌, Err, FitsSigned, IfErr}
+pub use Rattle.std.proofs.Common.{IsFalse, IsOk, IsPermutation, IsSome, Less, MatchResult, add-zero, is_ok, ltb-false, ap}
+pub use Rattle.std.proofs.Common.{append-nil, append_assoc, arith, cond, drop, drop-drop, eq-eqb, eqb-true, false, filter, find}
+pub use Rattle.std.proofs.Common.{flat_map, fold, get_or, get_or-append-add, get_or-drop, inl, inr, int_le, is_some, le-leb}
+pub use Rattle.std.proofs.Common.{le-ltb, leb-false, leb-true, length, length-append, length-drop, lt-ltb, ltb-true, map, max}
+pub use Rattle.std.proofs.Common.{min, nat_abs, nat_cmp, nat_le, nat_lt, ne_eqb, negsuc, not, option_map, pos, refl, nat_eq}
+pub use Rattle.std.proofs.Common.{of_z, rules, to_z, w16, w32, w64, ⊎_elim, ◌*ℤ◌, ◌+ℤ◌, ◌^◌, div-lt_iff_lt-mul, neg_ℤ, reverse}
+pub use Rattle.std.proofs.Common.{slice_get, slice_index, slice_range, subst, suc, sym, take, take-add, take-append-drop, true}
+pub use Rattle.std.proofs.Common.{unwrap_or, zero, ℕ, ℤ, ◌%◌, ◌&&◌, ◌*◌, ◌++◌, ◌+◌, ◌-ℤ◌, ◌-◌, ◌/◌, ◌<ℤ◌, ◌<◌, ◌==◌, ◌||◌, ◌↔◌}
+pub use Rattle.std.proofs.Common.{◌∙◌, ◌∷◌, ◌≡◌, ◌≢◌, ◌≤ℤ◌, ◌≤◌, ◌⊎◌, Err, FitsSigned, IfErr}
 pub use Rattle.std.proofs.Math.Bool.{Bool-discrete, and_comm, or_comm}
 pub use Rattle.std.proofs.Math.Decide.{dec_le, dec_lt, map_dec, ℕ_discrete}
 pub use Rattle.std.proofs.Math.Seq.{drop-append_seam, drop-cons}

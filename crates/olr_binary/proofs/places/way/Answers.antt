@@ -1,5 +1,4 @@
-use Rattle.olr_binary.proofs.Common.{common_steps, arith, w16, ints, to_z-of_z, from_abs24}
-use Rattle.olr_spec.proofs.Common.{w32, w64, w128}
+use Rattle.olr_binary.proofs.Common.{common_steps, arith, w16, ints, to_z-of_z, from_abs24, w32, w64, w128}
 use Rattle.olr_binary.proofs.PlaceLemmas.{add_none, place-more}
 use Rattle.olr_binary.proofs.places.way.Goals as goal
 
