@@ -21,10 +21,9 @@ use Rattle.std.specs.List.{AllByRecursion}
 use Rattle.std.specs.List.Sorted.{IsStrictlyIncreasing}
 use Rattle.olr_spec.specs.Map.{Map, empty_map, IsMap, Line, has_line, lines_in, lines_out, Edit, edited}
 use Rattle.olr_spec.specs.Map.{touched_nodes, touched_lines, Enters, Leaves, Agree, SameLine, SameRound, has, HasCoord}
-use Rattle.olr_spec.specs.Routes.{IsRoute, dm_of, Least, UniqueShortest}
+use Rattle.olr_spec.specs.Routes.{IsRoute, dm_of, Least, UniqueShortest, Settled}
 use Rattle.olr_spec.specs.Margins.{Margin, counted, IsSoundFor}
 use Rattle.olr_spec.specs.Elsewhere.{HasNoOther, IsNearly, IsNearlyAlong, HasClasses, KeptLines, RecoversLegs, suffices}
-use Rattle.olr_spec.specs.Labels.{Settled}
 use Rattle.olr_spec.specs.Extension.{Path, is_path, first, last, LongestStart, LongestEnd, limit}
 use Rattle.olr_spec.specs.Points.{stretch, CoveredWith, NextWith, FollowWith, last_position, OfPathWith}
 use Rattle.olr_spec.specs.Bearings.{IsSector, sector}

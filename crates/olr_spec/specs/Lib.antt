@@ -3,7 +3,6 @@ pub mod Degrees
 pub mod Map
 pub mod Routes
 pub mod Margins
-pub mod Labels
 pub mod Extension
 pub mod Points
 pub mod Bearings

@@ -1,4 +1,5 @@
--- Routes on a map, their order, the shortest path, and the unique shortest path.
+-- Routes on a map, their order, the shortest path, and the unique shortest path; and when the labels of a search describe
+-- the shortest paths within a limit (profile).
 --     IsRoute M s t xs      the lines xs are a route from s to t: each starts where the one before ends
 --     dm_of M xs      their length
 --     Reaches M s limit v      a route of at most the limit leads from s to v
@@ -7,7 +8,8 @@
 --     Least M s t xs      the shortest path: a route from s to t that no other precedes
 --     UniqueShortest M s t xs      the unique shortest path: a route such that every other is longer
 --     LrpRoute M s t xs      the route between two location reference points (LRPs)
-use Rattle.std.specs.Prelude.{◌≡◌, ◌≢◌, ℕ, ◌+◌, ◌<◌, ◌≤◌, List, [], ◌∷◌, reverse, ◌⊎◌, IsTrue}
+--     Settled M s limit dist trace      in a search from s, each label describes a route, and no line improves a label
+use Rattle.std.specs.Prelude.{◌≡◌, ◌≢◌, ℕ, ◌+◌, ◌<◌, ◌≤◌, List, [], ◌∷◌, ◌++◌, reverse, Option, Some, ◌⊎◌, IsTrue}
 use Rattle.olr_spec.specs.Map.{Map, has_line, start, end, dm}
 
 -- a line may occur more than once, and a U-turn is allowed
@@ -47,3 +49,17 @@ pub record UniqueShortest (M : Map) (s t : ℕ) (xs : List ℕ) : Type 0 where
 -- the shortest path between two LRPs (White Paper, encoding steps); that it is unique: profile
 abbrev pub LrpRoute : Map → ℕ → ℕ → List ℕ → Type 0
 LrpRoute M s t xs = UniqueShortest M s t xs
+
+-- ---- labels of a search
+
+-- dist is the distance at each labelled node, and trace the route to it by the last lines, of this length and within
+-- the limit. Each line from a labelled node that stays within the limit ends at a labelled node, whose label it does
+-- not improve: the distance there is less, or it is equal and the last line has no greater number
+pub record Settled (M : Map) (s limit : ℕ) (dist : ℕ → Option ℕ) (trace : ℕ → List ℕ) : Type 0 where
+  pub source : dist s ≡ Some 0
+  pub at_source : trace s ≡ []
+  pub routes : (v d : ℕ) → dist v ≡ Some d → IsRoute M s v (trace v) × (dm_of M (trace v) ≡ d) × (d ≤ limit)
+  pub steps : (v d : ℕ) → dist v ≡ Some d → v ≢ s → (x : ℕ) × (trace v ≡ trace (start M x) ++ x ∷ [])
+  pub closed : (u d x : ℕ) → dist u ≡ Some d → IsTrue (has_line M x) → start M x ≡ u → d + dm M x ≤ limit
+      → (e : ℕ) × (dist (end M x) ≡ Some e)
+      × ((e < d + dm M x) ⊎ ((e ≡ d + dm M x) × ((y : ℕ) (ys : List ℕ) → trace (end M x) ≡ ys ++ y ∷ [] → y ≤ x)))

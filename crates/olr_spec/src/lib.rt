@@ -2,7 +2,7 @@
 //!
 //! A road map, a path, a reference and its bytes are mathematical values here: finite maps, lists
 //! and whole numbers. The contracts of the other crates refer to these definitions; nothing here is
-//! executed. In reading order: `Coordinates`, `Degrees`, `Map`, `Routes`, `Margins`, `Labels`,
+//! executed. In reading order: `Coordinates`, `Degrees`, `Map`, `Routes`, `Margins`,
 //! `Extension`, `Points`, `Bearings`, `Reference`, `Encoding`, `Bytes`, `Decoded`, `Joins`, `Detours`, `Queries`,
 //! `Footprint`, `Receiver`, `Recovery`, `Elsewhere`, and `Laws`, which says what follows from them. `Codes`
 //! defines how the values are stored, for the compiler.
