@@ -3,7 +3,7 @@ use Rattle.olr_spec.proofs.Common.{refl, ◌⊎◌, inl, inr, ◌≡◌, ℕ, �
 use Rattle.olr_spec.proofs.Common.{sym, subst, arith, append-nil, append_assoc, cases_lt, cases_eq, Map, IsMap, has_line, start}
 use Rattle.olr_spec.proofs.Common.{end, dm, IsRoute, dm_of, FirstSmaller, PrecedesInTieOrder, Least}
 use Rattle.olr_spec.proofs.Facts.{dm_of-append, nothing_below_nil, not_before_itself}
-use Rattle.olr_spec.specs.Labels.{Settled}
+use Rattle.olr_spec.specs.Routes.{Settled}
 use Rattle.olr_spec.proofs.RouteLemmas.{last_first}
 
 module _ (M : Map) (m : IsMap M) (s limit : ℕ) (dist : ℕ → Option ℕ) (trace : ℕ → List ℕ)
