@@ -44,10 +44,7 @@ distinct_append [] ys a b apart = b
 distinct_append (x ∷ xs) ys a b apart =
     IsDistinct-cons ◌==◌ x (xs ++ ys)
     (none_equal x (xs ++ ys) (λ y i is.
-    elim (in_either xs ys y i) [
-      | inl left ↦ not_among x xs (IsDistinct-head ◌==◌ x xs a) (subst (λ (n : ℕ). has xs n ≡ true) (sym is) left)
-      | inr right ↦ apart x (has_here x xs) (subst (λ (n : ℕ). has ys n ≡ true) (sym is) right)
-    ]))
+    grind (arith, in_either xs ys y i, not_among x xs (IsDistinct-head ◌==◌ x xs a), apart x (has_here x xs))))
     (distinct_append xs ys (IsDistinct-tail ◌==◌ x xs a) b (λ y i j. apart y (has_there x xs y i) j))
 
 -- ---- the numbers of a finite map
@@ -73,13 +70,11 @@ pub id_of_row : (vs : List (Option ℕ)) (cs : List Coord) (os is : List Links) 
     length os ≡ length vs → length is ≡ length vs → (p : ℕ) →
     at vs p ≡ option_map (λ (e : NodeEntry). e.id) (at (rows vs cs os is) p)
 id_of_row [] cs os is a b c p = refl
-id_of_row (v ∷ vs) [] os is a b c p = absurd (omega arith)
-id_of_row (v ∷ vs) (x ∷ cs) [] is a b c p = absurd (omega arith)
-id_of_row (v ∷ vs) (x ∷ cs) (o ∷ os) [] a b c p = absurd (omega arith)
 id_of_row (None ∷ vs) (x ∷ cs) (o ∷ os) (i ∷ is) a b c zero = refl
 id_of_row (Some v ∷ vs) (x ∷ cs) (o ∷ os) (i ∷ is) a b c zero = refl
 id_of_row (v ∷ vs) (x ∷ cs) (o ∷ os) (i ∷ is) a b c (suc p) =
     id_of_row vs cs os is (omega arith) (omega arith) (omega arith) p
+id_of_row vs cs os is a b c p = absurd (omega arith)
 
 present_append : (xs ys : List (Option ℕ)) → present (xs ++ ys) ≡ present xs ++ present ys
 present_append xs ys = filter_map-append (λ o. o) xs ys
@@ -110,12 +105,10 @@ ids_once : (es : List (Option ℕ)) → ((p q v : ℕ) → at es p ≡ Some v �
     IsDistinct ◌==◌ (present es)
 unfolding IsDistinct
 ids_once [] h = tt
-ids_once (None ∷ es) h = ids_once es (λ p q v a b. let e = h (suc p) (suc q) v a b in omega arith)
+ids_once (None ∷ es) h = ids_once es (λ p q v a b. grind (arith, h (suc p) (suc q) v))
 ids_once (Some e ∷ es) h = (
-  none_equal e (present es) (λ v i is.
-      let r = slot_of_id es v i in
-      let never : 0 ≡ suc r.0 = h 0 (suc r.0) v (ap (λ (n : ℕ). Some n) is) r.1 in omega arith),
-  ids_once es (λ p q v a b. let e = h (suc p) (suc q) v a b in omega arith),
+  none_equal e (present es) (λ v i is. let r = slot_of_id es v i in grind (arith, h 0 (suc r.0) v)),
+  ids_once es (λ p q v a b. grind (arith, h (suc p) (suc q) v)),
 )
 
 -- ---- the lines that leave the nodes

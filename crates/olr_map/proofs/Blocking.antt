@@ -103,20 +103,15 @@ or_none (Some x) p e = refl
 below : (n : ℕ) (xs : List ℕ) (k : ℕ) → k < n → lookup (λ q. k == q) (from n xs) ≡ None
 below n [] k lt = refl
 below n (zero ∷ xs) k lt = below (suc n) xs k (omega arith)
-below n (suc p ∷ xs) k lt =
-    ap (λ (t : Bool). cond t (Some p) (lookup (λ q. k == q) (from (suc n) xs))) (ne_eqb k n (λ e. omega arith))
-    ∙ below (suc n) xs k (omega arith)
+below n (suc p ∷ xs) k lt = grind (arith, common_steps, ne_eqb, below (suc n) xs k)
 
 within : (n : ℕ) (xs : List ℕ) (i k : ℕ) → k ≡ n + i →
     lookup (λ q. k == q) (from n xs) ≡ number_before (slice_index xs i)
 within n [] i k e = refl
 within n (zero ∷ xs) zero k e = below (suc n) xs k (omega arith)
-within n (suc p ∷ xs) zero k e =
-    ap (λ (t : Bool). cond t (Some p) (lookup (λ q. k == q) (from (suc n) xs))) (eq-eqb k n (omega arith))
+within n (suc p ∷ xs) zero k e = grind (arith, common_steps, eq-eqb)
 within n (zero ∷ xs) (suc i) k e = within (suc n) xs i k (omega arith)
-within n (suc p ∷ xs) (suc i) k e =
-    ap (λ (t : Bool). cond t (Some p) (lookup (λ q. k == q) (from (suc n) xs))) (ne_eqb k n (λ is. omega arith))
-    ∙ within (suc n) xs i k (omega arith)
+within n (suc p ∷ xs) (suc i) k e = grind (arith, common_steps, ne_eqb, within (suc n) xs i k)
 
 -- a number of another block has no slot in this one
 outside : (b : ℕ × Block) (k : ℕ) → (k / 4 == b.0) ≡ false → lookup (λ q. k == q) (from (b.0 * 4) b.1.slots) ≡ None
@@ -179,9 +174,5 @@ changed_beyond xs b b' n w past now k =
 
 pub listed_found : (i : SlotIndex) (k : ℕ) → lookup (λ q. k == q) (pairs_of i) ≡ slot_by i k
 listed_found i k =
-    let place : k ≡ 0 + k = omega arith in
-    lookup-append (λ q. k == q) (from 0 i.dense.items) (all_in i.sparse.blocks.entries)
-    ∙ ap (λ (o : Option ℕ). option_or o (lookup (λ q. k == q) (all_in i.sparse.blocks.entries)))
-    (within 0 i.dense.items k k place)
-    ∙ ap (option_or (dense_slot i.dense.items k)) (all_listed i.sparse.blocks.entries k i.sparse.apart)
-    ∙ sym (slot_of_either i.dense.items i.sparse k)
+    let sparse = all_listed i.sparse.blocks.entries k i.sparse.apart in
+    grind (arith, common_steps, lookup-append, within 0 i.dense.items k k, sparse, slot_of_either)

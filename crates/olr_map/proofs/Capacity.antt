@@ -75,11 +75,11 @@ module _ (t : RoadMap) (b' : SlotIndex) (ls' : LineTable) (slots : (k : ℕ) →
   same_map : map_from b' (node_slots t.nodes) (all_held ls') ≡ tables_map t
   same_map =
       let nodes : (map_from b' (node_slots t.nodes) (all_held ls')).nodes ≡ (tables_map t).nodes =
-      same_answers _ _ (λ k. got_node b' (node_slots t.nodes) same_indexed (all_held ls') k
-      ∙ ap (λ o. option_map place_of (in_slot (node_slots t.nodes) o)) (slots k)
-      ∙ sym (got_node t.index (node_slots t.nodes) t.kept.indexed (all_held t.lines) k)) in
+      same_answers _ _ (λ k.
+      let now = got_node b' (node_slots t.nodes) same_indexed (all_held ls') k in
+      grind (arith, common_steps, now, slots k, got_node t.index (node_slots t.nodes) t.kept.indexed (all_held t.lines) k)) in
       let lines : all_held ls' ≡ all_held t.lines =
-      same_answers _ _ (λ k. all_get ls'.by_number.entries k ∙ same k ∙ sym (got_line t k)) in
+      same_answers _ _ (λ k. grind (arith, common_steps, all_get, same k, got_line t k)) in
       λ j. record { nodes = nodes j; lines = lines j }
 
   pub same_kept : AreTables b' (node_slots t.nodes) (all_held ls')

@@ -23,23 +23,19 @@ Column = List Links
 length-rows : (vs : Numbers) (cs : Places) (os is : Column) → length cs ≡ length vs → length os ≡ length vs →
     length is ≡ length vs → length (rows vs cs os is) ≡ length vs
 length-rows [] cs os is a b c = refl
-length-rows (v ∷ vs) [] os is a b c = absurd (omega arith)
-length-rows (v ∷ vs) (x ∷ cs) [] is a b c = absurd (omega arith)
-length-rows (v ∷ vs) (x ∷ cs) (o ∷ os) [] a b c = absurd (omega arith)
 length-rows (v ∷ vs) (x ∷ cs) (o ∷ os) (i ∷ is) a b c =
     let l = length-rows vs cs os is (omega arith) (omega arith) (omega arith) in omega arith
+length-rows vs cs os is a b c = absurd (omega arith)
 
 -- a row by its columns
 pub row_at : (vs : Numbers) (cs : Places) (os is : Column) (p : ℕ) (x : Coord) (d : Links) → length cs ≡ length vs →
     length os ≡ length vs → length is ≡ length vs →
     at (rows vs cs os is) p ≡ entry_of (at vs p) (get_or cs p x) (get_or os p d) (get_or is p d)
 row_at [] cs os is p x d a b c = refl
-row_at (v ∷ vs) [] os is p x d a b c = absurd (omega arith)
-row_at (v ∷ vs) (y ∷ cs) [] is p x d a b c = absurd (omega arith)
-row_at (v ∷ vs) (y ∷ cs) (o ∷ os) [] p x d a b c = absurd (omega arith)
 row_at (v ∷ vs) (y ∷ cs) (o ∷ os) (i ∷ is) zero x d a b c = refl
 row_at (v ∷ vs) (y ∷ cs) (o ∷ os) (i ∷ is) (suc p) x d a b c =
     row_at vs cs os is p x d (omega arith) (omega arith) (omega arith)
+row_at vs cs os is p x d a b c = absurd (omega arith)
 
 -- an entry is composed of the contents of its columns
 pub record IsComposed (v : Option ℕ) (c : Coord) (o i : Links) (e : NodeEntry) : Type 0 where

@@ -41,39 +41,6 @@ same_id side e l = grind (arith, common_steps)
 same_place : (side : Side) (e : NodeEntry) (l : Links) → (with_links side e l).place ≡ e.place
 same_place side e l = grind (arith, common_steps)
 
--- ---- number v has the value w in place of o, in slot p
-
-module _ (b : SlotIndex) (es : Slots) (filled : (v p : ℕ) → slot_by b v ≡ Some p → (e : NodeEntry) × (at es p ≡ Some e))
-    (apart : (v w p : ℕ) → slot_by b v ≡ Some p → slot_by b w ≡ Some p → v ≡ w) (b' : SlotIndex) (es' : Slots)
-    (p v : ℕ) (o w : Option NodeEntry) (t : IsWritten es es' p o w) (was : slot_by b v ≡ slot_if p o)
-    (now : (k : ℕ) → slot_by b' k ≡ cond (v == k) (slot_if p w) (slot_by b k)) where
-  held_was : in_slot es (slot_by b v) ≡ o
-  held_was = grind (arith, common_steps)
-
-  -- the slot of another number is a different one
-  other_slot : (k q : ℕ) → (v == k) ≡ false → slot_by b k ≡ Some q → (p == q) ≡ false
-  other_slot k q ne h = grind (arith, common_steps, filled, ne_eqb, eq-eqb)
-
-  stays : (k q : ℕ) → (v == k) ≡ false → slot_by b k ≡ Some q → at es' q ≡ at es q
-  stays k q ne h = grind (arith, common_steps, other_slot)
-
-  arrives : at es' p ≡ w
-  arrives = grind (arith, common_steps, eq-eqb)
-
-  written_held : (k : ℕ) → in_slot es' (slot_by b' k) ≡ cond (v == k) w (in_slot es (slot_by b k))
-  written_held k = grind (arith, common_steps, stays, arrives, eqb-true)
-
-  -- a number that has a slot is v, in slot p, or had that slot before
-  slot_from : (k q : ℕ) → slot_by b' k ≡ Some q →
-      ((v ≡ k) × (p ≡ q) × ((e : NodeEntry) × (w ≡ Some e))) ⊎ (((v == k) ≡ false) × (slot_by b k ≡ Some q))
-  slot_from k q h = step (v == k) refl where
-    step : (c : Bool) → (v == k) ≡ c →
-        ((v ≡ k) × (p ≡ q) × ((e : NodeEntry) × (w ≡ Some e))) ⊎ (((v == k) ≡ false) × (slot_by b k ≡ Some q))
-    step true e =
-        let x = value_if p q w (sym (now k ∙ cond-true (v == k) (slot_if p w) (slot_by b k) e) ∙ h) in
-        inl (eqb-true v k e, x.2, (x.0, x.1))
-    step false e = inr (e, sym (now k ∙ cond-false (v == k) (slot_if p w) (slot_by b k) e) ∙ h)
-
 -- the lines on one side of node v are others
 pub record Relisted (b : SlotIndex) (es es' : Slots) (side : Side) (v : ℕ) (old new : Links) : Type 0 where
   pub indexed : IsIndexed b es'
@@ -99,23 +66,43 @@ module _ (b : SlotIndex) (es : Slots) (indexed : IsIndexed b es) where
   pub id_is : (v p : ℕ) (e : NodeEntry) → slot_by b v ≡ Some p → at es p ≡ Some e → Some e.id ≡ Some v
   id_is v p e here is = ap (option_map id_of) (sym is) ∙ indexed.filled v p here
 
-  -- ---- node v has the entry w in place of o
+  -- ---- node v has the entry w in place of o, in slot p
 
   module _ (b' : SlotIndex) (es' : Slots) (p v : ℕ) (o w : Option NodeEntry) (t : IsWritten es es' p o w)
-      (was : slot_by b v ≡ slot_if p o) (now : (k : ℕ) → slot_by b' k ≡ cond (v == k) (slot_if p w) (slot_by b k))
-      (id : option_map id_of w ≡ slot_if v w) where
+      (was : slot_by b v ≡ slot_if p o) (now : (k : ℕ) → slot_by b' k ≡ cond (v == k) (slot_if p w) (slot_by b k)) where
     pub node_was : node_in b es v ≡ o
-    node_was = held_was b es entry_of one_node b' es' p v o w t was now
+    node_was = grind (arith, common_steps)
+
+    -- the slot of another number is a different one
+    other_slot : (k q : ℕ) → (v == k) ≡ false → slot_by b k ≡ Some q → (p == q) ≡ false
+    other_slot k q ne h = grind (arith, common_steps, entry_of, one_node, ne_eqb, eq-eqb)
+
+    stays : (k q : ℕ) → (v == k) ≡ false → slot_by b k ≡ Some q → at es' q ≡ at es q
+    stays k q ne h = grind (arith, common_steps, other_slot)
+
+    arrives : at es' p ≡ w
+    arrives = grind (arith, common_steps, eq-eqb)
 
     pub written_node : (k : ℕ) → node_in b' es' k ≡ cond (v == k) w (node_in b es k)
-    written_node = written_held b es entry_of one_node b' es' p v o w t was now
+    written_node k = grind (arith, common_steps, stays, arrives, eqb-true)
 
-    pub written_indexed : IsIndexed b' es'
-    written_indexed =
+    -- a number that has a slot is v, in slot p, or had that slot before
+    slot_from : (k q : ℕ) → slot_by b' k ≡ Some q →
+        ((v ≡ k) × (p ≡ q) × ((e : NodeEntry) × (w ≡ Some e))) ⊎ (((v == k) ≡ false) × (slot_by b k ≡ Some q))
+    slot_from k q h = step (v == k) refl where
+      step : (c : Bool) → (v == k) ≡ c →
+          ((v ≡ k) × (p ≡ q) × ((e : NodeEntry) × (w ≡ Some e))) ⊎ (((v == k) ≡ false) × (slot_by b k ≡ Some q))
+      step true e =
+          let x = value_if p q w (sym (now k ∙ cond-true (v == k) (slot_if p w) (slot_by b k) e) ∙ h) in
+          inl (eqb-true v k e, x.2, (x.0, x.1))
+      step false e = inr (e, sym (now k ∙ cond-false (v == k) (slot_if p w) (slot_by b k) e) ∙ h)
+
+    pub written_indexed : option_map id_of w ≡ slot_if v w → IsIndexed b' es'
+    written_indexed id =
         record {
           filled = λ k q h.
-              let from = slot_from b es entry_of one_node b' es' p v o w t was now k q h in
-              let other = stays b es entry_of one_node b' es' p v o w t was now k q in
+              let from = slot_from k q h in
+              let other = stays k q in
               grind (arith, common_steps, from, t.now q, indexed.filled k q, other);
           named = λ k q h. grind (arith, common_steps, now k, t.now q, indexed.named k q, value_if, eq-eqb, eqb-true, ne_eqb);
         }
@@ -129,8 +116,8 @@ module _ (b : SlotIndex) (es : Slots) (indexed : IsIndexed b es) where
       let f : NodeEntry = with_links side e r.links in
       let stays = unchanged_at (slot_by b) v (Some p) here in
       let id : Some f.id ≡ Some v = ap (λ n. Some n) (same_id side e r.links) ∙ id_is v p e here r.is.was in
-      let was : node_in b es v ≡ Some e = node_was b es' p v (Some e) (Some f) r.is here stays id in
-      let node = written_node b es' p v (Some e) (Some f) r.is here stays id in
+      let was : node_in b es v ≡ Some e = node_was b es' p v (Some e) (Some f) r.is here stays in
+      let node = written_node b es' p v (Some e) (Some f) r.is here stays in
       record {
         indexed = written_indexed b es' p v (Some e) (Some f) r.is here stays id;
         places = λ k. grind (arith, common_steps, node k, over_cond, unchanged_at, same_place);

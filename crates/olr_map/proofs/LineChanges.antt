@@ -8,7 +8,7 @@ use Rattle.olr_map.proofs.Common.{room_of, room_at, LineEnd, RoadMap, PutLine, S
 use Rattle.olr_map.proofs.Common.{false, subst, arith, IsMap, IsPut, sides, Links, true, cond, Some, None, refl, Line}
 use Rattle.olr_map.proofs.Common.{held, near, Room, Side, ◌≡◌, ◌+◌, ◌<◌, ◌≤◌, sym, ◌∙◌, get, Map, has, far, Out, In}
 use Rattle.std.specs.List.Sorted.{IsStrictlyIncreasing}
-use Rattle.olr_map.specs.Changes.{change_edit, CanMake, IsWhole, map_after, room_after, IsChangeMade, line_puts}
+use Rattle.olr_map.specs.Changes.{change_edit, CanMake, IsWhole, map_after, room_after, line_puts}
 use Rattle.std.specs.Ordering.{nat_cmp}
 use Rattle.olr_map.specs.NodeLinks.{CanPutEnd}
 use Rattle.olr_map.proofs.ColumnLemmas.{few_nodes}
@@ -17,7 +17,7 @@ use Rattle.olr_map.proofs.Indexing.{Slots, place_of, entry_of, relisted}
 use Rattle.olr_map.proofs.LineRecords.{record_of}
 use Rattle.olr_map.proofs.Listing.{ascends_at, seen, here_listed, other_listed}
 use Rattle.olr_map.proofs.Reading.{got_node, got_line, line_found, line_missing, kept_from, place_is}
-use Rattle.olr_map.proofs.Making.{made_as, sound_after, change_made, le_same}
+use Rattle.olr_map.proofs.Making.{made_as, room_in, TablesMade, tables_made, le_same}
 use Rattle.std.specs.FinMap as finmap
 use Rattle.olr_spec.specs.Map as maps
 
@@ -106,13 +106,6 @@ pub record LineWritten (t : RoadMap) (nodes' : NodeSlots) (lines' : LineTable) (
   pub ends_now : (side : Side) (l : Line) → w ≡ Some l → near side l ≡ near side ends
   pub put : (side : Side) → IsPut (old side) (new side) x (option_map (seen side (node_slot t.index)) w)
 
--- the tables after a change of a line are tables, and the change was made
-pub record LineMade (t : RoadMap) (nodes' : NodeSlots) (lines' : LineTable) (c back : TableChange) : Type 0 where
-  pub kept : AreTables t.index (node_slots nodes') (all_held lines')
-  pub made : (kept' : AreTables t.index (node_slots nodes') (all_held lines')) → node_room nodes' ≡ node_room t.nodes →
-      spare_numbers t.lines ≤ spare_numbers lines' + line_puts c
-      → IsChangeMade t (record { index = t.index; nodes = nodes'; lines = lines'; kept = kept' }) c back
-
 module _ {t : RoadMap} {nodes' : NodeSlots} {lines' : LineTable} {x : ℕ} {ends : Line} {o w : Option Line}
     (r : LineWritten t nodes' lines' x ends o w) where
   abbrev M : Map
@@ -142,22 +135,13 @@ module _ {t : RoadMap} {nodes' : NodeSlots} {lines' : LineTable} {x : ℕ} {ends
   line_kept : IsMap N → AreTables t.index (node_slots nodes') (all_held lines')
   line_kept sound =
       kept_from t.index (node_slots nodes') (all_held lines') r.indexed (few_nodes nodes') sound (λ side v h is.
-      elim (near side ends == v) as (λ c. (near side ends == v) ≡ c →
-      cond c (Some (r.new side)) (links_in side t.index (node_slots t.nodes) v) ≡ Some h →
-      IsListed side N (node_slot t.index) v h) [
-        | true ↦ λ i j.
-            subst (λ (u : ℕ). IsListed side N (node_slot t.index) u h) (eqb-true (near side ends) v i)
-            (subst (IsListed side N (node_slot t.index) (near side ends)) (same_Some _ _ j) (listed_here side))
-        | false ↦ λ i j.
-            other_listed side (node_slot t.index) M N x o w (got_line t x ∙ r.was) lines_now v
-            (λ l e. ap (λ (u : ℕ). u == v) (r.ends_was side l e) ∙ i)
-            (λ l e. ap (λ (u : ℕ). u == v) (r.ends_now side l e) ∙ i) h (t.kept.listed side v h j)
-      ] refl (sym (r.lists_now side v) ∙ is))
+      let other = other_listed side (node_slot t.index) M N x o w (got_line t x ∙ r.was) lines_now v in
+      let now = r.lists_now side v in
+      grind (arith, common_steps, listed_here side, now, eqb-true, t.kept.listed side v h, other, r.ends_was side, r.ends_now side))
 
   -- the list of an end of a line that was removed has capacity
   room_free : (side : Side) → w ≡ None → has_line M x ≡ true → line_at M x ≡ ends →
-      length (lines_at side N (near side ends))
-      < option_map_or (λ l. links_room l) (links_in side t.index (node_slots nodes') (near side ends)) 0
+      length (lines_at side N (near side ends)) < (room_in t.index nodes').lines side (near side ends)
   room_free side none there is =
       let old : has (lines_on (r.old side)) x ≡ true =
       ap (λ zs. has zs x) (list_is t side (near side ends) (r.old side) (r.lists_was side))
@@ -170,33 +154,28 @@ module _ {t : RoadMap} {nodes' : NodeSlots} {lines' : LineTable} {x : ℕ} {ends
 
   -- the change was made, whose capacity is the same before and after
   line_made : (c back : TableChange) → CanMake M (room_of t) c → N ≡ map_after M c →
-      change_edit back ≡ back_of M (change_edit c) →
-      ((kept' : AreTables t.index (node_slots nodes') (all_held lines')) → HasRoomFor N
-      (room_of (record { index = t.index; nodes = nodes'; lines = lines'; kept = kept' })) (change_edit back)) →
+      change_edit back ≡ back_of M (change_edit c) → HasRoomFor N (room_in t.index nodes') (change_edit back) →
       IsWhole N back → ((R : Room) → room_after R c ≡ R) → ((R : Room) → room_after R back ≡ R) →
-      LineMade t nodes' lines' c back
-  line_made c back can is inverse fits whole steady steady_back =
+      node_room nodes' ≡ node_room t.nodes → spare_numbers t.lines ≤ spare_numbers lines' + line_puts c →
+      TablesMade t t.index nodes' lines' c back
+  line_made c back can is inverse fits whole steady steady_back room spare =
+      let same : IsRoomWithin (room_of t) (room_in t.index nodes') =
       record {
-        kept = line_kept (sound_after t c can N is);
-        made = λ kept' room spare.
-            let new : RoadMap = record { index = t.index; nodes = nodes'; lines = lines'; kept = kept' } in
-            let same : IsRoomWithin (room_of t) (room_of new) =
-            record {
-              nodes = omega arith;
-              lines = λ side k. le_same _ _ (unchanged_at (room_at side t) (near side ends) (links_room (r.new side))
-                  (list_room t side (near side ends) (r.old side) (r.lists_was side) ∙ sym (r.put side).room) k
-                  ∙ sym (over_cond (λ q. option_map_or (λ l. links_room l) q 0) (near side ends == k) (Some (r.new side))
-                  (links_in side t.index (node_slots t.nodes) k))
-                  ∙ ap (λ q. option_map_or (λ l. links_room l) q 0) (sym (r.lists_now side k)));
-            } in
-            change_made t c can new back is inverse (fits kept') whole
-            (subst (λ (R : Room). IsRoomWithin R (room_of new)) (sym (steady (room_of t))) same)
-            (subst (IsRoomWithin (room_of t)) (sym (steady_back (room_of new))) same) (omega arith) spare (λ v _ _. refl);
-      }
+        nodes = omega arith;
+        lines = λ side k. le_same _ _ (unchanged_at (room_at side t) (near side ends) (links_room (r.new side))
+            (list_room t side (near side ends) (r.old side) (r.lists_was side) ∙ sym (r.put side).room) k
+            ∙ sym (over_cond (λ q. option_map_or (λ l. links_room l) q 0) (near side ends == k) (Some (r.new side))
+            (links_in side t.index (node_slots t.nodes) k))
+            ∙ ap (λ q. option_map_or (λ l. links_room l) q 0) (sym (r.lists_now side k)));
+      } in
+      tables_made t t.index nodes' lines' c back can is line_kept inverse fits whole
+      (subst (λ (R : Room). IsRoomWithin R (room_in t.index nodes')) (sym (steady (room_of t))) same)
+      (subst (IsRoomWithin (room_of t)) (sym (steady_back (room_in t.index nodes'))) same) (omega arith) spare
+      (λ v _ _. refl)
 
 -- the far end that was stored
-end_seen : (side : Side) (b : SlotIndex) (l : Line) (q : ℕ) (e : LineEnd) → slot_by b (far side l) ≡ Some q →
-    e ≡ record { slot = q; len = l.len } → Some e ≡ Some (seen side (node_slot b) l)
+end_seen : (side : Side) (b : SlotIndex) (l : Line) (q : ℕ) (e : Option LineEnd) → slot_by b (far side l) ≡ Some q →
+    e ≡ Some (record { slot = q; len = l.len }) → e ≡ Some (seen side (node_slot b) l)
 end_seen side b l q e there is = grind (arith, common_steps, place_is)
 
 -- both lists were changed, first that of the node where the line begins
@@ -234,77 +213,67 @@ module _ (t : RoadMap) (mid nodes' : NodeSlots) (lines' : LineTable) (n x p q : 
             (subst (IsPut into.entry.ins into.links x) d_is into.holds);
       }
 
--- ---- a line is added
-
-pub line_put : (t : RoadMap) (mid nodes' : NodeSlots) (lines' : LineTable) (n x p q : ℕ) (number : n ≡ x) (l : Line)
-    (here : slot_by t.index l.from ≡ Some p) (there : slot_by t.index l.to ≡ Some q) (e d : LineEnd) →
-    e ≡ record { slot = q; len = l.len } → d ≡ record { slot = p; len = l.len } →
-    IsRelinked (node_slots t.nodes) (node_slots mid) Out p (λ a b. IsPut a b x (Some e)) →
-    IsRelinked (node_slots mid) (node_slots nodes') In q (λ a b. IsPut a b x (Some d)) →
-    ((k : ℕ) → held lines' k ≡ cond (n == k) (Some l) (held t.lines k)) →
-    CanMake (tables_map t) (room_of t) (PutLine x l) → LineMade t nodes' lines' (PutLine x l) (TakeLine x)
-line_put t mid nodes' lines' n x p q number l here there e d e_is d_is out into put can =
-    let M : Map = tables_map t in
-    let r : LineWritten t nodes' lines' x l None (Some l) =
-    line_written t mid nodes' lines' n x p q number l here there (Some e) (Some d) out into None (Some l)
-    (end_seen Out t.index l q e there e_is) (end_seen In t.index l p d here d_is)
-    (ap (held t.lines) number ∙ line_missing t x (made_as M (PutLine x l) can.accepted).0) put
-    (λ side k none. absurd cc) (λ side k is. ap (near side) (sym (same_Some _ _ is))) in
-    line_made r (PutLine x l) (TakeLine x) can
-    (line_map r (finmap.insert M.lines x l) (got_insert M.lines x l) ∙ (made_as M (PutLine x l) can.accepted).4) refl
-    (λ _. tt) tt (λ R. refl) (λ R. refl)
-
--- ---- a line is removed, or set
-
-module _ (t : RoadMap) (mid nodes' : NodeSlots) (lines' : LineTable) (n x p q : ℕ) (number : n ≡ x) (l : Line)
-    (here : slot_by t.index (line_at (tables_map t) x).from ≡ Some p)
-    (there : slot_by t.index (line_at (tables_map t) x).to ≡ Some q) (was : held t.lines n ≡ Some l) where
-  -- the line with its ends, which it keeps
-  end : line_at (tables_map t) x ≡ l
-  end = record_of (tables_map t) x l (got_line t x ∙ ap (held t.lines) (sym number) ∙ was)
-
-  end_was : (side : Side) (m : Line) → Some l ≡ Some m → near side m ≡ near side (line_at (tables_map t) x)
-  end_was side m is = ap (near side) (sym (same_Some _ _ is) ∙ sym end)
-
-  pub line_take : IsRelinked (node_slots t.nodes) (node_slots mid) Out p (λ a b. IsPut a b x None) →
-      IsRelinked (node_slots mid) (node_slots nodes') In q (λ a b. IsPut a b x None) →
-      ((k : ℕ) → held lines' k ≡ cond (n == k) None (held t.lines k)) →
-      CanMake (tables_map t) (room_of t) (TakeLine x) → LineMade t nodes' lines' (TakeLine x) (PutLine x l)
-  line_take out into taken can =
+  -- a line is added
+  pub line_put : e ≡ Some (record { slot = q; len = ends.len }) → d ≡ Some (record { slot = p; len = ends.len }) →
+      ((k : ℕ) → held lines' k ≡ cond (n == k) (Some ends) (held t.lines k)) →
+      CanMake (tables_map t) (room_of t) (PutLine x ends) → node_room nodes' ≡ node_room t.nodes →
+      spare_numbers t.lines ≤ spare_numbers lines' + 1 → TablesMade t t.index nodes' lines' (PutLine x ends) (TakeLine x)
+  line_put e_is d_is put can room spare =
       let M : Map = tables_map t in
-      let there' = (made_as M (TakeLine x) can.accepted).0 in
-      let r : LineWritten t nodes' lines' x (line_at M x) (Some l) None =
-      line_written t mid nodes' lines' n x p q number (line_at M x) here there None None out into (Some l) None refl refl
-      was taken end_was (λ side k none. absurd cc) in
-      line_made r (TakeLine x) (PutLine x l) can
-      (line_map r (finmap.remove M.lines x) (got_remove M.lines x) ∙ (made_as M (TakeLine x) can.accepted).1)
-      (ap (maps.Add_line x) (sym end))
-      (λ kept' side. subst (λ (k : Line). length (lines_at side (map_from t.index (node_slots nodes') (all_held lines'))
-      (near side k)) < option_map_or (λ l. links_room l) (links_in side t.index (node_slots nodes') (near side k)) 0) end
-      (room_free r side refl there' refl)) tt (λ R. refl) (λ R. refl)
+      let r : LineWritten t nodes' lines' x ends None (Some ends) =
+      line_written None (Some ends) (end_seen Out t.index ends q e there e_is) (end_seen In t.index ends p d here d_is)
+      (ap (held t.lines) number ∙ line_missing t x (made_as M (PutLine x ends) can.accepted).0) put
+      (λ side k none. absurd cc) (λ side k is. ap (near side) (sym (same_Some _ _ is))) in
+      line_made r (PutLine x ends) (TakeLine x) can
+      (line_map r (finmap.insert M.lines x ends) (got_insert M.lines x ends) ∙ (made_as M (PutLine x ends) can.accepted).4) refl
+      tt tt (λ R. refl) (λ R. refl) room spare
 
-  pub line_reset : (k : Line) (e d : LineEnd) → e ≡ record { slot = q; len = k.len } →
-      d ≡ record { slot = p; len = k.len } →
-      IsRelinked (node_slots t.nodes) (node_slots mid) Out p (λ a b. IsPut a b x (Some e)) →
-      IsRelinked (node_slots mid) (node_slots nodes') In q (λ a b. IsPut a b x (Some d)) →
-      ((m : ℕ) → held lines' m ≡ cond (n == m) (Some k) (held t.lines m)) →
-      CanMake (tables_map t) (room_of t) (SetLine x k) → LineMade t nodes' lines' (SetLine x k) (SetLine x l)
-  line_reset k e d e_is d_is out into put can =
-      let M : Map = tables_map t in
-      let N : Map = map_from t.index (node_slots nodes') (all_held lines') in
-      let same_ends : (side : Side) → near side k ≡ near side (line_at M x) =
-      each (λ s. near s k ≡ near s (line_at M x)) can.whole.0 can.whole.1 in
-      let r : LineWritten t nodes' lines' x (line_at M x) (Some l) (Some k) =
-      line_written t mid nodes' lines' n x p q number (line_at M x) here there (Some e) (Some d) out into (Some l) (Some k)
-      (end_seen Out t.index k q e (ap (slot_by t.index) can.whole.1 ∙ there) e_is)
-      (end_seen In t.index k p d (ap (slot_by t.index) can.whole.0 ∙ here) d_is) was put end_was
-      (λ side m is. ap (near side) (sym (same_Some _ _ is)) ∙ same_ends side) in
-      let now : line_at N x ≡ k =
-      record_of N x k (all_get lines'.by_number.entries x ∙ r.now x ∙ cond-true (x == x) (Some k) (held t.lines x) (eq-eqb x x refl)) in
-      let back : (side : Side) → near side l ≡ near side (line_at N x) =
-      λ side. ap (near side) (sym end) ∙ sym (same_ends side) ∙ ap (near side) (sym now) in
-      line_made r (SetLine x k) (SetLine x l) can (line_map r (finmap.insert M.lines x k) (got_insert M.lines x k)
-      ∙ ap (λ (j : Line). record M { lines = finmap.insert M.lines x j })
-      (λ i. record k { from = can.whole.0 i; to = can.whole.1 i }) ∙ (made_as M (SetLine x k) can.accepted).2)
-      (ap (λ (j : Line). maps.Set_line x j.frc j.fow j.len j.shape) (sym end)) (λ _. tt) (back Out, back In) (λ R. refl)
-      (λ R. refl)
+  -- ---- a line is removed, or set
+
+  module _ (l : Line) (same : line_at (tables_map t) x ≡ ends) (was : held t.lines n ≡ Some l) where
+    -- the line with its ends, which it keeps
+    end : ends ≡ l
+    end = sym same ∙ record_of (tables_map t) x l (got_line t x ∙ ap (held t.lines) (sym number) ∙ was)
+
+    end_was : (side : Side) (m : Line) → Some l ≡ Some m → near side m ≡ near side ends
+    end_was side m is = ap (near side) (sym (same_Some _ _ is) ∙ sym end)
+
+    pub line_take : e ≡ None → d ≡ None → ((k : ℕ) → held lines' k ≡ cond (n == k) None (held t.lines k)) →
+        CanMake (tables_map t) (room_of t) (TakeLine x) → node_room nodes' ≡ node_room t.nodes →
+        spare_numbers t.lines ≤ spare_numbers lines' → TablesMade t t.index nodes' lines' (TakeLine x) (PutLine x l)
+    line_take e_none d_none taken can room spare =
+        let M : Map = tables_map t in
+        let there' = (made_as M (TakeLine x) can.accepted).0 in
+        let r : LineWritten t nodes' lines' x ends (Some l) None =
+        line_written (Some l) None e_none d_none was taken end_was (λ side k none. absurd cc) in
+        line_made r (TakeLine x) (PutLine x l) can
+        (line_map r (finmap.remove M.lines x) (got_remove M.lines x) ∙ (made_as M (TakeLine x) can.accepted).1)
+        (ap (maps.Add_line x) (sym (same ∙ end)))
+        (λ side. subst (λ (k : Line). length (lines_at side (map_from t.index (node_slots nodes') (all_held lines'))
+        (near side k)) < (room_in t.index nodes').lines side (near side k)) end (room_free r side refl there' same)) tt
+        (λ R. refl) (λ R. refl) room (omega arith)
+
+    pub line_reset : (k : Line) → e ≡ Some (record { slot = q; len = k.len }) →
+        d ≡ Some (record { slot = p; len = k.len }) →
+        ((m : ℕ) → held lines' m ≡ cond (n == m) (Some k) (held t.lines m)) →
+        CanMake (tables_map t) (room_of t) (SetLine x k) → node_room nodes' ≡ node_room t.nodes →
+        spare_numbers t.lines ≤ spare_numbers lines' → TablesMade t t.index nodes' lines' (SetLine x k) (SetLine x l)
+    line_reset k e_is d_is put can room spare =
+        let M : Map = tables_map t in
+        let N : Map = map_from t.index (node_slots nodes') (all_held lines') in
+        let same_ends : (side : Side) → near side k ≡ near side ends =
+        each (λ s. near s k ≡ near s ends) (can.whole.0 ∙ ap (near Out) same) (can.whole.1 ∙ ap (near In) same) in
+        let r : LineWritten t nodes' lines' x ends (Some l) (Some k) =
+        line_written (Some l) (Some k) (end_seen Out t.index k q e (ap (slot_by t.index) (same_ends In) ∙ there) e_is)
+        (end_seen In t.index k p d (ap (slot_by t.index) (same_ends Out) ∙ here) d_is) was put end_was
+        (λ side m is. ap (near side) (sym (same_Some _ _ is)) ∙ same_ends side) in
+        let now : line_at N x ≡ k =
+        record_of N x k (all_get lines'.by_number.entries x ∙ r.now x
+        ∙ cond-true (x == x) (Some k) (held t.lines x) (eq-eqb x x refl)) in
+        let back : (side : Side) → near side l ≡ near side (line_at N x) =
+        λ side. ap (near side) (sym end) ∙ sym (same_ends side) ∙ ap (near side) (sym now) in
+        line_made r (SetLine x k) (SetLine x l) can (line_map r (finmap.insert M.lines x k) (got_insert M.lines x k)
+        ∙ ap (λ (j : Line). record M { lines = finmap.insert M.lines x j })
+        (λ i. record k { from = can.whole.0 i; to = can.whole.1 i }) ∙ (made_as M (SetLine x k) can.accepted).2)
+        (ap (λ (j : Line). maps.Set_line x j.frc j.fow j.len j.shape) (sym (same ∙ end))) tt (back Out, back In)
+        (λ R. refl) (λ R. refl) room (omega arith)

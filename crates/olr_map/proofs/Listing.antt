@@ -125,15 +125,9 @@ pub ascends_at : (side : Side) (M : Map) (v : ℕ) → IsStrictlyIncreasing (lin
 ascends_at Out M v = ascend_out M v
 ascends_at In M v = ascend_in M v
 
-pub near_there : (side : Side) (M : Map) (x : ℕ) (l : Line) → IsMap M → get M.lines x ≡ Some l →
-    has_node M (near side l) ≡ true
-near_there Out M x l sound e = line_starts M sound x l e
-near_there In M x l sound e = line_ends M sound x l e
-
 pub far_there : (side : Side) (M : Map) (x : ℕ) (l : Line) → IsMap M → get M.lines x ≡ Some l →
     has_node M (far side l) ≡ true
-far_there Out M x l sound e = line_ends M sound x l e
-far_there In M x l sound e = line_starts M sound x l e
+far_there side M x l sound e = grind (arith, common_steps, line_starts M sound x l e, line_ends M sound x l e)
 
 -- a line has neither end at a node that no line uses
 unused_fails : (M : Map) (v x : ℕ) (l : Line) → in_use M v ≡ false → get M.lines x ≡ Some l → ((l.to == v) ≡ false)
@@ -141,15 +135,9 @@ unused_fails : (M : Map) (v x : ℕ) (l : Line) → in_use M v ≡ false → get
 unused_fails M v x l free e =
     let used = used_by M (λ k. k.to == v || k.from == v) x l e in grind (arith, common_steps, used)
 
-pub near_unused : (side : Side) (M : Map) (v x : ℕ) (l : Line) → in_use M v ≡ false → get M.lines x ≡ Some l →
-    (near side l == v) ≡ false
-near_unused Out M v x l free e = (unused_fails M v x l free e).1
-near_unused In M v x l free e = (unused_fails M v x l free e).0
-
 pub far_unused : (side : Side) (M : Map) (v x : ℕ) (l : Line) → in_use M v ≡ false → get M.lines x ≡ Some l →
     (far side l == v) ≡ false
-far_unused Out M v x l free e = (unused_fails M v x l free e).0
-far_unused In M v x l free e = (unused_fails M v x l free e).1
+far_unused side M v x l free e = grind (arith, common_steps, unused_fails M v x l free e)
 
 module _ (side : Side) (M : Map) (v : ℕ) where
   abbrev test : Line → Bool
@@ -162,10 +150,11 @@ module _ (side : Side) (M : Map) (v : ℕ) where
   none_listed h = grind (arith, common_steps, same_ascending, ascending_none, ascends_at, has-lines_where, none_passes)
 
   pub absent_lines : IsMap M → has_node M v ≡ false → [] ≡ lines_at side M v
-  absent_lines sound absent = none_listed (λ x l e. other_node M (near side l) v (near_there side M x l sound e) absent)
+  absent_lines sound absent = none_listed (λ x l e.
+      grind (arith, common_steps, other_node M, line_starts M sound x l e, line_ends M sound x l e))
 
   pub unused_lines : in_use M v ≡ false → [] ≡ lines_at side M v
-  unused_lines free = none_listed (λ x l e. near_unused side M v x l free e)
+  unused_lines free = none_listed (λ x l e. grind (arith, common_steps, unused_fails M v x l free e))
 
 -- ---- line x has the record w in place of o
 

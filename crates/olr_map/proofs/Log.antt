@@ -36,13 +36,6 @@ pub all_on : (M N : Map) (R S : Room) (cs : List TableChange) → N ≡ M → Is
     CanMakeAll N S cs
 all_on M N R S cs same w can = subst (λ (K : Map). CanMakeAll K S cs) (sym same) (all_with_more M R S cs w can)
 
--- ---- an edit that was made
-
--- the change for an edit makes it
-pub done_by : (M K N : Map) (e : map.Edit) (c : TableChange) → change_edit c ≡ e → K ≡ M → IsOk (edited M e) →
-    N ≡ map_after K c → edited M e ≡ Ok N
-done_by M K N e c same mid accepted is = grind (arith, common_steps, made_ok)
-
 -- ---- one more edit in a log
 
 pub one_more : (M N : Map) (R S : Room) (c : TableChange) (cs : List TableChange) → CanMakeAll M R cs → CanMake N S c →
@@ -61,7 +54,7 @@ rest_can M N R S c cs ds is all same within = grind (arith, common_steps, all_on
 
 pub rest_made : (M N : Map) (c : TableChange) (cs ds : List TableChange) → ds ≡ c ∷ cs → N ≡ map_after M c →
     made_all N cs ≡ made_all M ds
-rest_made M N c cs ds is same = ap (λ (K : Map). made_all K cs) same ∙ ap (made_all M) (sym is)
+rest_made M N c cs ds is same = grind arith
 
 -- ---- nodes while edits are undone
 

@@ -2,8 +2,10 @@
 use Rattle.olr_map.proofs.Common.{◌≡◌, ℕ, ◌+◌, ◌≤◌, Result, Ok, IsOk, sym, ap, ◌∙◌, subst, arith, eqb-true, Map, IsMap}
 use Rattle.olr_map.proofs.Common.{edited, back_of, spare_of, spare_numbers, tables_map, room_of, HasRoomFor}
 use Rattle.olr_map.proofs.Common.{IsRoomWithin, TableChange, RoadMap, common_steps, HasCoord, takes_back, is_ok_of}
+use Rattle.olr_map.proofs.Common.{SlotIndex, NodeSlots, LineTable, Room, AreTables, node_slots, all_held, node_room, has_node}
+use Rattle.olr_map.proofs.Common.{links_room, links_in, map_from, node_slot, option_map_or, true}
 use Rattle.olr_map.specs.Changes.{change_edit, changed_at, map_after, room_after, CanMake, IsWhole, IsChangeMade}
-use Rattle.olr_map.specs.Changes.{node_puts, line_puts, KeepsSlots}
+use Rattle.olr_map.specs.Changes.{node_puts, line_puts}
 use Rattle.std.specs.Result.{result_unwrap_or}
 use Rattle.olr_spec.proofs.EditLemmas.{Made, made_by, edits_keep}
 use Rattle.olr_spec.specs.Map as map
@@ -25,44 +27,60 @@ made_as M c h = made_from M (change_edit c) h
 
 -- the edit that undoes an edit adds coordinates of the map
 back_placed : (M N : Map) (e : map.Edit) → IsMap M → edited M e ≡ Ok N → HasCoord (back_of M e)
-back_placed M N (map.Add_node v c) sound e = tt
-back_placed M N (map.Move_node v c) sound e = sound.places v (made_by M N (map.Move_node v c) e).0
-back_placed M N (map.Drop_node v) sound e = sound.places v (made_by M N (map.Drop_node v) e).0
-back_placed M N (map.Add_line x l) sound e = tt
-back_placed M N (map.Set_line x frc fow len shape) sound e =
-    sound.shapes x (made_by M N (map.Set_line x frc fow len shape) e).0
-back_placed M N (map.Drop_line x) sound e = sound.shapes x (made_by M N (map.Drop_line x) e).0
+back_placed M N (map.Add_node v c) sound is = tt
+back_placed M N (map.Add_line x l) sound is = tt
+back_placed M N e sound is = grind (arith, common_steps, made_by M N e is, sound.places, sound.shapes)
 
-module _ (t : RoadMap) (c : TableChange) (can : CanMake (tables_map t) (room_of t) c) where
-  pub sound_after : (N : Map) → N ≡ map_after (tables_map t) c → IsMap N
-  sound_after N is =
-      edits_keep (tables_map t) N (change_edit c) t.kept.sound can.placed
-      (made_ok (tables_map t) c can.accepted ∙ ap (λ (m : Map). Ok m) (sym is))
+-- the capacity of tables
+abbrev pub room_in : SlotIndex → NodeSlots → Room
+room_in b s =
+    record { nodes = node_room s; lines = λ side v. option_map_or (λ l. links_room l) (links_in side b (node_slots s) v) 0 }
+
+-- the tables after a change are tables, and the change was made
+pub record TablesMade (t : RoadMap) (b' : SlotIndex) (nodes' : NodeSlots) (lines' : LineTable)
+    (c back : TableChange) : Type 0 where
+  pub kept : AreTables b' (node_slots nodes') (all_held lines')
+  pub made : (kept' : AreTables b' (node_slots nodes') (all_held lines'))
+      → IsChangeMade t (record { index = b'; nodes = nodes'; lines = lines'; kept = kept' }) c back
+
+module _ (t : RoadMap) (b' : SlotIndex) (nodes' : NodeSlots) (lines' : LineTable) (c : TableChange) where
+  abbrev M : Map
+  M = tables_map t
+
+  abbrev N : Map
+  N = map_from b' (node_slots nodes') (all_held lines')
+
+  pub sound_after : CanMake M (room_of t) c → N ≡ map_after M c → IsMap N
+  sound_after can is =
+      edits_keep M N (change_edit c) t.kept.sound can.placed (made_ok M c can.accepted ∙ ap (λ (m : Map). Ok m) (sym is))
 
   -- a change that was made, with the one that undoes it
-  pub change_made : (new : RoadMap) (back : TableChange) → tables_map new ≡ map_after (tables_map t) c →
-      change_edit back ≡ back_of (tables_map t) (change_edit c) → HasRoomFor (tables_map new) (room_of new) (change_edit back) →
-      IsWhole (tables_map new) back → IsRoomWithin (room_after (room_of t) c) (room_of new)
-      → IsRoomWithin (room_of t) (room_after (room_of new) back)
-      → spare_of t.index ≤ spare_of new.index + node_puts c
-      → spare_numbers t.lines ≤ spare_numbers new.lines + line_puts c → KeepsSlots t new → IsChangeMade t new c back
-  change_made new back is inverse fits whole room room_before nodes lines slots =
-      let M : Map = tables_map t in
+  pub tables_made : (back : TableChange) → CanMake M (room_of t) c → N ≡ map_after M c →
+      (IsMap N → AreTables b' (node_slots nodes') (all_held lines')) → change_edit back ≡ back_of M (change_edit c) →
+      HasRoomFor N (room_in b' nodes') (change_edit back) → IsWhole N back →
+      IsRoomWithin (room_after (room_of t) c) (room_in b' nodes') →
+      IsRoomWithin (room_of t) (room_after (room_in b' nodes') back) → spare_of t.index ≤ spare_of b' + node_puts c →
+      spare_numbers t.lines ≤ spare_numbers lines' + line_puts c →
+      ((v : ℕ) → has_node M v ≡ true → has_node N v ≡ true → node_slot b' v ≡ node_slot t.index v) →
+      TablesMade t b' nodes' lines' c back
+  tables_made back can is keeps inverse fits whole room room_before nodes lines slots =
       let ok = made_ok M c can.accepted in
-      let undone : edited (tables_map new) (change_edit back) ≡ Ok M =
+      let undone : edited N (change_edit back) ≡ Ok M =
       ap (λ (m : Map). edited m (change_edit back)) is ∙ ap (edited (map_after M c)) inverse
       ∙ takes_back M t.kept.sound (map_after M c) (change_edit c) ok in
       record {
-        changed =
-            record { map = is; room = room; slots = slots; node_numbers = nodes; line_numbers = lines };
-        can_back = record {
-          accepted = is_ok_of (edited (tables_map new) (change_edit back)) M undone;
-          placed = subst HasCoord (sym inverse) (back_placed M (map_after M c) (change_edit c) t.kept.sound ok);
-          fits = fits;
-          whole = whole;
+        kept = keeps (sound_after can is);
+        made = λ kept'. record {
+          changed = record { map = is; room = room; slots = slots; node_numbers = nodes; line_numbers = lines };
+          can_back = record {
+            accepted = is_ok_of (edited N (change_edit back)) M undone;
+            placed = subst HasCoord (sym inverse) (back_placed M (map_after M c) (change_edit c) t.kept.sound ok);
+            fits = fits;
+            whole = whole;
+          };
+          before = ap (λ r. result_unwrap_or r N) undone;
+          room_before = room_before;
         };
-        before = ap (λ r. result_unwrap_or r (tables_map new)) undone;
-        room_before = room_before;
       }
 
 -- ---- functions that differ at one number

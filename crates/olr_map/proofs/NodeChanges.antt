@@ -1,14 +1,14 @@
 -- A node is added, removed and moved.
 use Rattle.olr_map.proofs.Common.{nil_from_length, has-lines_where, length-take-le, option_map_or, IsRoomWithin, Option}
-use Rattle.olr_map.proofs.Common.{common_steps, passed_line, option_map, IsInserted, IsReplaced, node_slots, links_room}
-use Rattle.olr_map.proofs.Common.{tables_map, unwrap_or, same_Some, IsWritten, IsRemoved, node_room, node_slot, slot_by}
+use Rattle.olr_map.proofs.Common.{common_steps, passed_line, option_map, IsInserted, IsReplaced, node_slots, links_room, in_use}
+use Rattle.olr_map.proofs.Common.{tables_map, unwrap_or, same_Some, IsWritten, node_room, node_slot, slot_by}
 use Rattle.olr_map.proofs.Common.{IsIndexed, AreTables, SlotIndex, NodeEntry, NodeSlots, eqb-true, has_node, no_coord}
 use Rattle.olr_map.proofs.Common.{spare_of, all_held, links_at, lines_on, links_in, map_from, lines_at, IsListed, false}
 use Rattle.olr_map.proofs.Common.{coord_at, ends_on, node_in, room_of, room_at, RoadMap, length, FinMap, end_at, subst}
 use Rattle.olr_map.proofs.Common.{arith, Coord, IsMap, sides, Links, ◌==◌, true, cond, Some, None, refl, Line, near, []}
 use Rattle.olr_map.proofs.Common.{Side, ◌≡◌, ◌+◌, ◌<◌, ◌≤◌, map, sym, ◌∙◌, get, Map, far, Out, ap, In, ℕ}
 use Rattle.olr_map.specs.Linked.{room_kept, IsBare, EmptyLinks, lines_kept}
-use Rattle.olr_map.specs.Changes.{changed_at, CanMake, map_after, IsChangeMade}
+use Rattle.olr_map.specs.Changes.{changed_at, CanMake, map_after}
 use Rattle.olr_map.specs.declared.change.TableChange.TheVariants.{PutNode, MoveNode, TakeNode}
 use Rattle.std.specs.Ordering.{nat_cmp}
 use Rattle.olr_map.specs.declared.links.Links.TheVariants.{Inline, Spilled}
@@ -18,7 +18,7 @@ use Rattle.olr_map.proofs.Indexing.{id_of, place_of, slot_if, value_if, id_is, n
 use Rattle.olr_map.proofs.Listing.{absent_lines, unused_lines, far_there, far_unused, replaced}
 use Rattle.olr_map.proofs.LineRecords.{record_of, other_node}
 use Rattle.olr_map.proofs.Reading.{got_node, kept_from, not_found, slot_of, node_read, listed_at}
-use Rattle.olr_map.proofs.Making.{made_as, sound_after, change_made, changed_back}
+use Rattle.olr_map.proofs.Making.{made_as, room_in, sound_after, TablesMade, tables_made, changed_back}
 use Rattle.std.specs.FinMap as finmap
 use Rattle.olr_spec.specs.Map as maps
 
@@ -32,7 +32,7 @@ pub record NodeWritten (t : RoadMap) (b' : SlotIndex) (nodes' : NodeSlots) (v : 
   pub now : (k : ℕ) → slot_by b' k ≡ cond (v == k) (slot_if slot w) (slot_by t.index k)
   pub id : option_map id_of w ≡ slot_if v w
 
-node_written : {t : RoadMap} {b' : SlotIndex} {nodes' : NodeSlots} {v : ℕ} {o w : Option NodeEntry} (p n : ℕ) →
+pub node_written : {t : RoadMap} {b' : SlotIndex} {nodes' : NodeSlots} {v : ℕ} {o w : Option NodeEntry} (p n : ℕ) →
     IsWritten (node_slots t.nodes) (node_slots nodes') p o w → n ≡ v → slot_by t.index v ≡ slot_if p o →
     ((k : ℕ) → slot_by b' k ≡ cond (n == k) (slot_if p w) (slot_by t.index k)) → option_map id_of w ≡ slot_if v w →
     NodeWritten t b' nodes' v o w
@@ -56,7 +56,7 @@ module _ {t : RoadMap} {b' : SlotIndex} {nodes' : NodeSlots} {v : ℕ} {o w : Op
       written_indexed t.index (node_slots t.nodes) t.kept.indexed b' (node_slots nodes') r.slot v o w r.is r.was r.now r.id
 
   node' : (k : ℕ) → node_in b' (node_slots nodes') k ≡ cond (v == k) w (node_in t.index (node_slots t.nodes) k)
-  node' = written_node t.index (node_slots t.nodes) t.kept.indexed b' (node_slots nodes') r.slot v o w r.is r.was r.now r.id
+  node' = written_node t.index (node_slots t.nodes) t.kept.indexed b' (node_slots nodes') r.slot v o w r.is r.was r.now
 
   links' : (side : Side) (k : ℕ) → links_in side b' (node_slots nodes') k
       ≡ cond (v == k) (option_map (links_at side) w) (links_in side t.index (node_slots t.nodes) k)
@@ -66,10 +66,9 @@ module _ {t : RoadMap} {b' : SlotIndex} {nodes' : NodeSlots} {v : ℕ} {o w : Op
   pub written_map : (ns : FinMap nat_cmp Coord) → ((k : ℕ) → get ns k ≡ cond (v == k) (option_map place_of w) (get M.nodes k))
       → N ≡ record M { nodes = ns }
   written_map ns got = ap (λ (ms : FinMap nat_cmp Coord). record M { nodes = ms }) (same_answers _ _ (λ k.
-      got_node b' (node_slots nodes') indexed' (all_held t.lines) k ∙ ap (option_map place_of) (node' k)
-      ∙ over_cond (option_map place_of) (v == k) w (node_in t.index (node_slots t.nodes) k)
-      ∙ ap (cond (v == k) (option_map place_of w))
-      (sym (got_node t.index (node_slots t.nodes) t.kept.indexed (all_held t.lines) k)) ∙ sym (got k)))
+      let was = got_node t.index (node_slots t.nodes) t.kept.indexed (all_held t.lines) k in
+      let is = got_node b' (node_slots nodes') indexed' (all_held t.lines) k in
+      grind (arith, common_steps, was, is, node' k, over_cond, got k)))
 
   -- w has the node's lines, and no far end of a line has another slot
   pub written_kept : IsMap N →
@@ -83,11 +82,7 @@ module _ {t : RoadMap} {b' : SlotIndex} {nodes' : NodeSlots} {v : ℕ} {o w : Op
       passed_line (λ m. near side m == k) (get M.lines y) (sym (has-lines_where M (λ m. near side m == k) y) ∙ there) in
       subst (λ (m : Line). node_slot t.index (far side m) ≡ node_slot b' (far side m)) (sym (record_of M y l.0 l.1))
       (stays side y l.0 l.1))
-      (elim (v == k) as (λ c. (v == k) ≡ c → cond c (option_map (links_at side) w)
-      (links_in side t.index (node_slots t.nodes) k) ≡ Some h → IsListed side M (node_slot t.index) k h) [
-        | true ↦ λ i j. subst (λ (n : ℕ). IsListed side M (node_slot t.index) n h) (eqb-true v k i) (here side h j)
-        | false ↦ λ i j. t.kept.listed side k h j
-      ] refl (sym (links' side k) ∙ is)))
+      (grind (arith, common_steps, here side h, t.kept.listed side k h, links' side k, eqb-true)))
 
   -- slots of other nodes stay
   pub other_slot : (u : ℕ) → (v == u) ≡ false → node_slot t.index u ≡ node_slot b' u
@@ -101,30 +96,26 @@ module _ {t : RoadMap} {b' : SlotIndex} {nodes' : NodeSlots} {v : ℕ} {o w : Op
       grind (arith, common_steps, r.was, r.now u, p.1, q.1, value_if, eqb-true)
 
   -- the capacity of the node's lists was that of o, and is that of w
-  module _ (kept' : AreTables b' (node_slots nodes') (all_held t.lines)) where
-    abbrev after : RoadMap
-    after = record { index = b'; nodes = nodes'; lines = t.lines; kept = kept' }
+  room_was : (side : Side) → room_at side t v ≡ entry_room side o
+  room_was side =
+      ap (entry_room side)
+      (node_was t.index (node_slots t.nodes) t.kept.indexed b' (node_slots nodes') r.slot v o w r.is r.was r.now)
 
-    room_was : (side : Side) → room_at side t v ≡ entry_room side o
-    room_was side =
-        ap (entry_room side)
-        (node_was t.index (node_slots t.nodes) t.kept.indexed b' (node_slots nodes') r.slot v o w r.is r.was r.now r.id)
+  room_now : (side : Side) (k : ℕ) → (room_in b' nodes').lines side k ≡ changed_at v (entry_room side w) (room_at side t) k
+  room_now side k = grind (arith, common_steps, links', over_cond)
 
-    room_now : (side : Side) (k : ℕ) → room_at side after k ≡ changed_at v (entry_room side w) (room_at side t) k
-    room_now side k = grind (arith, common_steps, links', over_cond)
+  -- as much as was expected, and as much as there was once that is changed back
+  pub room_forth : (side : Side) (n : ℕ) → entry_room side w ≡ n → (k : ℕ) →
+      changed_at v n (room_at side t) k ≤ (room_in b' nodes').lines side k
+  room_forth side n is k = grind (arith, common_steps, room_now)
 
-    -- as much as was expected, and as much as there was once that is changed back
-    pub room_forth : (side : Side) (n : ℕ) → entry_room side w ≡ n → (k : ℕ) →
-        changed_at v n (room_at side t) k ≤ room_at side after k
-    room_forth side n is k = grind (arith, common_steps, room_now)
+  pub room_back : (side : Side) (n : ℕ) → entry_room side o ≡ n → (k : ℕ) →
+      room_at side t k ≤ changed_at v n ((room_in b' nodes').lines side) k
+  room_back side n is = grind (arith, changed_back, room_now, room_was)
 
-    pub room_back : (side : Side) (n : ℕ) → entry_room side o ≡ n → (k : ℕ) →
-        room_at side t k ≤ changed_at v n (room_at side after) k
-    room_back side n is = grind (arith, changed_back, room_now, room_was)
-
-    pub room_same : (side : Side) → entry_room side o ≡ entry_room side w → (k : ℕ) →
-        room_at side t k ≤ room_at side after k
-    room_same side is k = grind (arith, common_steps, room_now, room_was, unchanged_at)
+  pub room_same : (side : Side) → entry_room side o ≡ entry_room side w → (k : ℕ) →
+      room_at side t k ≤ (room_in b' nodes').lines side k
+  room_same side is k = grind (arith, common_steps, room_now, room_was, unchanged_at)
 
 -- ---- a node is added
 
@@ -155,13 +146,19 @@ module _ (t : RoadMap) (b' : SlotIndex) (nodes' : NodeSlots) (p n v : ℕ) (q : 
       written_map put_written (finmap.insert (tables_map t).nodes v q)
       (got_insert (tables_map t).nodes v q) ∙ put_says.1
 
-  pub put_node_kept : AreTables b' (node_slots nodes') (all_held t.lines)
-  put_node_kept =
-      written_kept put_written (sound_after t (PutNode v q o i) can _ put_map)
+  pub put_made : node_room t.nodes ≤ node_room nodes' + 1 → spare_of t.index ≤ spare_of b' + 1 →
+      TablesMade t b' nodes' t.lines (PutNode v q o i) (TakeNode v)
+  put_made room spare =
+      let fits : 0 < node_room t.nodes = can.fits in
+      tables_made t b' nodes' t.lines (PutNode v q o i) (TakeNode v) can put_map
+      (λ sound. written_kept put_written sound
       (λ side h is_h. subst (IsListed side (tables_map t) (node_slot t.index) v) (same_Some _ _ is_h) (bare side))
       (λ side y l there. other_slot put_written (far side l)
       (eqb_flip v (far side l)
-      ∙ other_node (tables_map t) (far side l) v (far_there side (tables_map t) y l t.kept.sound there) put_says.0)) where
+      ∙ other_node (tables_map t) (far side l) v (far_there side (tables_map t) y l t.kept.sound there) put_says.0)))
+      refl tt tt (record { nodes = omega arith; lines = λ side. room_forth put_written side _ (same_room side) })
+      (record { nodes = omega arith; lines = λ side. room_back put_written side 0 refl }) spare (omega arith)
+      (slots_stay put_written) where
         none : (side : Side) → lines_on (links_at side entry) ≡ []
         none Out = bare_outs.lines ∙ can.whole.0
         none In = bare_ins.lines ∙ can.whole.1
@@ -176,16 +173,6 @@ module _ (t : RoadMap) (b' : SlotIndex) (nodes' : NodeSlots) (p n v : ℕ) (q : 
                   ∙ ap (map (end_at side (tables_map t) (node_slot t.index))) absent;
             }
 
-  pub put_node_made : (kept' : AreTables b' (node_slots nodes') (all_held t.lines)) →
-      node_room t.nodes ≤ node_room nodes' + 1 → spare_of t.index ≤ spare_of b' + 1
-      → IsChangeMade t (record { index = b'; nodes = nodes'; lines = t.lines; kept = kept' }) (PutNode v q o i) (TakeNode v)
-  put_node_made kept' room spare =
-      let new : RoadMap = record { index = b'; nodes = nodes'; lines = t.lines; kept = kept' } in
-      let fits : 0 < node_room t.nodes = can.fits in
-      change_made t (PutNode v q o i) can new (TakeNode v) put_map refl tt tt
-      (record { nodes = omega arith; lines = λ side. room_forth put_written kept' side _ (same_room side) })
-      (record { nodes = omega arith; lines = λ side. room_back put_written kept' side 0 refl }) spare (omega arith)
-      (slots_stay put_written) where
         same_room : (side : Side) → links_room (links_at side entry) ≡ room_kept (sides o i side)
         same_room Out = bare_outs.room
         same_room In = bare_ins.room
@@ -198,45 +185,37 @@ slot_taken t v can =
     slot_of t.index (node_slots t.nodes) t.kept.indexed (all_held t.lines) v
     (made_as (tables_map t) (TakeNode v) can.accepted).0
 
-module _ (t : RoadMap) (b' : SlotIndex) (nodes' : NodeSlots) (p n v : ℕ) (e : NodeEntry)
-    (is : IsRemoved (node_slots t.nodes) (node_slots nodes') p e) (number : n ≡ v) (here : slot_by t.index n ≡ Some p)
-    (taken : (k : ℕ) → slot_by b' k ≡ cond (n == k) None (slot_by t.index k))
-    (can : CanMake (tables_map t) (room_of t) (TakeNode v)) where
-  take_written : NodeWritten t b' nodes' v (Some e) None
-  take_written = node_written p n is number (ap (slot_by t.index) (sym number) ∙ here) taken refl
+module _ {t : RoadMap} {b' : SlotIndex} {nodes' : NodeSlots} {v : ℕ} {e : NodeEntry}
+    (r : NodeWritten t b' nodes' v (Some e) None) (can : CanMake (tables_map t) (room_of t) (TakeNode v)) where
+  -- the node is on the map, no line uses it, and it is on the map no more
+  take_says : (has_node (tables_map t) v ≡ true) × (in_use (tables_map t) v ≡ false)
+      × (record (tables_map t) { nodes = finmap.remove (tables_map t).nodes v } ≡ map_after (tables_map t) (TakeNode v))
+  take_says = made_as (tables_map t) (TakeNode v) can.accepted
 
   take_map : map_from b' (node_slots nodes') (all_held t.lines) ≡ map_after (tables_map t) (TakeNode v)
-  take_map =
-      written_map take_written (finmap.remove (tables_map t).nodes v)
-      (got_remove (tables_map t).nodes v) ∙ (made_as (tables_map t) (TakeNode v) can.accepted).2
+  take_map = written_map r (finmap.remove (tables_map t).nodes v) (got_remove (tables_map t).nodes v) ∙ take_says.2
 
-  pub take_node_kept : AreTables b' (node_slots nodes') (all_held t.lines)
-  take_node_kept =
-      written_kept take_written (sound_after t (TakeNode v) can _ take_map)
-      (λ side h none. absurd cc)
-      (λ side y l there. other_slot take_written (far side l)
-      (eqb_flip v (far side l) ∙ far_unused side (tables_map t) v y l
-      (made_as (tables_map t) (TakeNode v) can.accepted).1 there))
+  pub take_kept : AreTables b' (node_slots nodes') (all_held t.lines)
+  take_kept =
+      written_kept r (sound_after t b' nodes' t.lines (TakeNode v) can take_map) (λ side h none. absurd cc)
+      (λ side y l there. other_slot r (far side l)
+      (eqb_flip v (far side l) ∙ far_unused side (tables_map t) v y l take_says.1 there))
 
   pub taken_empty : (side : Side) → lines_on (links_at side e) ≡ []
   taken_empty side =
-      (listed_at t side v p e (ap (slot_by t.index) (sym number) ∙ here) is.was).numbers
-      ∙ sym (unused_lines side (tables_map t) v (made_as (tables_map t) (TakeNode v) can.accepted).1)
+      (listed_at t side v r.slot e r.was r.is.was).numbers ∙ sym (unused_lines side (tables_map t) v take_says.1)
 
-  pub take_node_made : (kept' : AreTables b' (node_slots nodes') (all_held t.lines)) →
-      node_room t.nodes + 1 ≤ node_room nodes' → spare_of t.index ≤ spare_of b' → (o i : EmptyLinks) → lines_kept o ≡ [] →
-      lines_kept i ≡ [] → room_kept o ≡ links_room e.outs → room_kept i ≡ links_room e.ins
-      → IsChangeMade t (record { index = b'; nodes = nodes'; lines = t.lines; kept = kept' }) (TakeNode v)
-      (PutNode v e.place o i)
-  take_node_made kept' room spare o i no_outs no_ins same_outs same_ins =
-      let new : RoadMap = record { index = b'; nodes = nodes'; lines = t.lines; kept = kept' } in
+  pub take_made : node_room t.nodes + 1 ≤ node_room nodes' → spare_of t.index ≤ spare_of b' → (o i : EmptyLinks) →
+      lines_kept o ≡ [] → lines_kept i ≡ [] → room_kept o ≡ links_room e.outs → room_kept i ≡ links_room e.ins →
+      TablesMade t b' nodes' t.lines (TakeNode v) (PutNode v e.place o i)
+  take_made room spare o i no_outs no_ins same_outs same_ins =
       let place : e.place ≡ coord_at (tables_map t) v =
-      sym (ap (λ c. unwrap_or c no_coord) (node_read t v p e (ap (slot_by t.index) (sym number) ∙ here) is.was)) in
-      change_made t (TakeNode v) can new (PutNode v e.place o i) take_map (ap (maps.Add_node v) place) (omega arith)
-      (no_outs, no_ins)
-      (record { nodes = omega arith; lines = λ side. room_forth take_written kept' side 0 refl })
-      (record { nodes = omega arith; lines = λ side. room_back take_written kept' side _ (same_room side) }) (omega arith)
-      (omega arith) (slots_stay take_written) where
+      sym (ap (λ c. unwrap_or c no_coord) (node_read t v r.slot e r.was r.is.was)) in
+      tables_made t b' nodes' t.lines (TakeNode v) (PutNode v e.place o i) can take_map (λ _. take_kept)
+      (ap (maps.Add_node v) place) (omega arith) (no_outs, no_ins)
+      (record { nodes = omega arith; lines = λ side. room_forth r side 0 refl })
+      (record { nodes = omega arith; lines = λ side. room_back r side _ (same_room side) }) (omega arith) (omega arith)
+      (slots_stay r) where
         same_room : (side : Side) → links_room (links_at side e) ≡ room_kept (sides o i side)
         same_room Out = sym same_outs
         same_room In = sym same_ins
@@ -260,27 +239,22 @@ module _ (t : RoadMap) (nodes' : NodeSlots) (p v : ℕ) (e : NodeEntry) (q : Coo
       written_map move_written (finmap.insert (tables_map t).nodes v q)
       (got_insert (tables_map t).nodes v q) ∙ (made_as (tables_map t) (MoveNode v q) can.accepted).1
 
-  pub move_node_kept : AreTables t.index (node_slots nodes') (all_held t.lines)
-  move_node_kept =
-      written_kept move_written (sound_after t (MoveNode v q) can _ move_map)
+  pub move_made : node_room nodes' ≡ node_room t.nodes →
+      TablesMade t t.index nodes' t.lines (MoveNode v q) (MoveNode v e.place)
+  move_made room =
+      let same : IsRoomWithin (room_of t) (room_in t.index nodes') =
+      record { nodes = omega arith; lines = λ side. room_same move_written side (same_room side) } in
+      let place : e.place ≡ coord_at (tables_map t) v =
+      sym (ap (λ c. unwrap_or c no_coord) (node_read t v p e here is.was)) in
+      tables_made t t.index nodes' t.lines (MoveNode v q) (MoveNode v e.place) can move_map
+      (λ sound. written_kept move_written sound
       (λ side h is_h. subst (IsListed side (tables_map t) (node_slot t.index) v) (ends_moved side h is_h)
-      (listed_at t side v p e here is.was)) (λ side y l there. refl) where
+      (listed_at t side v p e here is.was)) (λ side y l there. refl)) (ap (maps.Move_node v) place) tt tt same same
+      (omega arith) (omega arith) (λ u _ _. refl) where
         ends_moved : (side : Side) (h : Links) → option_map (links_at side) (Some moved) ≡ Some h → links_at side e ≡ h
         ends_moved Out h i = same_Some _ _ i
         ends_moved In h i = same_Some _ _ i
 
-  pub move_node_made : (kept' : AreTables t.index (node_slots nodes') (all_held t.lines)) →
-      node_room nodes' ≡ node_room t.nodes
-      → IsChangeMade t (record { index = t.index; nodes = nodes'; lines = t.lines; kept = kept' }) (MoveNode v q)
-      (MoveNode v e.place)
-  move_node_made kept' room =
-      let new : RoadMap = record { index = t.index; nodes = nodes'; lines = t.lines; kept = kept' } in
-      let same : IsRoomWithin (room_of t) (room_of new) =
-      record { nodes = omega arith; lines = λ side. room_same move_written kept' side (same_room side) } in
-      let place : e.place ≡ coord_at (tables_map t) v =
-      sym (ap (λ c. unwrap_or c no_coord) (node_read t v p e here is.was)) in
-      change_made t (MoveNode v q) can new (MoveNode v e.place) move_map (ap (maps.Move_node v) place) tt tt same same
-      (omega arith) (omega arith) (λ u _ _. refl) where
         same_room : (side : Side) → links_room (links_at side e) ≡ links_room (links_at side moved)
         same_room Out = refl
         same_room In = refl

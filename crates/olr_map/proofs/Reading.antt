@@ -32,16 +32,10 @@ module _ (b : SlotIndex) (es : List (Option NodeEntry)) (indexed : IsIndexed b e
   -- a node of the map has its slot
   pub slot_of : (F : FinMap nat_cmp Line) (v : ℕ) → has_node (map_from b es F) v ≡ true →
       (p : ℕ) × (slot_by b v ≡ Some p)
-  slot_of F v h = step (slot_by b v) refl where
-    step : (o : Option ℕ) → slot_by b v ≡ o → (p : ℕ) × (slot_by b v ≡ Some p)
-    step None e = let f = node_missing F v e in absurd cc
-    step (Some p) e = (p, e)
+  slot_of F v h = some_of (slot_by b v) (grind (arith, common_steps, node_missing F v))
 
   pub not_found : (F : FinMap nat_cmp Line) (v : ℕ) → has_node (map_from b es F) v ≡ false → slot_by b v ≡ None
-  not_found F v h = step (slot_by b v) refl where
-    step : (o : Option ℕ) → slot_by b v ≡ o → o ≡ None
-    step None e = refl
-    step (Some p) e = let t = node_there F v p e in absurd cc
+  not_found F v h = grind (arith, common_steps, node_there F v)
 
 -- the nodes' slots are in range
 within : (es : List (Option NodeEntry)) (p v : ℕ) → option_map id_of (at es p) ≡ Some v → p < length es
@@ -118,8 +112,7 @@ module _ (t : RoadMap) where
 
   -- the slot of a node, by `node_slot`
   pub slot_is : (v p : ℕ) → has_node M v ≡ true → node_slot b v ≡ p → slot_by b v ≡ Some p
-  slot_is v p h e = let s =
-      slot_of b es t.kept.indexed (all_held t.lines) v h in s.1 ∙ ap (λ n. Some n) (sym (place_is b v s.0 s.1) ∙ e)
+  slot_is v p h e = grind (arith, common_steps, slot_of b es t.kept.indexed (all_held t.lines) v h)
 
   pub id_has : (p v : ℕ) → option_map id_of (at es p) ≡ Some v → (has_node M v ≡ true) × (node_slot b v ≡ p)
   id_has p v h =

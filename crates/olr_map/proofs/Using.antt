@@ -8,8 +8,7 @@ use Rattle.olr_map.proofs.LineRecords.{used_by, unused_by}
 
 -- a line with an end at the node uses it
 end_uses : (side : Side) (v : ℕ) (l : Line) → (near side l == v) ≡ true → (l.to == v || l.from == v) ≡ true
-end_uses Out v l h = or_right (l.to == v) (l.from == v) h
-end_uses In v l h = or_left (l.to == v) (l.from == v) h
+end_uses side v l h = grind (arith, common_steps, or_right, or_left)
 
 module _ (side : Side) (M : Map) (v : ℕ) where
   first_uses : (zs : List ℕ) → zs ≡ lines_at side M v → 0 < length zs → in_use M v ≡ true

@@ -14,12 +14,7 @@ use Rattle.olr_spec.specs.Map as maps
 
 slots_stay : (b b' : SlotIndex) (M M' : Map) (at : ℕ × ℕ) (e : maps.Edit) →
     ((v : ℕ) → slot_by b' v ≡ slot_by b v) → M' ≡ M → AreSlots b M at e → AreSlots b' M' at e
-slots_stay b b' M M' at (maps.Add_node v c) same is h = h
-slots_stay b b' M M' at (maps.Move_node v c) same is h = same v ∙ h
-slots_stay b b' M M' at (maps.Drop_node v) same is h = h
-slots_stay b b' M M' at (maps.Add_line x l) same is h = (same l.from ∙ h.0, same l.to ∙ h.1)
-slots_stay b b' M M' at (maps.Set_line x frc fow len shape) same is h = rw is (same (start M x) ∙ h.0, same (end M x) ∙ h.1)
-slots_stay b b' M M' at (maps.Drop_line x) same is h = rw is (same (start M x) ∙ h.0, same (end M x) ∙ h.1)
+slots_stay b b' M M' at e same is h = grind (arith, same)
 
 -- after more capacity is reserved, for the change that makes the edit
 pub slots_reserved : (old mid : RoadMap) (at : ℕ × ℕ) (e : maps.Edit) (c : TableChange) → IsReserved old mid →

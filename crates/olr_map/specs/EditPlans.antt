@@ -1,5 +1,5 @@
 -- What an edit touches on a map that accepts it, as one value.
---     plan_lines j, planned_changes j      its line, and that line as a changed one, if the edit can change routes
+--     planned_changes j      its line as a changed one, if the edit can change routes
 --     IsEditPlan M slot e j      the map accepts edit e, and j is what it touches: nodes with their slots, and a line
 --         with its change
 --     AreSlots b M at e, AreEnds M nodes e      at: the slots of the nodes of e that exist before it; nodes: the
@@ -12,9 +12,6 @@ use Rattle.olr_spec.specs.Detours.{ChangedLine, changes_of}
 use Rattle.olr_map.specs.SlotIndexes.{slot_by}
 use Rattle.olr_map.specs.declared.slot_index.SlotIndex.{SlotIndex}
 use Rattle.olr_map.specs.declared.judging.EditPlan.{EditPlan}
-
-abbrev pub plan_lines : EditPlan → List ℕ
-plan_lines j = option_to_list j.line
 
 abbrev pub planned_changes : EditPlan → List ChangedLine
 planned_changes j =
@@ -29,7 +26,7 @@ pub record IsEditPlan (M : Map) (slot : ℕ → ℕ) (e : maps.Edit) (j : EditPl
   pub accepted : IsOk (edited M e)
   pub placed : HasCoord e
   pub nodes : (v : ℕ) → has (touched_nodes M e) v ≡ ((j.nodes.0 == v) || (j.nodes.1 == v))
-  pub lines : plan_lines j ≡ touched_lines e
+  pub lines : option_to_list j.line ≡ touched_lines e
   pub changes : planned_changes j ≡ changes_of M e
   pub ends : AreEnds M j.nodes e
   pub first : IsTrue (has_node M j.nodes.0) → slot j.nodes.0 ≡ j.slots.0

@@ -4,11 +4,10 @@
 --         the map before the edit
 --     CanUndoAll m log, map_before m log      both, for all edits of a log
 use Rattle.std.specs.Prelude.{ℕ}
-use Rattle.std.specs.Coded.{×_prop}
 use Rattle.olr_spec.specs.Map.{Map}
 use Rattle.olr_map.specs.Tables.{node_slot}
 use Rattle.olr_map.specs.Changes.{tables_map, room_of, CanMake, HasNumbers, map_after, node_puts, line_puts}
-use Rattle.olr_map.specs.Undos.{log_changes, CanMakeAll, made_all, CanMake-prop, CanMakeAll-prop, HasNumbers-prop}
+use Rattle.olr_map.specs.Undos.{log_changes, CanMakeAll, made_all}
 use Rattle.olr_map.specs.declared.road_map.RoadMap.{RoadMap}
 use Rattle.olr_map.specs.declared.undo.Undo.{Undo}
 use Rattle.olr_map.specs.declared.undo.UndoLog.{UndoLog}
@@ -30,13 +29,3 @@ CanUndoAll m log = CanMakeAll (map_of m) (room_of m) (log_changes log) × HasNum
 
 abbrev pub map_before : RoadMap → UndoLog → Map
 map_before m log = made_all (map_of m) (log_changes log)
-
--- for a ghost field beside a map and its undo records
-pub CanUndo-prop : (m : RoadMap) (u : Undo) → IsProp (CanUndo m u)
-CanUndo-prop m u =
-    ×_prop (CanMake-prop (map_of m) (room_of m) u.change)
-    (HasNumbers-prop m (node_puts u.change) (line_puts u.change))
-
-pub CanUndoAll-prop : (m : RoadMap) (log : UndoLog) → IsProp (CanUndoAll m log)
-CanUndoAll-prop m log =
-    ×_prop (CanMakeAll-prop (map_of m) (room_of m) (log_changes log)) (HasNumbers-prop m log.nodes log.lines)

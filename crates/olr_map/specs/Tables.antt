@@ -80,14 +80,13 @@ coded_end : Coded LineEnd
 coded_end =
     code_by (ℕ × ℕ) (coded× coded_ℕ coded_ℕ) (λ e. (e.slot, e.len)) (λ p. record { slot = p.0; len = p.1 }) (λ _. refl)
 
-IsListed-prop : (side : Side) (M : Map) (slot : ℕ → ℕ) (v : ℕ) (l : Links) → IsProp (IsListed side M slot v l)
-IsListed-prop side M slot v l = hlevel (props, Coded-set (coded_list coded_ℕ), Coded-set (coded_list coded_end))
-
-IsIndexed-prop : (b : SlotIndex) (es : List (Option NodeEntry)) → IsProp (IsIndexed b es)
-IsIndexed-prop b es = hlevel (props, Coded-set (coded_option coded_ℕ))
-
-HaveSlotsApart-prop : (M : Map) (slot : ℕ → ℕ) (count : ℕ) → IsProp (HaveSlotsApart M slot count)
-HaveSlotsApart-prop M slot count = hlevel (props, le_prop, Coded-set coded_ℕ)
-
 pub AreTables-prop : (b : SlotIndex) (es : List (Option NodeEntry)) (F : FinMap nat_cmp Line) → IsProp (AreTables b es F)
-AreTables-prop b es F = hlevel (props, IsIndexed-prop, IsListed-prop, HaveSlotsApart-prop)
+AreTables-prop b es F =
+    hlevel (
+      props,
+      le_prop,
+      Coded-set coded_ℕ,
+      Coded-set (coded_list coded_ℕ),
+      Coded-set (coded_list coded_end),
+      Coded-set (coded_option coded_ℕ),
+    )

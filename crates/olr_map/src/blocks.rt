@@ -42,10 +42,8 @@ impl Blocks {
         if number > self.greatest {
             return None;
         }
-        match self.blocks.get(&(number / BLOCK_LEN)) {
-            Some(block) => block.slot((number % BLOCK_LEN) as usize),
-            None => None,
-        }
+        let block = self.blocks.get(&(number / BLOCK_LEN))?;
+        block.slot((number % BLOCK_LEN) as usize)
     }
 
     /// Reserves capacity for `additional` more numbers.

@@ -152,17 +152,15 @@ impl RoadMap {
                 shape,
             } => {
                 let (from, to) = nodes;
-                TableChange::SetLine(
-                    id,
-                    Line {
-                        from,
-                        to,
-                        frc,
-                        fow,
-                        len,
-                        shape,
-                    },
-                )
+                let line = Line {
+                    from,
+                    to,
+                    frc,
+                    fow,
+                    len,
+                    shape,
+                };
+                TableChange::SetLine(id, line)
             }
             Edit::DropLine(id) => TableChange::TakeLine(id),
         }
@@ -181,17 +179,14 @@ impl RoadMap {
         ensures lacks { result ≡ Err EditFault.Memory → IsTrue (allocates (edit_of edit)) }
     {
         match judge(self, &edit) {
-            Ok(plan) => match self.make(edit, &plan) {
-                Ok(undo) => Ok(undo),
-                Err(_) => Err(EditFault::Memory),
-            },
+            Ok(plan) => self.make(edit, &plan).map_err(|_| EditFault::Memory),
             Err(fault) => Err(fault),
         }
     }
 
     /// Makes an edit that was judged on this map. An error leaves the map as it was, and is returned only for an edit
     /// that adds or removes a node or a line. What it returns must be spent by `undo` or by `keep`.
-    #[tactic(auto, using(crate::proofs::Verdicts::plan_slots, crate::proofs::Verdicts::slots_reserved))]
+    #[tactic(auto, using(crate::proofs::Verdicts::plan_slots, crate::proofs::Verdicts::slots_reserved, crate::proofs::Making::made_ok))]
     pub fn make(&mut self, edit: Edit, plan: &EditPlan) -> Result<Undo, AllocError>
         requires { IsEditPlan (map_of self.old) (slot_of self.old) (edit_of edit) plan.now }
         ensures done { OnOk result (edited (map_of self.old) (edit_of edit) ≡ Ok (map_of self.new)) }
@@ -211,7 +206,7 @@ impl RoadMap {
     /// Makes an edit that was judged on this map and is never undone. An error leaves the map as it was, and is returned
     /// only for an edit that adds or removes a node or a line.
     #[inline(always)]
-    #[tactic(auto, using(crate::proofs::Verdicts::plan_slots, crate::proofs::Verdicts::slots_reserved))]
+    #[tactic(auto, using(crate::proofs::Verdicts::plan_slots, crate::proofs::Verdicts::slots_reserved, crate::proofs::Making::made_ok))]
     pub fn make_kept(&mut self, edit: Edit, plan: &EditPlan) -> Result<(), AllocError>
         requires { IsEditPlan (map_of self.old) (slot_of self.old) (edit_of edit) plan.now }
         ensures done { OnOk result (edited (map_of self.old) (edit_of edit) ≡ Ok (map_of self.new)) }
@@ -247,17 +242,16 @@ impl RoadMap {
         ensures before { map_before self.new log.new ≡ map_before self.old log.old }
     {
         match judge(self, &edit) {
-            Ok(plan) => match self.make_into(edit, &plan, log) {
-                Ok(()) => Ok(()),
-                Err(_) => Err(EditFault::Memory),
-            },
+            Ok(plan) => self
+                .make_into(edit, &plan, log)
+                .map_err(|_| EditFault::Memory),
             Err(fault) => Err(fault),
         }
     }
 
     /// Makes an edit that `judge` accepted on this map, and appends its undo record to a log. If an allocation fails,
     /// map and log are unchanged.
-    #[tactic(auto, using(crate::proofs::Verdicts::plan_slots, crate::proofs::Verdicts::slots_reserved))]
+    #[tactic(auto, using(crate::proofs::Verdicts::plan_slots, crate::proofs::Verdicts::slots_reserved, crate::proofs::Making::made_ok))]
     pub fn make_into(
         &mut self,
         edit: Edit,

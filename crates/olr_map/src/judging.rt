@@ -1,11 +1,10 @@
 //! Why a map rejects an edit, or what the edit touches, for every `MapRead`.
 ghost use Rattle.std.specs.Prelude.{◌≡◌, Some, None, Err, false, IsOk, IfOk, MatchResult};
 ghost use Rattle.std.specs.FinMap.{get};
-ghost use Rattle.olr_spec.specs.Map.{edited, Add_node, Move_node, Drop_node, Add_line, Set_line, Drop_line};
+ghost use Rattle.olr_spec.specs.Map.{edited, Drop_node, Add_line, Set_line};
 ghost use Rattle.olr_model.specs.Edits.{edit_of, edit_fault_of};
 ghost use Rattle.olr_map.specs.EditPlans.{IsEditPlan};
 
-use olr_coords::Coord;
 use olr_model::{Edit, EditFault, Line, LineId, MapRead, NodeId, Shape, has_good_fields};
 
 /// What an edit touches on a map that accepts it.
@@ -31,8 +30,19 @@ pub fn judge<M: MapRead>(map: &M, edit: &Edit) -> Result<EditPlan, EditFault>
     ensures plan { IfOk result (IsEditPlan (M.map map.now) (M.node_slot map.now) (edit_of edit.now)) }
 {
     match edit {
-        Edit::AddNode(id, place) => judge_node_added(map, *id, *place),
-        Edit::MoveNode(id, place) => judge_node_moved(map, *id, *place),
+        Edit::AddNode(id, place) => {
+            if map.slot_of(*id).is_some() {
+                return Err(EditFault::NodeExists);
+            }
+            // Only for the proof, here and below: the coordinate is in range, as every `Coord` is.
+            let _latitude = place.lat();
+            Ok(node_plan(*id, 0))
+        }
+        Edit::MoveNode(id, place) => {
+            let at = map.slot_of(*id).ok_or(EditFault::NoNode)?;
+            let _latitude = place.lat();
+            Ok(node_plan(*id, at))
+        }
         Edit::DropNode(id) => judge_node_dropped(map, *id),
         Edit::AddLine(id, line) => judge_line_added(map, *id, line),
         Edit::SetLine {
@@ -42,47 +52,21 @@ pub fn judge<M: MapRead>(map: &M, edit: &Edit) -> Result<EditPlan, EditFault>
             len,
             shape,
         } => judge_line_set(map, *id, *frc, *fow, *len, shape),
-        Edit::DropLine(id) => judge_line_dropped(map, *id),
+        Edit::DropLine(id) => {
+            let was = map.line(*id).ok_or(EditFault::NoLine)?;
+            Ok(line_plan(map, *id, was, was.len, true))
+        }
     }
-}
-
-/// A node can be added only if it is not on the map.
-fn judge_node_added<M: MapRead>(map: &M, id: NodeId, place: Coord) -> Result<EditPlan, EditFault>
-    ensures fault { MatchResult (edited (M.map map.now) (Add_node id place))
-        (λ _. IsOk result) (λ f. result ≡ Err (edit_fault_of f)) }
-    ensures plan { IfOk result (IsEditPlan (M.map map.now) (M.node_slot map.now) (Add_node id place)) }
-{
-    if map.slot_of(id).is_some() {
-        return Err(EditFault::NodeExists);
-    }
-    // Only for the proof: the coordinate is in range, as every `Coord` is.
-    let _latitude = place.lat();
-    Ok(node_plan(id, 0))
-}
-
-/// A node can be moved only if it is on the map.
-fn judge_node_moved<M: MapRead>(map: &M, id: NodeId, place: Coord) -> Result<EditPlan, EditFault>
-    ensures fault { MatchResult (edited (M.map map.now) (Move_node id place))
-        (λ _. IsOk result) (λ f. result ≡ Err (edit_fault_of f)) }
-    ensures plan { IfOk result (IsEditPlan (M.map map.now) (M.node_slot map.now) (Move_node id place)) }
-{
-    let Some(at) = map.slot_of(id) else {
-        return Err(EditFault::NoNode);
-    };
-    // Only for the proof: the coordinate is in range, as every `Coord` is.
-    let _latitude = place.lat();
-    Ok(node_plan(id, at))
 }
 
 /// A node can be removed only if it is on the map and no line uses it.
+#[tactic(auto, using(crate::proofs::Using::unused_by_lists, crate::proofs::Using::used_by_out, crate::proofs::Using::used_by_in, crate::proofs::Using::drop_taken, crate::proofs::Using::drop_refused, std::proofs::lemmas::Grind::common_steps))]
 fn judge_node_dropped<M: MapRead>(map: &M, id: NodeId) -> Result<EditPlan, EditFault>
     ensures fault { MatchResult (edited (M.map map.now) (Drop_node id))
         (λ _. IsOk result) (λ f. result ≡ Err (edit_fault_of f)) }
     ensures plan { IfOk result (IsEditPlan (M.map map.now) (M.node_slot map.now) (Drop_node id)) }
 {
-    let Some(at) = map.slot_of(id) else {
-        return Err(EditFault::NoNode);
-    };
+    let at = map.slot_of(id).ok_or(EditFault::NoNode)?;
     if !map.out_lines_at(at).lines.is_empty() || !map.in_lines_at(at).lines.is_empty() {
         return Err(EditFault::NodeInUse);
     }
@@ -98,9 +82,8 @@ fn judge_line_added<M: MapRead>(map: &M, id: LineId, line: &Line) -> Result<Edit
     if map.line(id).is_some() {
         return Err(EditFault::LineExists);
     }
-    let (Some(from), Some(to)) = (map.slot_of(line.from), map.slot_of(line.to)) else {
-        return Err(EditFault::NoNode);
-    };
+    let from = map.slot_of(line.from).ok_or(EditFault::NoNode)?;
+    let to = map.slot_of(line.to).ok_or(EditFault::NoNode)?;
     if !line.is_good() {
         return Err(EditFault::BadShape);
     }
@@ -126,25 +109,11 @@ fn judge_line_set<M: MapRead>(
         (λ _. IsOk result) (λ f. result ≡ Err (edit_fault_of f)) }
     ensures plan { IfOk result (IsEditPlan (M.map map.now) (M.node_slot map.now) (Set_line id frc fow len shape.now)) }
 {
-    let Some(was) = map.line(id) else {
-        return Err(EditFault::NoLine);
-    };
+    let was = map.line(id).ok_or(EditFault::NoLine)?;
     if !has_good_fields(frc, fow, len, shape) {
         return Err(EditFault::BadShape);
     }
     Ok(line_plan(map, id, was, was.len.min(len), was.len != len))
-}
-
-/// A line can be removed only if it is on the map.
-fn judge_line_dropped<M: MapRead>(map: &M, id: LineId) -> Result<EditPlan, EditFault>
-    ensures fault { MatchResult (edited (M.map map.now) (Drop_line id))
-        (λ _. IsOk result) (λ f. result ≡ Err (edit_fault_of f)) }
-    ensures plan { IfOk result (IsEditPlan (M.map map.now) (M.node_slot map.now) (Drop_line id)) }
-{
-    match map.line(id) {
-        Some(was) => Ok(line_plan(map, id, was, was.len, true)),
-        None => Err(EditFault::NoLine),
-    }
 }
 
 /// What an edit touches that adds, moves or removes a node.

@@ -92,7 +92,10 @@ impl Links {
                 }
                 Ok(())
             }
-            Links::Spilled(spilled) => spilled.reserve(),
+            Links::Spilled(spilled) => {
+                spilled.lines.reserve(1)?;
+                spilled.ends.reserve(1)
+            }
         }
     }
 
@@ -158,17 +161,6 @@ impl Links {
 
 impl Spilled {
     ghost use Rattle.olr_map.specs.Linked.{vectors_room};
-
-    /// Reserves capacity for one more line.
-    fn reserve(&mut self) -> Result<(), AllocError>
-        ensures lines { self.new.lines.items ≡ self.old.lines.items }
-        ensures ends { self.new.ends.items ≡ self.old.ends.items }
-        ensures more { vectors_room self.old ≤ vectors_room self.new }
-        ensures room { OnOk result (length self.new.lines.items < vectors_room self.new) }
-    {
-        self.lines.reserve(1)?;
-        self.ends.reserve(1)
-    }
 
     /// Inserts a line at this position. Capacity for it is reserved.
     fn insert(&mut self, at: usize, id: LineId, end: LineEnd)

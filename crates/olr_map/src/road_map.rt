@@ -48,10 +48,8 @@ impl MapRead for RoadMap {
 
     #[tactic(auto, using(crate::proofs::Reading::slot_filled, crate::proofs::Reading::slot_is, crate::proofs::Reading::entry_at, crate::proofs::Reading::node_read))]
     fn node(&self, id: NodeId) -> Option<Coord> {
-        match self.slot_of(id) {
-            Some(slot) => Some(self.nodes.place(slot)),
-            None => None,
-        }
+        let slot = self.slot_of(id)?;
+        Some(self.nodes.place(slot))
     }
 
     #[tactic(auto, using(crate::proofs::Reading::got_line))]

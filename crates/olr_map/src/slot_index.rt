@@ -69,10 +69,10 @@ impl SlotIndex {
         ensures same { result ≡ false → self.new.dense.items ≡ self.old.dense.items }
     {
         let next = self.dense.len();
-        if next == self.dense.capacity() || next > u32::MAX as usize {
-            return false;
-        }
-        if self.sparse.get(next as u32).is_some() {
+        if next == self.dense.capacity()
+            || next > u32::MAX as usize
+            || self.sparse.get(next as u32).is_some()
+        {
             return false;
         }
         self.dense.push_reserved(0);

@@ -43,18 +43,6 @@ fn push_id(ids: &mut Vec<NodeId>, slot: Option<NodeId>) -> Result<(), AllocError
     Ok(())
 }
 
-/// The content of a slot. None if there is no such slot.
-fn id_in(slots: &[Option<NodeId>], slot: u32) -> Option<NodeId>
-    ensures { result ≡ at slots.now slot }
-{
-    let slot = slot as usize;
-    if slot < slots.len() {
-        slots[slot]
-    } else {
-        None
-    }
-}
-
 /// Which of a node's lines: those that leave it, or those that enter it.
 #[derive(Clone, Copy)]
 pub enum Side {
@@ -107,7 +95,7 @@ impl NodeSlots {
     pub fn id_at(&self, slot: u32) -> Option<NodeId>
         ensures { result ≡ option_map (λ e. e.id) (at (node_slots self.now) slot) }
     {
-        id_in(&self.ids.entries, slot)
+        *self.ids.entries.get(slot as usize)?
     }
 
     /// The coordinate of the node in a slot.
@@ -146,17 +134,12 @@ impl NodeSlots {
 
     /// Stores a node in a free slot, and returns the slot.
     #[tactic(auto, using(crate::proofs::ColumnLemmas::stays_beside))]
-    pub fn put(&mut self, entry: NodeEntry) -> u32
+    pub fn put(&mut self, id: NodeId, place: Coord, outs: Links, ins: Links) -> u32
         requires { 0 < node_room self.old }
-        ensures inserts { IsInserted (node_slots self.old) (node_slots self.new) result entry }
+        ensures inserts { IsInserted (node_slots self.old) (node_slots self.new) result
+            (record { id = id; place = place; outs = outs; ins = ins }) }
         ensures room { node_room self.old ≤ node_room self.new + 1 }
     {
-        let NodeEntry {
-            outs,
-            ins,
-            id,
-            place,
-        } = entry;
         let slot = self.ids.put(id);
         put_beside(&mut self.places, slot, place);
         put_beside(&mut self.outs, slot, outs);

@@ -99,7 +99,8 @@ impl RoadMap {
         ensures same { IsReserved self.old self.new }
         ensures room { OnOk result (owed + 1 ≤ spare_of self.new.index) }
     {
-        self.index.reserve(one_more(owed)?)
+        let count = owed.checked_add(1).ok_or(AllocError)?;
+        self.index.reserve(count)
     }
 
     /// Reserves capacity for one more line, in addition to `owed` lines that undo records may put back.
@@ -107,7 +108,8 @@ impl RoadMap {
         ensures same { IsReserved self.old self.new }
         ensures room { OnOk result (owed + 1 ≤ spare_numbers self.new.lines) }
     {
-        self.lines.reserve(one_more(owed)?)
+        let count = owed.checked_add(1).ok_or(AllocError)?;
+        self.lines.reserve(count)
     }
 
     /// Reserves capacity for one more node's entry.
@@ -137,12 +139,7 @@ impl RoadMap {
     {
         let outs = Links::in_empty(outs);
         let ins = Links::in_empty(ins);
-        let slot = self.nodes.put(NodeEntry {
-            id,
-            place,
-            outs,
-            ins,
-        });
+        let slot = self.nodes.put(id, place, outs, ins);
         self.index.put(id.number(), slot);
     }
 
@@ -183,9 +180,10 @@ impl RoadMap {
         requires end { slot_by self.old.index line.to ≡ Some to }
         ensures { IsChangeMade self.old self.new (PutLine id line) (TakeLine id) }
     {
-        let (begins, ends) = far_ends(&line, from, to);
-        self.nodes.put_end(Side::Out, from, id, Some(ends));
-        self.nodes.put_end(Side::In, to, id, Some(begins));
+        self.nodes
+            .put_end(Side::Out, from, id, Some(far_end(&line, to)));
+        self.nodes
+            .put_end(Side::In, to, id, Some(far_end(&line, from)));
         self.lines.put(id.number(), line);
     }
 
@@ -208,32 +206,20 @@ impl RoadMap {
         requires end { slot_by self.old.index (end (tables_map self.old) id) ≡ Some to }
         ensures { IsChangeMade self.old self.new (SetLine id line) (SetLine id result) }
     {
-        let (begins, ends) = far_ends(&line, from, to);
-        self.nodes.put_end(Side::Out, from, id, Some(ends));
-        self.nodes.put_end(Side::In, to, id, Some(begins));
+        self.nodes
+            .put_end(Side::Out, from, id, Some(far_end(&line, to)));
+        self.nodes
+            .put_end(Side::In, to, id, Some(far_end(&line, from)));
         self.lines.replace(id.number(), line)
     }
 }
 
-/// A count and one more. An error if that is too many.
-fn one_more(count: usize) -> Result<usize, AllocError>
-    ensures { IfOk result (λ more. more ≡ count + 1) }
+/// A line as seen from one of its ends, with the other one in this slot.
+fn far_end(line: &Line, slot: u32) -> LineEnd
+    ensures { result ≡ record { slot = slot; len = line.now.len } }
 {
-    count.checked_add(1).ok_or(AllocError)
-}
-
-/// The start of a line between these slots, as seen from its end, and its end, as seen from its start.
-fn far_ends(line: &Line, from: u32, to: u32) -> (LineEnd, LineEnd)
-    ensures begins { result.0 ≡ record { slot = from; len = line.now.len } }
-    ensures ends { result.1 ≡ record { slot = to; len = line.now.len } }
-{
-    let begins = LineEnd {
-        slot: from,
+    LineEnd {
+        slot,
         len: line.len,
-    };
-    let ends = LineEnd {
-        slot: to,
-        len: line.len,
-    };
-    (begins, ends)
+    }
 }

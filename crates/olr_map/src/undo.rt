@@ -64,13 +64,10 @@ impl UndoLog {
         ensures nodes { self.new.nodes ≡ node_puts change + self.old.nodes }
         ensures lines { self.new.lines ≡ line_puts change + self.old.lines }
     {
-        let (nodes, lines) = match &change {
-            TableChange::PutNode(..) => (1, 0),
-            TableChange::PutLine(..) => (0, 1),
-            _ => (0, 0),
-        };
+        let nodes = matches!(change, TableChange::PutNode(..));
+        let lines = matches!(change, TableChange::PutLine(..));
         self.changes.push_reserved(change);
-        self.nodes += nodes;
-        self.lines += lines;
+        self.nodes += usize::from(nodes);
+        self.lines += usize::from(lines);
     }
 }

@@ -7,12 +7,8 @@ use Rattle.olr_map.proofs.links.position_of.Goals as goal
 -- what is not behind an answer `Less` is `Less`
 less_too : (o p : Ordering) → is_lt p ≡ true → ordering_index o ≤ ordering_index p → o ≡ Less
 less_too Less p lt le = refl
-less_too Equal Less lt le = absurd (omega arith)
-less_too Equal Equal lt le = absurd cc
-less_too Equal Greater lt le = absurd cc
-less_too Greater Less lt le = absurd (omega arith)
-less_too Greater Equal lt le = absurd cc
-less_too Greater Greater lt le = absurd cc
+less_too o Less lt le = absurd (omega arith)
+less_too o p lt le = absurd cc
 
 pub returns-then-lt-clause-position : goal.returns-then-lt-clause-position
 returns-then-lt-clause-position c =

@@ -1,14 +1,8 @@
 use Rattle.olr_map.proofs.Common.{◌∷◌, List, ◌∙◌, ap, sym, subst, arith, tables_map, room_of, CanMakeAll, TableChange}
-use Rattle.olr_map.proofs.Common.{edit_of, node_numbers, line_numbers, log_changes}
+use Rattle.olr_map.proofs.Common.{node_numbers, line_numbers, log_changes}
 use Rattle.olr_map.proofs.Capacity.{within_trans}
-use Rattle.olr_map.proofs.Log.{done_by, one_more, all_on}
+use Rattle.olr_map.proofs.Log.{one_more, all_on}
 use Rattle.olr_map.proofs.road_map.RoadMap.make_into.Goals as goal
-
-pub returns-clause-done : goal.returns-clause-done
-returns-clause-done c =
-    done_by (tables_map c.args.self.now) (tables_map c.make_room.new.self) _ (edit_of c.args.edit)
-    c.change_for-change.result c.change_for-change.ensures.same c.make_room.ensures.same.map
-    c.requires.plan.accepted c.make_change-back.ensures.made.changed.map
 
 pub returns-clause-can_undo : goal.returns-clause-can_undo
 returns-clause-can_undo c =

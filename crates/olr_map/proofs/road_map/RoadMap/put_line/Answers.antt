@@ -1,7 +1,7 @@
-use Rattle.olr_map.proofs.Common.{tables_map, refl, ap, ◌∙◌, node_slots, held, PutLine, TakeLine, Out, In}
+use Rattle.olr_map.proofs.Common.{tables_map, refl, ap, ◌∙◌, node_slots, held, PutLine, TakeLine, Out, In, Some}
 use Rattle.olr_map.proofs.Indexing.{relisted}
-use Rattle.olr_map.proofs.LineChanges.{LineMade, can_put, line_put}
-use Rattle.olr_map.proofs.Making.{made_as}
+use Rattle.olr_map.proofs.LineChanges.{can_put, line_put}
+use Rattle.olr_map.proofs.Making.{made_as, TablesMade}
 use Rattle.olr_map.proofs.Reading.{line_missing}
 use Rattle.olr_map.proofs.road_map.RoadMap.put_line.Goals as goal
 
@@ -25,15 +25,16 @@ put-requires-clause-absent c =
     ∙ line_missing c.args.self.now c.args.id (made_as (tables_map c.args.self.now)
     (PutLine c.args.id c.args.line) c.requires.can.accepted).0
 
-all : (c : goal.After-put) → LineMade c.args.self.now c.put_end-2.new.self c.put.new.self (PutLine c.args.id c.args.line)
-    (TakeLine c.args.id)
+all : (c : goal.After-put) → TablesMade c.args.self.now c.args.self.now.index c.put_end-2.new.self c.put.new.self
+    (PutLine c.args.id c.args.line) (TakeLine c.args.id)
 all c =
     line_put c.args.self.now c.put_end.new.self c.put_end-2.new.self c.put.new.self _ c.args.id c.args.from c.args.to
-    c.number.ensures.same c.args.line c.requires.begin c.requires.end _ _ c.far_ends.ensures.ends
-    c.far_ends.ensures.begins c.put_end.ensures.turns c.put_end-2.ensures.turns c.put.ensures.put c.requires.can
+    c.number.ensures.same c.args.line c.requires.begin c.requires.end _ _ c.put_end.ensures.turns c.put_end-2.ensures.turns
+    (ap (λ s. Some s) c.far_end.ensures) (ap (λ s. Some s) c.far_end-2.ensures) c.put.ensures.put c.requires.can
+    (c.put_end-2.ensures.room ∙ c.put_end.ensures.room) c.put.ensures.spare
 
 pub invariant_of-self : goal.invariant_of-self
 invariant_of-self c = record { kept = (all c).kept }
 
 pub returns : goal.returns
-returns c = (all c.before).made _ (c.put_end-2.ensures.room ∙ c.put_end.ensures.room) c.put.ensures.spare
+returns c = (all c.before).made _

@@ -2,8 +2,8 @@ use Rattle.olr_map.proofs.Common.{refl, arith}
 use Rattle.olr_map.proofs.Capacity.{same_kept, same_reserved}
 use Rattle.olr_map.proofs.road_map.RoadMap.reserve_lines.Goals as goal
 
-pub invariant_of-self-2 : goal.invariant_of-self-2
-invariant_of-self-2 c =
+pub invariant_of-self : goal.invariant_of-self
+invariant_of-self c =
     record { kept = same_kept c.args.self.now c.args.self.now.index c.reserve.new.self (λ k. refl) c.reserve.ensures.same }
 
 pub returns-clause-same : goal.returns-clause-same

@@ -4,5 +4,5 @@ use Rattle.olr_map.proofs.slots.NodeSlots.put.Goals as goal
 pub returns-clause-inserts : goal.returns-clause-inserts
 returns-clause-inserts c =
     rw (c.put_beside.ensures.items, c.put_beside-2.ensures.items, c.put_beside-3.ensures.items)
-    (row_inserted c.args.self.now c.put-slot.new.self c.put-slot.result c.args.entry.id c.args.entry.place
-    c.args.entry.outs c.args.entry.ins c.put-slot.ensures.inserts c.put-slot.ensures.fills)
+    (row_inserted c.args.self.now c.put-slot.new.self c.put-slot.result c.args.id c.args.place c.args.outs c.args.ins
+    c.put-slot.ensures.inserts c.put-slot.ensures.fills)

@@ -1,9 +1,0 @@
-use Rattle.olr_map.proofs.Common.{arith, common_steps}
-use Rattle.olr_map.proofs.Using.{unused_by_lists, used_by_out, used_by_in, drop_taken, drop_refused}
-use Rattle.olr_map.proofs.judging.judge_node_dropped.Goals as goal
-
-pub returns : goal.returns
-returns g c = grind (arith, common_steps, unused_by_lists, drop_taken)
-
-pub returns-then-not-is_empty : goal.returns-then-not-is_empty
-returns-then-not-is_empty g c = grind (arith, common_steps, used_by_out, used_by_in, drop_refused)
