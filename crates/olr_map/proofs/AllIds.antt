@@ -1,27 +1,25 @@
 -- The numbers of all nodes and of all lines, collected slot by slot and node by node, and then sorted.
-use Rattle.olr_map.proofs.Common.{AllByRecursion, common_steps, get-entries, keys_sorted, exactly_out, option_map, ◌==◌}
-use Rattle.olr_map.proofs.Common.{ascend_out, tables_map, node_slots, unwrap_or, lines_out, NodeEntry, same_Some, false}
-use Rattle.olr_map.proofs.Common.{both_ways, take_more, has_there, has_cases, Each-from, flat_map, or_cases, or_right}
-use Rattle.olr_map.proofs.Common.{has_node, has_line, has_here, slots_of, all_held, is_some, nat_cmp, some_of, entries}
-use Rattle.olr_map.proofs.Common.{or_left, no_line, present, slot_by, RoadMap, Each-to, length, get_or, Option, FinMap}
-use Rattle.olr_map.proofs.Common.{eq-eqb, ne_eqb, subst, arith, IsMap, Links, Coord, true, List, ◌++◌, take, Some, None}
-use Rattle.olr_map.proofs.Common.{refl, Line, rows, ◌≡◌, ◌+◌, ◌<◌, ◌∷◌, map, sym, ◌∙◌, get, Map, has, [], ap, at, ℕ}
-use Rattle.std.proofs.Common.{inl, inr, ◌⊎◌, zero, suc, ◌≢◌, ◌↔◌}
-use Rattle.std.proofs.lemmas.Map.Keys.{IsDistinct-head, IsDistinct-tail, IsStrictlyIncreasing-from_sorted}
-use Rattle.std.proofs.lemmas.Map.Keys.{IsDistinct-cons, IsDistinct-IsPermutation, IsStrictlyIncreasing-from_distinct}
-use Rattle.std.specs.List.{IsDistinct, slice_get}
+use Rattle.olr_map.proofs.Common.{AllByRecursion, common_steps, get-entries, keys_sorted, exactly_out, option_map, is_some-find}
+use Rattle.olr_map.proofs.Common.{◌==◌, false, slot_by, RoadMap, Each-to, length, get_or, Option, FinMap, eq-eqb, ne_eqb, subst}
+use Rattle.olr_map.proofs.Common.{ascend_out, tables_map, node_slots, lines_out, NodeEntry, same_Some, both_ways, []}
+use Rattle.olr_map.proofs.Common.{take_more, has_there, has_cases, Each-from, flat_map, or_cases, or_right, has_node, has_line}
+use Rattle.olr_map.proofs.Common.{has_here, slots_of, all_held, is_some, nat_cmp, some_of, entries, or_left, present}
+use Rattle.olr_map.proofs.Common.{arith, IsMap, Links, Coord, true, List, ◌++◌, take, Some, None, refl, rows, ◌≡◌, zero}
+use Rattle.olr_map.proofs.Common.{◌+◌, ◌<◌, ◌∷◌, map, sym, ◌∙◌, get, Map, has, ap, at, ℕ, inl, inr, ◌⊎◌, suc, ◌≢◌, ◌↔◌}
+use Rattle.std.proofs.lemmas.Map.Keys.{IsDistinct-head, IsDistinct-tail, IsStrictlyIncreasing-from_sorted, IsDistinct-cons}
+use Rattle.std.proofs.lemmas.Map.Keys.{IsDistinct-IsPermutation, IsStrictlyIncreasing-from_distinct}
+use Rattle.std.specs.List.{slice_get, IsDistinct}
 use Rattle.std.specs.List.Sorted.{IsPermutation, IsSortedByKey}
 use Rattle.std.specs.FinMap.{entries_sorted}
-use Rattle.std.specs.FinMap.Entries.{is_some-find}
 use Rattle.std.proofs.lemmas.List.Folds.{list_any-append}
 use Rattle.std.proofs.lemmas.List.Sorted.{IsNonDecreasingBy-from_sort, list_any-IsPermutation}
 use Rattle.std.proofs.lemmas.List.Elements.{filter_map-append}
 use Rattle.std.proofs.lemmas.Cmp.{eq_by_cmp_equiv}
-use Rattle.olr_map.proofs.Lookups.{eqb_flip}
 use Rattle.olr_spec.proofs.SameNumbers.{distinct_from_ascending, same_ascending}
+use Rattle.std.proofs.lemmas.Option.{get_or_from_slice_get, slice_get-get_or}
+use Rattle.olr_map.proofs.Lookups.{eqb_flip}
 use Rattle.olr_map.proofs.Reading.{slot_of, id_has, entry_at, node_read}
 use Rattle.olr_map.proofs.ColumnLemmas.{inside, place_at}
-use Rattle.std.proofs.lemmas.Option.{get_or_from_slice_get, slice_get-get_or}
 
 -- ---- lists of numbers
 
@@ -30,10 +28,7 @@ none_equal : (x : ℕ) (ys : List ℕ) → ((y : ℕ) → has ys y ≡ true → 
 none_equal x ys h = Each-to (λ (y : ℕ). (x == y) ≡ false) ys (λ y i. ne_eqb x y (h y i))
 
 not_among : (x : ℕ) (ys : List ℕ) → AllByRecursion (λ (y : ℕ). (x == y) ≡ false) ys → has ys x ≡ true → ⊥
-not_among x ys a h =
-    let no : (x == x) ≡ false = Each-from (λ (y : ℕ). (x == y) ≡ false) ys a x h in
-    let same = eq-eqb x x refl in
-    cc
+not_among x ys a h = let no = Each-from (λ (y : ℕ). (x == y) ≡ false) ys a x h in grind (arith, eq-eqb)
 
 in_either : (xs ys : List ℕ) (y : ℕ) → has (xs ++ ys) y ≡ true → (has xs y ≡ true) ⊎ (has ys y ≡ true)
 in_either xs ys y h = grind (arith, common_steps, list_any-append, or_cases)
@@ -97,8 +92,7 @@ id_in_slot : (es : List (Option ℕ)) (p v : ℕ) → at es p ≡ Some v → has
 id_in_slot [] p v h = absurd cc
 id_in_slot (None ∷ es) zero v h = absurd cc
 id_in_slot (None ∷ es) (suc p) v h = id_in_slot es p v h
-id_in_slot (Some e ∷ es) zero v h =
-    subst (λ (n : ℕ). has (e ∷ present es) n ≡ true) (same_Some e v h) (has_here e (present es))
+id_in_slot (Some e ∷ es) zero v h = grind (arith, common_steps, has_here)
 id_in_slot (Some e ∷ es) (suc p) v h = has_there e (present es) v (id_in_slot es p v h)
 
 ids_once : (es : List (Option ℕ)) → ((p q v : ℕ) → at es p ≡ Some v → at es q ≡ Some v → p ≡ q) →
@@ -140,19 +134,15 @@ module _ (M : Map) (m : IsMap M) where
   lines_once (v ∷ vs) d =
       distinct_append (lines_out M v) (flat_map (lines_out M) vs)
       (distinct_from_ascending (lines_out M v) (ascend_out M v)) (lines_once vs d.1)
-      (λ x i j. let r = from_node vs x j in
-      not_among v vs d.0 (subst (λ (n : ℕ). has vs n ≡ true) (sym (one_start v r.0 x i r.2)) r.1))
+      (λ x i j. let r = from_node vs x j in grind (arith, not_among v vs d.0, one_start v r.0 x i))
 
   module _ (vs : List ℕ) (all : (v : ℕ) → has vs v ≡ has_node M v) where
     has_lines : (x : ℕ) → has (flat_map (lines_out M) vs) x ≡ has_line M x
     has_lines x =
         both_ways (has (flat_map (lines_out M) vs) x) (has_line M x)
-        (λ h. let r = from_node vs x h in
-        ap (λ (o : Option Line). is_some o) ((exactly_out M r.0 x).0 r.2).1.0)
+        (λ h. let r = from_node vs x h in grind (arith, common_steps, exactly_out M r.0 x, r.2))
         (λ h. let l = some_of (get M.lines x) h in
-        let start : has vs l.0.from ≡ true =
-        all l.0.from ∙ ap (λ (o : Option Line). has_node M (unwrap_or o no_line).from) (sym l.1) ∙ m.starts x h in
-        of_node vs l.0.from x start ((exactly_out M l.0.from x).1 (l.0, (l.1, refl))))
+        grind (arith, common_steps, of_node vs l.0.from x, all l.0.from, m.starts x h, exactly_out M l.0.from x, l.1))
 
 -- ---- the numbers, sorted
 

@@ -1,11 +1,11 @@
 -- Slots in blocks: after another slot is stored in a block, and as a list.
-use Rattle.olr_map.proofs.Common.{AllByRecursion, common_steps, cases_eq, get_or_past, option_or, pairs_of, keys_of}
-use Rattle.olr_map.proofs.Common.{slot_by, slot_in, SlotIndex, Err, Option, Result, all_in, eq-eqb, length, lookup}
-use Rattle.olr_map.proofs.Common.{ne_eqb, arith, false, Bool, IsOk, List, None, Some, cond, refl, true, ◌++◌, ◌==◌, ◌%◌}
-use Rattle.olr_map.proofs.Common.{◌+◌, ◌-◌, ◌/◌, ℕ, ◌<◌, ◌≤◌, ◌∙◌, ◌∷◌, ◌≡◌, Ok, [], ap, sym, IsDistinct, number_before}
-use Rattle.olr_map.proofs.Common.{slot_at, found_in, IsBlank, AreUsed, from}
+use Rattle.olr_map.proofs.Common.{AllByRecursion, common_steps, cases_eq, get_or_past, option_or, pairs_of, keys_of, slot_by}
+use Rattle.olr_map.proofs.Common.{slot_in, SlotIndex, Err, Option, Result, all_in, eq-eqb, length, lookup, ne_eqb, arith, false}
+use Rattle.olr_map.proofs.Common.{Bool, IsOk, List, None, Some, cond, refl, true, ◌++◌, ◌==◌, ◌%◌, ◌+◌, ◌-◌, ◌/◌, ℕ, ◌<◌, ◌≤◌}
+use Rattle.olr_map.proofs.Common.{◌∙◌, ◌∷◌, ◌≡◌, Ok, [], ap, IsDistinct, number_before, slot_at, found_in, IsBlank}
+use Rattle.olr_map.proofs.Common.{AreUsed, from, slice_index, zero, suc, ◌*◌, nat_eq, OnOk, slice_set}
 use Rattle.std.proofs.lemmas.Map.Keys.{IsDistinct-head, IsDistinct-tail}
-use Rattle.std.proofs.Common.{slice_index, zero, suc, ◌*◌, nat_eq, eqb-true, OnOk, slice_set}
+use Rattle.std.proofs.Common.{eqb-true}
 use Rattle.std.proofs.lemmas.List.{get_or-set_same, get_or-set_other}
 use Rattle.std.specs.Cmp.Lexicographic.{pointwise, same_text, other_text}
 use Rattle.std.proofs.lemmas.Nat.{div-add-mod'}

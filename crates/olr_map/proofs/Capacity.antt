@@ -1,18 +1,17 @@
 -- Empty tables, and tables with more capacity.
-use Rattle.olr_map.proofs.Common.{map, option_map, option_map_or, IsRelinked, spare_numbers, IsRoomWithin, common_steps}
-use Rattle.olr_map.proofs.Common.{◌≡◌, unwrap_or, cond-true, node_slots, links_room, HasRoomFor, tables_map, IsReserved}
-use Rattle.olr_map.proofs.Common.{◌==◌, ◌&&◌, true, cond, Some, None, refl, subst, arith, Coord, IsMap, SlotIndex}
-use Rattle.olr_map.proofs.Common.{Links, ℕ, ◌<◌, ◌≤◌, [], sym, ap, ◌∙◌, Map, Line, at, held, Room, Side, Out, In, false}
-use Rattle.olr_map.proofs.Common.{pairs_of, spare_of, all_held, links_at, lines_on, lines_at, links_in, map_from}
-use Rattle.olr_map.proofs.Common.{length, FinMap, lookup, eq-eqb, slot_by, in_slot, IsListed, room_of, room_at, RoadMap}
-use Rattle.olr_map.proofs.Common.{eqb-true, same_Some, node_room, node_slot, IsIndexed, AreTables, NodeSlots, LineTable}
-use Rattle.olr_map.proofs.Common.{from_entries, empty_map, empty_sound, coord_in, and_from, and_parts, IsRoomier}
+use Rattle.olr_map.proofs.Common.{map, option_map, option_map_or, IsRelinked, spare_numbers, IsRoomWithin, common_steps, ◌≡◌}
+use Rattle.olr_map.proofs.Common.{unwrap_or, node_slots, links_room, HasRoomFor, tables_map, IsReserved, ◌==◌, ◌&&◌}
+use Rattle.olr_map.proofs.Common.{true, cond, Some, None, refl, subst, arith, Coord, IsMap, SlotIndex, Links, ℕ, ◌<◌, ◌≤◌, []}
+use Rattle.olr_map.proofs.Common.{sym, ap, ◌∙◌, Map, Line, at, held, Room, Side, Out, In, false, pairs_of, spare_of, all_held}
+use Rattle.olr_map.proofs.Common.{links_at, lines_on, lines_at, links_in, map_from, length, FinMap, lookup, eq-eqb, slot_by}
+use Rattle.olr_map.proofs.Common.{in_slot, IsListed, room_of, room_at, RoadMap, eqb-true, same_Some, node_room, node_slot}
+use Rattle.olr_map.proofs.Common.{IsIndexed, AreTables, NodeSlots, LineTable, from_entries, empty_map, empty_sound, coord_in}
+use Rattle.olr_map.proofs.Common.{and_parts, IsRoomier}
 use Rattle.std.specs.Ordering.{nat_cmp}
 use Rattle.olr_map.proofs.ColumnLemmas.{few_nodes}
 use Rattle.olr_map.proofs.Lookups.{all_get, same_answers}
 use Rattle.olr_map.proofs.Blocking.{listed_found}
-use Rattle.olr_map.proofs.Indexing.{id_of, place_of, one_node, same_side, Relisted, relisted}
-use Rattle.olr_map.proofs.Making.{le_same}
+use Rattle.olr_map.proofs.Indexing.{id_of, one_node, same_side, Relisted, relisted}
 use Rattle.olr_map.proofs.Reading.{got_node, got_line, kept_from}
 use Rattle.olr_spec.specs.Map as maps
 
@@ -66,11 +65,7 @@ both_fit s mid new x l p q slots first second out into In = into l.to (first.slo
 module _ (t : RoadMap) (b' : SlotIndex) (ls' : LineTable) (slots : (k : ℕ) → slot_by b' k ≡ slot_by t.index k)
     (same : (k : ℕ) → held ls' k ≡ held t.lines k) where
   same_indexed : IsIndexed b' (node_slots t.nodes)
-  same_indexed =
-      record {
-        filled = λ v p h. t.kept.indexed.filled v p (sym (slots v) ∙ h);
-        named = λ v p h. slots v ∙ t.kept.indexed.named v p h;
-      }
+  same_indexed = grind (arith, common_steps, t.kept.indexed.filled, t.kept.indexed.named, slots)
 
   same_map : map_from b' (node_slots t.nodes) (all_held ls') ≡ tables_map t
   same_map =
@@ -96,12 +91,7 @@ module _ (t : RoadMap) (b' : SlotIndex) (ls' : LineTable) (slots : (k : ℕ) →
   same_reserved kept' numbers lines =
       record {
         map = same_map;
-        more = record {
-          nodes = omega arith;
-          lines = λ side v. le_same _ _
-              (ap (λ o. option_map_or (λ l. links_room l) (option_map (links_at side) (in_slot (node_slots t.nodes) o)) 0)
-              (sym (slots v)));
-        };
+        more = record { nodes = omega arith; lines = λ side v. grind (arith, common_steps, slots v) };
         nodes = numbers;
         lines = lines;
         slots = slots;
@@ -174,8 +164,8 @@ module _ (t : RoadMap) (nodes' : NodeSlots) (side : Side) (p v : ℕ) {R : Links
       < option_map_or (λ l. links_room l) (links_in side t.index (node_slots nodes') u) 0
   roomier_here lt u there =
       let one = one_node t.index (node_slots t.nodes) t.kept.indexed v u p here there in
-      let is = r.now side u ∙ cond-true (same_side side side && (v == u)) (Some w.links) _
-      (and_from (same_side side side) (v == u) (itself side) (eq-eqb v u one)) in
+      let is : links_in side t.index (node_slots nodes') u ≡ Some w.links =
+      grind (arith, common_steps, r.now side u, itself side, eq-eqb) in
       let long = ap (λ zs. length zs) (roomier_kept.listed side u w.links is).numbers in
       let room = ap (λ o. option_map_or (λ l. links_room l) o 0) is in
       omega arith

@@ -1,10 +1,9 @@
 -- Nodes in columns: values are added to, removed from and replaced in their slots.
-use Rattle.olr_map.proofs.Common.{common_steps, length_push, length-set, IsInserted, IsReplaced, node_slots, with_links}
-use Rattle.olr_map.proofs.Common.{IsRelinked, cond-true, same_Some, IsWritten, IsRemoved, NodeEntry, NodeSlots, is_some}
-use Rattle.olr_map.proofs.Common.{slots_of, links_at, cases_lt, entry_of, vec_len, Option, length, get_or, eq-eqb, ◌==◌}
-use Rattle.olr_map.proofs.Common.{lt-ltb, le-ltb, subst, arith, sides, Links, Coord, Fills, true, cond, List, ◌++◌, ◌≡◌}
-use Rattle.olr_map.proofs.Common.{Some, None, refl, rows, Side, ◌+◌, ◌<◌, ◌≤◌, ◌∷◌, sym, ◌∙◌, Out, [], ap, at, In, ℕ}
-use Rattle.std.proofs.Common.{◌^◌, zero, suc, set, nat_lt}
+use Rattle.olr_map.proofs.Common.{common_steps, length_push, length-set, IsInserted, IsReplaced, node_slots, with_links, Option}
+use Rattle.olr_map.proofs.Common.{IsRelinked, cond-true, same_Some, IsWritten, IsRemoved, NodeEntry, NodeSlots, slots_of, subst}
+use Rattle.olr_map.proofs.Common.{is_some, links_at, cases_lt, entry_of, vec_len, length, get_or, eq-eqb, lt-ltb, le-ltb, arith}
+use Rattle.olr_map.proofs.Common.{◌==◌, sides, Links, Coord, Fills, true, cond, List, ◌++◌, ◌≡◌, Some, None, refl, rows, nat_lt}
+use Rattle.olr_map.proofs.Common.{Side, ◌+◌, ◌<◌, ◌≤◌, ◌∷◌, sym, ◌∙◌, Out, [], ap, at, In, ℕ, ◌^◌, zero, suc, set}
 use Rattle.olr_map.specs.declared.slab.Slab.{Slab}
 use Rattle.olr_map.proofs.Lookups.{unchanged_at}
 use Rattle.olr_map.proofs.SlotLemmas.{some_within, few_slots, get_or-written, get_or-pushed}

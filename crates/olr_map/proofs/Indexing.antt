@@ -1,9 +1,9 @@
 -- Numbers and slots that refer to each other, after the entry of one node is added, removed or replaced.
-use Rattle.olr_map.proofs.Common.{◌≡◌, ◌==◌, ◌&&◌, ℕ, Bool, true, false, cond, List, Option, Some, None, refl, sym, ap}
-use Rattle.olr_map.proofs.Common.{◌∙◌, option_map, eq-eqb, ne_eqb, cond-true, cond-false, same_Some, Coord, slot_by, at}
-use Rattle.olr_map.proofs.Common.{IsWritten, in_slot, links_at, with_links, IsRelinked, node_in, links_in, IsIndexed}
-use Rattle.olr_map.proofs.Common.{SlotIndex, Links, NodeEntry, Side, Out, In, common_steps, arith}
-use Rattle.std.proofs.Common.{◌⊎◌, inl, inr, eqb-true}
+use Rattle.olr_map.proofs.Common.{◌≡◌, ◌==◌, ◌&&◌, ℕ, Bool, true, false, cond, List, Option, Some, None, refl, sym, ap, ◌∙◌}
+use Rattle.olr_map.proofs.Common.{option_map, eq-eqb, ne_eqb, same_Some, Coord, slot_by, at, IsWritten}
+use Rattle.olr_map.proofs.Common.{links_at, with_links, IsRelinked, node_in, links_in, IsIndexed, SlotIndex, Links}
+use Rattle.olr_map.proofs.Common.{NodeEntry, Side, Out, In, common_steps, arith}
+use Rattle.std.proofs.Common.{eqb-true}
 use Rattle.olr_map.proofs.Lookups.{over_cond, unchanged_at}
 
 abbrev pub id_of : NodeEntry → ℕ
@@ -86,24 +86,12 @@ module _ (b : SlotIndex) (es : Slots) (indexed : IsIndexed b es) where
     pub written_node : (k : ℕ) → node_in b' es' k ≡ cond (v == k) w (node_in b es k)
     written_node k = grind (arith, common_steps, stays, arrives, eqb-true)
 
-    -- a number that has a slot is v, in slot p, or had that slot before
-    slot_from : (k q : ℕ) → slot_by b' k ≡ Some q →
-        ((v ≡ k) × (p ≡ q) × ((e : NodeEntry) × (w ≡ Some e))) ⊎ (((v == k) ≡ false) × (slot_by b k ≡ Some q))
-    slot_from k q h = step (v == k) refl where
-      step : (c : Bool) → (v == k) ≡ c →
-          ((v ≡ k) × (p ≡ q) × ((e : NodeEntry) × (w ≡ Some e))) ⊎ (((v == k) ≡ false) × (slot_by b k ≡ Some q))
-      step true e =
-          let x = value_if p q w (sym (now k ∙ cond-true (v == k) (slot_if p w) (slot_by b k) e) ∙ h) in
-          inl (eqb-true v k e, x.2, (x.0, x.1))
-      step false e = inr (e, sym (now k ∙ cond-false (v == k) (slot_if p w) (slot_by b k) e) ∙ h)
-
     pub written_indexed : option_map id_of w ≡ slot_if v w → IsIndexed b' es'
     written_indexed id =
         record {
           filled = λ k q h.
-              let from = slot_from k q h in
-              let other = stays k q in
-              grind (arith, common_steps, from, t.now q, indexed.filled k q, other);
+              let held = indexed.filled k q in
+              grind (arith, common_steps, now k, value_if p q w, eqb-true, t.now q, held, stays k q, eq-eqb);
           named = λ k q h. grind (arith, common_steps, now k, t.now q, indexed.named k q, value_if, eq-eqb, eqb-true, ne_eqb);
         }
 

@@ -1,23 +1,22 @@
 -- A line is added, removed and set.
-use Rattle.olr_map.proofs.Common.{has-lines_where, option_map_or, spare_numbers, IsRoomWithin, common_steps, option_map}
+use Rattle.olr_map.proofs.Common.{has-lines_where, spare_numbers, IsRoomWithin, common_steps, option_map}
 use Rattle.olr_map.proofs.Common.{TableChange, node_slots, IsRelinked, links_room, tables_map, HasRoomFor, cond-true, ℕ}
 use Rattle.olr_map.proofs.Common.{same_Some, node_room, node_slot, IsIndexed, AreTables, SlotIndex, NodeSlots, eqb-true}
 use Rattle.olr_map.proofs.Common.{LineTable, has_line, all_held, links_at, lines_on, lines_at, links_in, map_from, ◌==◌}
-use Rattle.olr_map.proofs.Common.{IsListed, TakeLine, line_at, some_of, back_of, slot_by, is_some, in_slot, node_in, ap}
-use Rattle.olr_map.proofs.Common.{room_of, room_at, LineEnd, RoadMap, PutLine, SetLine, Option, length, FinMap, eq-eqb}
-use Rattle.olr_map.proofs.Common.{false, subst, arith, IsMap, IsPut, sides, Links, true, cond, Some, None, refl, Line}
-use Rattle.olr_map.proofs.Common.{held, near, Room, Side, ◌≡◌, ◌+◌, ◌<◌, ◌≤◌, sym, ◌∙◌, get, Map, has, far, Out, In}
+use Rattle.olr_map.proofs.Common.{IsListed, TakeLine, line_at, some_of, back_of, slot_by, is_some, node_in, ap}
+use Rattle.olr_map.proofs.Common.{room_of, room_at, LineEnd, RoadMap, PutLine, SetLine, Option, length, FinMap, eq-eqb, false}
+use Rattle.olr_map.proofs.Common.{subst, arith, IsMap, IsPut, sides, Links, true, cond, Some, None, refl, Line, held, near}
+use Rattle.olr_map.proofs.Common.{Room, Side, ◌≡◌, ◌+◌, ◌<◌, ◌≤◌, sym, ◌∙◌, get, Map, has, far, Out, In, change_edit, CanMake}
+use Rattle.olr_map.proofs.Common.{IsWhole, map_after, room_after, line_puts, CanPutEnd}
 use Rattle.std.specs.List.Sorted.{IsStrictlyIncreasing}
-use Rattle.olr_map.specs.Changes.{change_edit, CanMake, IsWhole, map_after, room_after, line_puts}
 use Rattle.std.specs.Ordering.{nat_cmp}
-use Rattle.olr_map.specs.NodeLinks.{CanPutEnd}
 use Rattle.olr_map.proofs.ColumnLemmas.{few_nodes}
-use Rattle.olr_map.proofs.Lookups.{all_get, over_cond, unchanged_at, got_insert, got_remove, same_answers}
+use Rattle.olr_map.proofs.Lookups.{all_get, got_insert, got_remove, same_answers}
 use Rattle.olr_map.proofs.Indexing.{Slots, place_of, entry_of, relisted}
 use Rattle.olr_map.proofs.LineRecords.{record_of}
 use Rattle.olr_map.proofs.Listing.{ascends_at, seen, here_listed, other_listed}
 use Rattle.olr_map.proofs.Reading.{got_node, got_line, line_found, line_missing, kept_from, place_is}
-use Rattle.olr_map.proofs.Making.{made_as, room_in, TablesMade, tables_made, le_same}
+use Rattle.olr_map.proofs.Making.{made_as, room_in, TablesMade, tables_made}
 use Rattle.std.specs.FinMap as finmap
 use Rattle.olr_spec.specs.Map as maps
 
@@ -46,17 +45,12 @@ module _ (t : RoadMap) (es : Slots) (indexed : IsIndexed t.index es) (side : Sid
   can_put v p x here fits =
       let e = entry_of t.index es indexed v p here in
       let l : Links = links_at side e.0 in
-      let was : links_in side t.index (node_slots t.nodes) v ≡ Some l =
-      sym (same v) ∙ ap (λ o. option_map (links_at side) (in_slot es o)) here ∙ ap (option_map (links_at side)) e.1 in
+      let was : links_in side t.index (node_slots t.nodes) v ≡ Some l = grind (arith, common_steps, same v, e.1) in
       let is = list_is t side v l was in (
         e.0,
         e.1,
         subst IsStrictlyIncreasing (sym is) (ascends_at side (tables_map t) v),
-        λ no.
-            let lt = fits (ap (λ zs. has zs x) (sym is) ∙ no) in
-            let room = list_room t side v l was in
-            let long = ap (λ zs. length zs) is in
-            omega arith,
+        λ no. grind (arith, fits, is, list_room t side v l was),
       )
 
   -- a line of the map
@@ -85,10 +79,6 @@ pub is_held : (t : RoadMap) (x n : ℕ) → has_line (tables_map t) x ≡ true �
 is_held t x n known same = ap (λ k. is_some (held t.lines k)) same ∙ ap (λ o. is_some o) (line_found t x known).1
 
 -- ---- line x has the record w in place of o
-
-each : (P : Side → Type 0) → P Out → P In → (side : Side) → P side
-each P a b Out = a
-each P a b In = b
 
 pub record LineWritten (t : RoadMap) (nodes' : NodeSlots) (lines' : LineTable) (x : ℕ) (ends : Line)
     (o w : Option Line) : Type 0 where
@@ -137,20 +127,22 @@ module _ {t : RoadMap} {nodes' : NodeSlots} {lines' : LineTable} {x : ℕ} {ends
       kept_from t.index (node_slots nodes') (all_held lines') r.indexed (few_nodes nodes') sound (λ side v h is.
       let other = other_listed side (node_slot t.index) M N x o w (got_line t x ∙ r.was) lines_now v in
       let now = r.lists_now side v in
-      grind (arith, common_steps, listed_here side, now, eqb-true, t.kept.listed side v h, other, r.ends_was side, r.ends_now side))
+      let old = t.kept.listed side v h in
+      grind (arith, common_steps, listed_here side, now, eqb-true, old, other, r.ends_was side, r.ends_now side))
 
   -- the list of an end of a line that was removed has capacity
   room_free : (side : Side) → w ≡ None → has_line M x ≡ true → line_at M x ≡ ends →
       length (lines_at side N (near side ends)) < (room_in t.index nodes').lines side (near side ends)
   room_free side none there is =
-      let old : has (lines_on (r.old side)) x ≡ true =
-      ap (λ zs. has zs x) (list_is t side (near side ends) (r.old side) (r.lists_was side))
-      ∙ subst (λ (l : Line). has (lines_at side M (near side l)) x ≡ true) is (line_listed side M x there) in
-      let free = (r.put side).free (ap (option_map (seen side (node_slot t.index))) none) old in
-      let long = ap (λ zs. length zs) (listed_here side).numbers in
-      let room = ap (λ q. option_map_or (λ l. links_room l) q 0) (r.lists_now side (near side ends)
-      ∙ cond-true (near side ends == near side ends) _ _ (eq-eqb (near side ends) (near side ends) refl)) in
-      omega arith
+      let list = list_is t side (near side ends) (r.old side) (r.lists_was side) in
+      let listed = line_listed side M x there in
+      let now = r.lists_now side (near side ends) in
+      grind (arith, common_steps, (r.put side).free, list, listed, (listed_here side).numbers, now, eq-eqb)
+
+  same_room : (side : Side) (k : ℕ) → room_at side t k ≤ (room_in t.index nodes').lines side k
+  same_room side k =
+      let room = list_room t side (near side ends) (r.old side) (r.lists_was side) in
+      grind (arith, common_steps, r.lists_now side k, r.lists_was side, (r.put side).room, eqb-true)
 
   -- the change was made, whose capacity is the same before and after
   line_made : (c back : TableChange) → CanMake M (room_of t) c → N ≡ map_after M c →
@@ -160,14 +152,7 @@ module _ {t : RoadMap} {nodes' : NodeSlots} {lines' : LineTable} {x : ℕ} {ends
       TablesMade t t.index nodes' lines' c back
   line_made c back can is inverse fits whole steady steady_back room spare =
       let same : IsRoomWithin (room_of t) (room_in t.index nodes') =
-      record {
-        nodes = omega arith;
-        lines = λ side k. le_same _ _ (unchanged_at (room_at side t) (near side ends) (links_room (r.new side))
-            (list_room t side (near side ends) (r.old side) (r.lists_was side) ∙ sym (r.put side).room) k
-            ∙ sym (over_cond (λ q. option_map_or (λ l. links_room l) q 0) (near side ends == k) (Some (r.new side))
-            (links_in side t.index (node_slots t.nodes) k))
-            ∙ ap (λ q. option_map_or (λ l. links_room l) q 0) (sym (r.lists_now side k)));
-      } in
+      record { nodes = omega arith; lines = same_room } in
       tables_made t t.index nodes' lines' c back can is line_kept inverse fits whole
       (subst (λ (R : Room). IsRoomWithin R (room_in t.index nodes')) (sym (steady (room_of t))) same)
       (subst (IsRoomWithin (room_of t)) (sym (steady_back (room_in t.index nodes'))) same) (omega arith) spare
@@ -177,6 +162,10 @@ module _ {t : RoadMap} {nodes' : NodeSlots} {lines' : LineTable} {x : ℕ} {ends
 end_seen : (side : Side) (b : SlotIndex) (l : Line) (q : ℕ) (e : Option LineEnd) → slot_by b (far side l) ≡ Some q →
     e ≡ Some (record { slot = q; len = l.len }) → e ≡ Some (seen side (node_slot b) l)
 end_seen side b l q e there is = grind (arith, common_steps, place_is)
+
+same_near : (side : Side) (k l : Line) → (k.from ≡ l.from) × (k.to ≡ l.to) → near side k ≡ near side l
+same_near Out k l h = h.0
+same_near In k l h = h.1
 
 -- both lists were changed, first that of the node where the line begins
 module _ (t : RoadMap) (mid nodes' : NodeSlots) (lines' : LineTable) (n x p q : ℕ) (number : n ≡ x) (ends : Line)
@@ -191,26 +180,18 @@ module _ (t : RoadMap) (mid nodes' : NodeSlots) (lines' : LineTable) (n x p q : 
   line_written o w e_is d_is was now ends_was ends_now =
       let first = relisted t.index (node_slots t.nodes) t.kept.indexed (node_slots mid) Out p ends.from out here in
       let second = relisted t.index (node_slots mid) first.indexed (node_slots nodes') In q ends.to into there in
-      let old : Side → Links = sides out.entry.outs into.entry.ins in
-      let new : Side → Links = sides out.links into.links in
       record {
         indexed = second.indexed;
         places = λ k. second.places k ∙ first.places k;
-        old = old;
-        new = new;
-        lists_was = each (λ s. links_in s t.index (node_slots t.nodes) (near s ends) ≡ Some (old s)) first.was
-            (sym (first.now In ends.to) ∙ second.was);
-        lists_now = each (λ s. (k : ℕ) → links_in s t.index (node_slots nodes') k
-            ≡ cond (near s ends == k) (Some (new s)) (links_in s t.index (node_slots t.nodes) k))
-            (λ k. second.now Out k ∙ first.now Out k)
-            (λ k. second.now In k ∙ ap (cond (ends.to == k) (Some into.links)) (first.now In k));
-        was = ap (held t.lines) (sym number) ∙ was;
-        now = subst (λ (m : ℕ). (k : ℕ) → held lines' k ≡ cond (m == k) w (held t.lines k)) number now;
+        old = sides out.entry.outs into.entry.ins;
+        new = sides out.links into.links;
+        lists_was = λ s. grind (arith, common_steps, first.was, first.now, second.was);
+        lists_now = λ s k. grind (arith, common_steps, first.now s k, second.now s k);
+        was = grind (arith, was);
+        now = λ k. grind (arith, now k);
         ends_was = ends_was;
         ends_now = ends_now;
-        put = each (λ s. IsPut (old s) (new s) x (option_map (seen s (node_slot t.index)) w))
-            (subst (IsPut out.entry.outs out.links x) e_is out.holds)
-            (subst (IsPut into.entry.ins into.links x) d_is into.holds);
+        put = λ s. grind (arith, common_steps, out.holds, into.holds, e_is, d_is);
       }
 
   -- a line is added
@@ -262,7 +243,7 @@ module _ (t : RoadMap) (mid nodes' : NodeSlots) (lines' : LineTable) (n x p q : 
         let M : Map = tables_map t in
         let N : Map = map_from t.index (node_slots nodes') (all_held lines') in
         let same_ends : (side : Side) → near side k ≡ near side ends =
-        each (λ s. near s k ≡ near s ends) (can.whole.0 ∙ ap (near Out) same) (can.whole.1 ∙ ap (near In) same) in
+        λ side. same_near side k (line_at M x) can.whole ∙ ap (near side) same in
         let r : LineWritten t nodes' lines' x ends (Some l) (Some k) =
         line_written (Some l) (Some k) (end_seen Out t.index k q e (ap (slot_by t.index) (same_ends In) ∙ there) e_is)
         (end_seen In t.index k p d (ap (slot_by t.index) (same_ends Out) ∙ here) d_is) was put end_was

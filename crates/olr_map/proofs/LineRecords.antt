@@ -1,9 +1,8 @@
 -- Lines that pass a test, and the records of the lines of a map.
 use Rattle.olr_map.proofs.Common.{false_from_ne_true, has-lines_where, common_steps, get-entries, is_some_of, passes_at}
-use Rattle.olr_map.proofs.Common.{unwrap_or, has_node, list_any, or_right, entries, line_at, nat_cmp, no_line, or_left}
-use Rattle.olr_map.proofs.Common.{Option, ne_eqb, IsMap, arith, false, Bool, Line, List, None, Some, refl, true, ◌==◌}
-use Rattle.olr_map.proofs.Common.{Map, get, sym, ◌∙◌, ◌∷◌, ◌≡◌, [], ap, ℕ, any_has}
-use Rattle.std.specs.FinMap.Entries.{find}
+use Rattle.olr_map.proofs.Common.{unwrap_or, has_node, list_any, or_right, entries, line_at, nat_cmp, no_line, or_left, Option}
+use Rattle.olr_map.proofs.Common.{ne_eqb, IsMap, arith, false, Bool, Line, List, None, Some, refl, true, ◌==◌, Map, get, sym}
+use Rattle.olr_map.proofs.Common.{◌∙◌, ◌∷◌, ◌≡◌, [], ap, ℕ, any_has, find}
 
 -- ---- lines that pass a test
 

@@ -1,18 +1,17 @@
 -- The lines of a node with their far ends, after a line is added, removed or set, and after nodes are added or removed.
-use Rattle.olr_map.proofs.Common.{sorted_from_strictly_increasing, has-lines_where, common_steps, ascend_out, unwrap_or}
-use Rattle.olr_map.proofs.Common.{links_room, option_map, place_not, passes_at, ascend_in, has_node, place_of, lines_at}
-use Rattle.olr_map.proofs.Common.{IsListed, lines_on, map_same, is_some, line_at, no_line, ends_on, LineEnd, FinMap, Ok}
-use Rattle.olr_map.proofs.Common.{eq-eqb, ne_eqb, in_use, end_at, Option, length, get_or, Result, false, arith, Coord}
-use Rattle.olr_map.proofs.Common.{IsMap, IsPut, Links, ◌||◌, Bool, true, cond, List, Some, None, refl, Line, near, Side}
-use Rattle.olr_map.proofs.Common.{◌==◌, ◌&&◌, ◌≡◌, ◌<◌, ◌∷◌, map, Err, sym, ◌∙◌, get, Map, has, far, Out, ap, In, [], ℕ}
+use Rattle.olr_map.proofs.Common.{sorted_from_strictly_increasing, has-lines_where, common_steps, ascend_out, links_room, false}
+use Rattle.olr_map.proofs.Common.{unwrap_or, option_map, place_not, passes_at, ascend_in, has_node, place_of, lines_at, is_some}
+use Rattle.olr_map.proofs.Common.{IsListed, lines_on, map_same, line_at, no_line, ends_on, LineEnd, FinMap, eq-eqb, eqb-true, ℕ}
+use Rattle.olr_map.proofs.Common.{Ok, ne_eqb, in_use, end_at, Option, length, get_or, Result, arith, Coord, IsMap, IsPut, Links}
+use Rattle.olr_map.proofs.Common.{◌||◌, Bool, true, cond, List, Some, None, refl, Line, near, Side, ◌==◌, ◌&&◌, ◌≡◌, ◌<◌, zero}
+use Rattle.olr_map.proofs.Common.{◌∷◌, map, Err, sym, ◌∙◌, get, Map, has, far, Out, ap, In, [], suc, set, not}
 use Rattle.olr_spec.proofs.AscendingLists.{put_ascends, has-insert, has-remove, has_at, ascends-remove}
 use Rattle.std.proofs.lemmas.List.{map-append, take-map, drop-map}
-use Rattle.std.proofs.Common.{zero, suc, set, not}
 use Rattle.std.specs.List.{remove, insert}
-use Rattle.std.specs.List.Sorted.{IsStrictlyIncreasing, IsStrictlySortedBy, IsBinarySearchResult}
+use Rattle.std.specs.List.Sorted.{IsStrictlyIncreasing, IsBinarySearchResult, IsStrictlySortedBy}
 use Rattle.std.specs.Ordering.{nat_cmp}
-use Rattle.olr_map.proofs.Lookups.{over_cond, unchanged_at}
 use Rattle.olr_spec.proofs.SameNumbers.{above, same_ascending}
+use Rattle.olr_map.proofs.Lookups.{over_cond, unchanged_at}
 use Rattle.olr_map.proofs.LineRecords.{none_passes, used_by, other_node, line_starts, line_ends}
 
 -- ---- lists
@@ -194,14 +193,8 @@ module _ (side : Side) (P : ℕ → ℕ) (M N : Map) (x : ℕ) (o w : Option Lin
         let before : has (lines_at side M v) x ≡ false = listed_before ∙ none_passes at_v o not_before in
         let same : lines_at side M v ≡ lines_at side N v =
         same_ascending (lines_at side M v) (lines_at side N v) (ascends_at side M v) (ascends_at side N v)
-        (λ n. unchanged_at (has (lines_at side M v)) x (passes_at at_v w) (before ∙ sym (none_passes at_v w not_now)) n
-        ∙ sym (listed_after n)) in
-        record {
-          numbers = h.numbers ∙ same;
-          ends = h.ends ∙ map_same (end_at side M P) (end_at side N P) (lines_at side M v)
-              (λ y t. end_stays y (ne_eqb x y (λ is. let no = ap (has (lines_at side M v)) (sym is) ∙ before in cc)))
-              ∙ ap (map (end_at side N P)) same;
-        }
+        (λ n. grind (arith, common_steps, listed_after n, none_passes at_v w not_now, eqb-true)) in
+        grind (arith, common_steps, same, map_same, end_stays, ne_eqb)
 
     -- a node at an end
     pub here_listed : ((l : Line) → w ≡ Some l → at_v l ≡ true) → (old new : Links) →

@@ -1,12 +1,11 @@
 -- Changes that can be made with some capacity can be made with more.
-use Rattle.olr_map.proofs.Common.{IsRoomWithin, common_steps, TableChange, CanMakeAll, HasRoomFor, made_all, reverse}
-use Rattle.olr_map.proofs.Common.{edited, arith, subst, IsOk, Map, List, Room, Side, ◌++◌, sym, ◌∙◌, ◌∷◌, ◌≡◌, ◌≤◌, Ok}
-use Rattle.olr_map.proofs.Common.{[], ap, ℕ, RoadMap, tables_map, has_node, cases_eq, ◌+◌, AddsNoNode, all_node_puts}
-use Rattle.olr_map.specs.Changes.{change_edit, CanMake, changed_at, room_after, map_after, node_puts, KeepsSlots}
-use Rattle.olr_spec.proofs.EditLemmas.{got_other, left_other, left_same}
+use Rattle.olr_map.proofs.Common.{IsRoomWithin, common_steps, TableChange, CanMakeAll, HasRoomFor, made_all, reverse, edited}
+use Rattle.olr_map.proofs.Common.{arith, subst, IsOk, Map, List, Room, Side, ◌++◌, sym, ◌∙◌, ◌∷◌, ◌≡◌, ◌≤◌, [], ap, ℕ}
+use Rattle.olr_map.proofs.Common.{RoadMap, tables_map, has_node, cases_eq, ◌+◌, AddsNoNode, all_node_puts, change_edit, CanMake}
+use Rattle.olr_map.proofs.Common.{changed_at, room_after, map_after, node_puts, KeepsSlots, got_other, left_other, left_same}
 use Rattle.std.specs.Prelude.{IsTrue}
 use Rattle.std.proofs.lemmas.List.{reverse-append}
-use Rattle.olr_map.proofs.Making.{made_ok, made_as}
+use Rattle.olr_map.proofs.Making.{made_as}
 use Rattle.olr_spec.specs.Map as map
 
 room_fits : (M : Map) (R S : Room) (e : map.Edit) → IsRoomWithin R S → HasRoomFor M R e → HasRoomFor M S e
@@ -68,10 +67,5 @@ pub rest_slots : (s t u : RoadMap) (R : Room) (c : TableChange) (cs ds : List Ta
     tables_map u ≡ map_after (tables_map t) c → KeepsSlots t u → (all_node_puts cs ≡ 0) × AddsNoNode s u
 rest_slots s t u R c cs ds is all before same slots =
     let can : CanMake (tables_map t) R c = grind arith in
-    let none : node_puts c + all_node_puts cs ≡ 0 = grind arith in (
-      omega arith,
-      λ v there.
-          let was =
-          nodes_before (tables_map t) c can.accepted (omega arith) v (subst (λ (M : Map). IsTrue (has_node M v)) same there)
-          in ((before.1 v was).0, slots v was there ∙ (before.1 v was).1),
-    )
+    let none : node_puts c + all_node_puts cs ≡ 0 = grind arith in
+    (omega arith, λ v there. grind (arith, nodes_before (tables_map t) c can.accepted, before.1 v, slots v))

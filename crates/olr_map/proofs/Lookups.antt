@@ -1,7 +1,7 @@
 -- Values by number: in a list as a finite map, of a function at one number, and of a map after a change.
-use Rattle.olr_map.proofs.Common.{nat_cmp_total, unsigned_tied, common_steps, cases_eq, FinMap, eqb-true, nat_cmp}
-use Rattle.olr_map.proofs.Common.{eq-eqb, lookup, ne_eqb, arith, false, Bool, List, None, Some, cond, refl, true, ◌==◌}
-use Rattle.olr_map.proofs.Common.{get, ◌∙◌, ◌∷◌, ◌≡◌, [], ap, ℕ, from_entries}
+use Rattle.olr_map.proofs.Common.{nat_cmp_total, unsigned_tied, common_steps, cases_eq, FinMap, eqb-true, nat_cmp, eq-eqb}
+use Rattle.olr_map.proofs.Common.{lookup, ne_eqb, arith, false, Bool, List, None, Some, cond, refl, true, ◌==◌, get, ◌∙◌, ◌∷◌}
+use Rattle.olr_map.proofs.Common.{◌≡◌, [], ap, ℕ, from_entries}
 use Rattle.std.specs.FinMap.{nat_cmp-IsAntisymmetric, get-from_entries, get-insert, get-remove, same_map}
 use Rattle.std.specs.FinMap as finmap
 

@@ -1,13 +1,11 @@
 -- An accepted change has a map as its result, and the change that undoes it can be made there.
-use Rattle.olr_map.proofs.Common.{◌≡◌, ℕ, ◌+◌, ◌≤◌, Result, Ok, IsOk, sym, ap, ◌∙◌, subst, arith, eqb-true, Map, IsMap}
-use Rattle.olr_map.proofs.Common.{edited, back_of, spare_of, spare_numbers, tables_map, room_of, HasRoomFor}
-use Rattle.olr_map.proofs.Common.{IsRoomWithin, TableChange, RoadMap, common_steps, HasCoord, takes_back, is_ok_of}
-use Rattle.olr_map.proofs.Common.{SlotIndex, NodeSlots, LineTable, Room, AreTables, node_slots, all_held, node_room, has_node}
-use Rattle.olr_map.proofs.Common.{links_room, links_in, map_from, node_slot, option_map_or, true}
-use Rattle.olr_map.specs.Changes.{change_edit, changed_at, map_after, room_after, CanMake, IsWhole, IsChangeMade}
-use Rattle.olr_map.specs.Changes.{node_puts, line_puts}
+use Rattle.olr_map.proofs.Common.{◌≡◌, ℕ, ◌+◌, ◌≤◌, Result, Ok, IsOk, sym, ap, ◌∙◌, subst, arith, eqb-true, Map, IsMap, edited}
+use Rattle.olr_map.proofs.Common.{back_of, spare_of, spare_numbers, tables_map, room_of, HasRoomFor, IsRoomWithin, TableChange}
+use Rattle.olr_map.proofs.Common.{RoadMap, common_steps, HasCoord, takes_back, is_ok_of, SlotIndex, NodeSlots, LineTable, Room}
+use Rattle.olr_map.proofs.Common.{AreTables, node_slots, all_held, node_room, has_node, links_room, links_in, map_from}
+use Rattle.olr_map.proofs.Common.{node_slot, option_map_or, true, change_edit, changed_at, map_after, room_after, CanMake}
+use Rattle.olr_map.proofs.Common.{IsWhole, IsChangeMade, node_puts, line_puts, Made, made_by, edits_keep}
 use Rattle.std.specs.Result.{result_unwrap_or}
-use Rattle.olr_spec.proofs.EditLemmas.{Made, made_by, edits_keep}
 use Rattle.olr_spec.specs.Map as map
 
 -- an accepted edit has a map as its result
@@ -84,9 +82,6 @@ module _ (t : RoadMap) (b' : SlotIndex) (nodes' : NodeSlots) (lines' : LineTable
       }
 
 -- ---- functions that differ at one number
-
-pub le_same : (a b : ℕ) → a ≡ b → a ≤ b
-le_same a b e = omega arith
 
 -- a value that was changed, and changed back to no less
 pub changed_back : (f h : ℕ → ℕ) (k n m : ℕ) → ((v : ℕ) → h v ≡ changed_at k n f v) → f k ≤ m → (v : ℕ) →

@@ -1,15 +1,13 @@
 -- A node is added, removed and moved.
 use Rattle.olr_map.proofs.Common.{nil_from_length, has-lines_where, length-take-le, option_map_or, IsRoomWithin, Option}
 use Rattle.olr_map.proofs.Common.{common_steps, passed_line, option_map, IsInserted, IsReplaced, node_slots, links_room, in_use}
-use Rattle.olr_map.proofs.Common.{tables_map, unwrap_or, same_Some, IsWritten, node_room, node_slot, slot_by}
-use Rattle.olr_map.proofs.Common.{IsIndexed, AreTables, SlotIndex, NodeEntry, NodeSlots, eqb-true, has_node, no_coord}
-use Rattle.olr_map.proofs.Common.{spare_of, all_held, links_at, lines_on, links_in, map_from, lines_at, IsListed, false}
-use Rattle.olr_map.proofs.Common.{coord_at, ends_on, node_in, room_of, room_at, RoadMap, length, FinMap, end_at, subst}
-use Rattle.olr_map.proofs.Common.{arith, Coord, IsMap, sides, Links, ◌==◌, true, cond, Some, None, refl, Line, near, []}
-use Rattle.olr_map.proofs.Common.{Side, ◌≡◌, ◌+◌, ◌<◌, ◌≤◌, map, sym, ◌∙◌, get, Map, far, Out, ap, In, ℕ}
+use Rattle.olr_map.proofs.Common.{tables_map, unwrap_or, IsWritten, node_room, node_slot, slot_by, IsIndexed}
+use Rattle.olr_map.proofs.Common.{AreTables, SlotIndex, NodeEntry, NodeSlots, eqb-true, has_node, no_coord, spare_of, all_held}
+use Rattle.olr_map.proofs.Common.{links_at, lines_on, links_in, map_from, IsListed, false, coord_at, ends_on, node_in}
+use Rattle.olr_map.proofs.Common.{room_of, room_at, RoadMap, length, FinMap, subst, arith, Coord, IsMap, sides, Links}
+use Rattle.olr_map.proofs.Common.{◌==◌, true, cond, Some, None, refl, Line, near, [], Side, ◌≡◌, ◌+◌, ◌<◌, ◌≤◌, sym, ◌∙◌}
+use Rattle.olr_map.proofs.Common.{get, Map, far, ap, ℕ, changed_at, CanMake, map_after, PutNode, MoveNode, TakeNode}
 use Rattle.olr_map.specs.Linked.{room_kept, IsBare, EmptyLinks, lines_kept}
-use Rattle.olr_map.specs.Changes.{changed_at, CanMake, map_after}
-use Rattle.olr_map.specs.declared.change.TableChange.TheVariants.{PutNode, MoveNode, TakeNode}
 use Rattle.std.specs.Ordering.{nat_cmp}
 use Rattle.olr_map.specs.declared.links.Links.TheVariants.{Inline, Spilled}
 use Rattle.olr_map.proofs.ColumnLemmas.{few_nodes}
@@ -78,10 +76,9 @@ module _ {t : RoadMap} {b' : SlotIndex} {nodes' : NodeSlots} {v : ℕ} {o w : Op
   written_kept sound here stays =
       kept_from b' (node_slots nodes') (all_held t.lines) indexed' (few_nodes nodes') sound (λ side k h is.
       replaced side M N.nodes (node_slot t.index) (node_slot b') k h (λ y there.
-      let l =
-      passed_line (λ m. near side m == k) (get M.lines y) (sym (has-lines_where M (λ m. near side m == k) y) ∙ there) in
-      subst (λ (m : Line). node_slot t.index (far side m) ≡ node_slot b' (far side m)) (sym (record_of M y l.0 l.1))
-      (stays side y l.0 l.1))
+      let listed = has-lines_where M (λ m. near side m == k) y in
+      let l = passed_line (λ m. near side m == k) (get M.lines y) (sym listed ∙ there) in
+      grind (arith, record_of M y l.0, l.1, stays side y l.0))
       (grind (arith, common_steps, here side h, t.kept.listed side k h, links' side k, eqb-true)))
 
   -- slots of other nodes stay
@@ -151,8 +148,7 @@ module _ (t : RoadMap) (b' : SlotIndex) (nodes' : NodeSlots) (p n v : ℕ) (q : 
   put_made room spare =
       let fits : 0 < node_room t.nodes = can.fits in
       tables_made t b' nodes' t.lines (PutNode v q o i) (TakeNode v) can put_map
-      (λ sound. written_kept put_written sound
-      (λ side h is_h. subst (IsListed side (tables_map t) (node_slot t.index) v) (same_Some _ _ is_h) (bare side))
+      (λ sound. written_kept put_written sound (λ side h is_h. grind (arith, bare side))
       (λ side y l there. other_slot put_written (far side l)
       (eqb_flip v (far side l)
       ∙ other_node (tables_map t) (far side l) v (far_there side (tables_map t) y l t.kept.sound there) put_says.0)))
@@ -160,22 +156,16 @@ module _ (t : RoadMap) (b' : SlotIndex) (nodes' : NodeSlots) (p n v : ℕ) (q : 
       (record { nodes = omega arith; lines = λ side. room_back put_written side 0 refl }) spare (omega arith)
       (slots_stay put_written) where
         none : (side : Side) → lines_on (links_at side entry) ≡ []
-        none Out = bare_outs.lines ∙ can.whole.0
-        none In = bare_ins.lines ∙ can.whole.1
+        none side = grind (arith, bare_outs.lines, bare_ins.lines, can.whole)
 
         bare : (side : Side) → IsListed side (tables_map t) (node_slot t.index) v (links_at side entry)
         bare side =
-            let absent : [] ≡ lines_at side (tables_map t) v = absent_lines side (tables_map t) v t.kept.sound put_says.0 in
-            record {
-              numbers = none side ∙ absent;
-              ends = nil_from_length (ends_on (links_at side entry))
-                  (beside (links_at side entry) ∙ ap (λ xs. length xs) (none side))
-                  ∙ ap (map (end_at side (tables_map t) (node_slot t.index))) absent;
-            }
+            let absent = absent_lines side (tables_map t) v t.kept.sound put_says.0 in
+            let ends = nil_from_length (ends_on (links_at side entry)) in
+            grind (arith, common_steps, absent, none side, beside (links_at side entry), ends)
 
         same_room : (side : Side) → links_room (links_at side entry) ≡ room_kept (sides o i side)
-        same_room Out = bare_outs.room
-        same_room In = bare_ins.room
+        same_room side = grind (arith, bare_outs.room, bare_ins.room)
 
 -- ---- a node is removed
 
@@ -217,8 +207,7 @@ module _ {t : RoadMap} {b' : SlotIndex} {nodes' : NodeSlots} {v : ℕ} {e : Node
       (record { nodes = omega arith; lines = λ side. room_back r side _ (same_room side) }) (omega arith) (omega arith)
       (slots_stay r) where
         same_room : (side : Side) → links_room (links_at side e) ≡ room_kept (sides o i side)
-        same_room Out = sym same_outs
-        same_room In = sym same_ins
+        same_room side = grind (arith, same_outs, same_ins)
 
 -- ---- a node is moved
 
@@ -248,13 +237,7 @@ module _ (t : RoadMap) (nodes' : NodeSlots) (p v : ℕ) (e : NodeEntry) (q : Coo
       sym (ap (λ c. unwrap_or c no_coord) (node_read t v p e here is.was)) in
       tables_made t t.index nodes' t.lines (MoveNode v q) (MoveNode v e.place) can move_map
       (λ sound. written_kept move_written sound
-      (λ side h is_h. subst (IsListed side (tables_map t) (node_slot t.index) v) (ends_moved side h is_h)
-      (listed_at t side v p e here is.was)) (λ side y l there. refl)) (ap (maps.Move_node v) place) tt tt same same
-      (omega arith) (omega arith) (λ u _ _. refl) where
-        ends_moved : (side : Side) (h : Links) → option_map (links_at side) (Some moved) ≡ Some h → links_at side e ≡ h
-        ends_moved Out h i = same_Some _ _ i
-        ends_moved In h i = same_Some _ _ i
-
+      (λ side h is_h. grind (arith, common_steps, listed_at t side v p e here is.was)) (λ side y l there. refl))
+      (ap (maps.Move_node v) place) tt tt same same (omega arith) (omega arith) (λ u _ _. refl) where
         same_room : (side : Side) → links_room (links_at side e) ≡ links_room (links_at side moved)
-        same_room Out = refl
-        same_room In = refl
+        same_room side = grind (arith, common_steps)

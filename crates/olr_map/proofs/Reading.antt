@@ -1,11 +1,10 @@
 -- The map that the tables represent.
-use Rattle.olr_map.proofs.Common.{◌≡◌, ◌==◌, ℕ, ◌<◌, ◌≤◌, true, false, List, [], map, Option, Some, None, is_some}
-use Rattle.olr_map.proofs.Common.{length, refl, sym, ap, subst, ◌∙◌, arith, option_map, false_from_ne_true, FinMap, get}
-use Rattle.olr_map.proofs.Common.{Map, Line, IsMap, has_node, has_line, none_of, some_of, pairs_of, slot_by, at}
-use Rattle.olr_map.proofs.Common.{node_slots, links_at, node_in, links_in, lines_at, map_from, node_slot, IsListed}
-use Rattle.olr_map.proofs.Common.{IsIndexed, AreTables, tables_map, SlotIndex, Links, NodeEntry, Side, RoadMap, held}
-use Rattle.olr_map.proofs.Common.{all_held, in_slot, common_steps, coord_in}
-use Rattle.std.proofs.Common.{◌^◌, IsTrue, SomeIff}
+use Rattle.olr_map.proofs.Common.{◌≡◌, ◌<◌, ◌≤◌, [], map, None, sym, ap, ◌∙◌, get, Map, Line, at, Side, held, ◌^◌}
+use Rattle.olr_map.proofs.Common.{◌==◌, true, false, List, Option, Some, length, arith, FinMap, IsMap, Links}
+use Rattle.olr_map.proofs.Common.{ℕ, option_map, false_from_ne_true, node_slots, node_slot, IsIndexed, tables_map, common_steps}
+use Rattle.olr_map.proofs.Common.{is_some, none_of, some_of, slot_by, node_in, map_from, IsListed, RoadMap, all_held, coord_in}
+use Rattle.olr_map.proofs.Common.{has_node, has_line, pairs_of, links_at, links_in, lines_at, AreTables, SlotIndex, NodeEntry}
+use Rattle.std.proofs.Common.{IsTrue, SomeIff}
 use Rattle.std.proofs.lemmas.Map.Made.{lookup-map_values}
 use Rattle.std.specs.Ordering.{nat_cmp}
 use Rattle.olr_model.specs.Ends.{HaveSlotsApart}
@@ -49,13 +48,13 @@ module _ (b : SlotIndex) (es : List (Option NodeEntry)) (F : FinMap nat_cmp Line
   pub have_slots_apart : HaveSlotsApart (map_from b es F) (node_slot b) (length es)
   have_slots_apart =
       record {
-        below = λ v h. let s = slot_of b es indexed F v h in let lt =
-            within es s.0 v (indexed.filled v s.0 s.1) in let is = place_is b v s.0 s.1 in omega arith;
+        below = λ v h.
+            let s = slot_of b es indexed F v h in
+            grind (arith, within es s.0 v, indexed.filled v s.0 s.1, place_is b v s.0 s.1);
         apart = λ v w h k e.
             let s = slot_of b es indexed F v h in
             let r = slot_of b es indexed F w k in
-            one_node b es indexed v w s.0 s.1
-            (r.1 ∙ ap (λ n. Some n) (sym (place_is b w r.0 r.1) ∙ sym e ∙ place_is b v s.0 s.1));
+            grind (arith, one_node b es indexed v w s.0, s.1, r.1, place_is b v s.0 s.1, place_is b w r.0 r.1);
         few = few;
       }
 
@@ -91,9 +90,7 @@ module _ (t : RoadMap) where
   line_found x h = grind (arith, common_steps, got_line, some_of)
 
   pub node_read : (v p : ℕ) (e : NodeEntry) → slot_by b v ≡ Some p → at es p ≡ Some e → get M.nodes v ≡ Some e.place
-  node_read v p e h is =
-      got_node b es t.kept.indexed (all_held t.lines) v ∙ ap (λ o. option_map place_of (in_slot es o)) h
-      ∙ ap (option_map place_of) is
+  node_read v p e h is = grind (arith, common_steps, got_node b es t.kept.indexed (all_held t.lines) v)
 
   -- a slot that is found has an entry
   pub entry_at : (v p : ℕ) → slot_by b v ≡ Some p → (e : NodeEntry) × (at es p ≡ Some e)
@@ -128,7 +125,7 @@ module _ (t : RoadMap) where
   pub slot_lines : (side : Side) (v p : ℕ) (l : Links) → has_node M v ≡ true → node_slot b v ≡ p →
       ((e : NodeEntry) → at es p ≡ Some e → l ≡ links_at side e) → IsListed side M (node_slot b) v l
   slot_lines side v p l h e is = let here = slot_is v p h e in let x = entry_at v p here in
-      subst (IsListed side M (node_slot b) v) (sym (is x.0 x.1)) (listed_at side v p x.0 here x.1)
+      grind (arith, x.1, is x.0, listed_at side v p x.0 here)
 
   pub place_found : (v : ℕ) (o : Option ℕ) → o ≡ slot_by b v → SomeIff o (IsTrue (has_node M v)) (node_slot b v)
   place_found v None e = λ h. let s = slot_of b es t.kept.indexed (all_held t.lines) v h in absurd cc

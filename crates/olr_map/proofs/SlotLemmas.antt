@@ -1,9 +1,8 @@
 -- Slots, after a value is added, removed or replaced.
-use Rattle.olr_map.proofs.Common.{◌≡◌, ◌==◌, ℕ, ◌+◌, ◌<◌, ◌≤◌, true, cond, List, [], ◌∷◌, ◌++◌, Option, Some, None}
-use Rattle.olr_map.proofs.Common.{is_some, length, get_or, refl, sym, ap, ◌∙◌, subst, arith, cases_eq, cases_order}
-use Rattle.olr_map.proofs.Common.{eq-eqb, ne_eqb, get_or_past, length-set, length_push, none_of, some_of, at, IsSlotted}
-use Rattle.olr_map.proofs.Common.{IsWritten, common_steps, IsDistinct-from_apart, eqb-true}
-use Rattle.std.proofs.Common.{◌^◌, zero, suc, set, slice_index, IsNone}
+use Rattle.olr_map.proofs.Common.{◌≡◌, ◌==◌, ℕ, ◌+◌, ◌<◌, ◌≤◌, true, cond, List, [], ◌∷◌, ◌++◌, Option, Some, None, is_some}
+use Rattle.olr_map.proofs.Common.{length, get_or, refl, sym, ap, ◌∙◌, subst, arith, cases_eq, cases_order, eq-eqb, ne_eqb}
+use Rattle.olr_map.proofs.Common.{get_or_past, length-set, length_push, none_of, some_of, at, IsSlotted, IsWritten}
+use Rattle.olr_map.proofs.Common.{common_steps, IsDistinct-from_apart, eqb-true, ◌^◌, zero, suc, set, slice_index, IsNone}
 use Rattle.std.proofs.lemmas.Map.Views.{Contains-from_any}
 use Rattle.std.proofs.lemmas.List.{get_or-set_same, get_or-set_other, get_or_default, get_or_push, get_or_append_left}
 use Rattle.std.proofs.lemmas.Map.Steps.{length-le_from_distinct_below}
@@ -49,20 +48,17 @@ module _ {X : Type 0} where
     pub put_slotted : (gs : List ℕ) (p : ℕ) (f : X) → fs ≡ gs ++ p ∷ [] → IsSlotted (set es p (Some f)) gs room
     put_slotted gs p f is =
         let long : length fs ≡ length gs + 1 = ap (λ xs. length xs) is ∙ length_push gs p in
-        let here : slice_index fs (length gs) ≡ p =
-        ap (λ xs. slice_index xs (length gs)) is ∙ get_or_push gs p 0 (length gs) refl in
+        let here : slice_index fs (length gs) ≡ p = grind (arith, get_or_push) in
         let same : (i : ℕ) → i < length gs → slice_index fs i ≡ slice_index gs i =
-        λ i lt. ap (λ xs. slice_index xs i) is ∙ get_or_append_left gs (p ∷ []) 0 i lt in
+        λ i lt. grind (arith, get_or_append_left) in
         let inside = s.inside (length gs) (omega arith) in
         let size : length (set es p (Some f)) ≡ length es = length-set es p (Some f) in
         let roomy = s.roomy in
         let few = s.few in
         record {
-          inside = λ i lt. let a = s.inside i (omega arith) in let e = same i lt in omega arith;
-          vacant = λ i lt. still_free p (slice_index gs i) (Some f) (omega arith)
-              (λ e. s.apart i (length gs) lt (omega arith) (same i lt ∙ sym e ∙ sym here))
-              (ap (at es) (sym (same i lt)) ∙ free_at i (omega arith));
-          apart = λ i j lt h e. s.apart i j lt (omega arith) (same i (omega arith) ∙ e ∙ sym (same j h));
+          inside = λ i lt. grind (arith, s.inside i, same i);
+          vacant = λ i lt. grind (arith, still_free p (slice_index gs i) (Some f), s.apart i (length gs), same i, free_at i);
+          apart = λ i j lt h e. grind (arith, s.apart i j, same);
           roomy = omega arith;
           few = omega arith;
         }

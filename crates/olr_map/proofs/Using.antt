@@ -1,8 +1,8 @@
 -- When a node is in use, by its two lists.
 use Rattle.olr_map.proofs.Common.{nil_from_length, has-lines_where, not_from_true, common_steps, unless_false, or_right}
 use Rattle.olr_map.proofs.Common.{Node_in_use, passed_line, lines_out, Drop_node, has_node, has_here, lines_at, or_left}
-use Rattle.olr_map.proofs.Common.{lines_in, or_from, length, in_use, edited, false, arith, ◌==◌, near, Side, ◌||◌, true}
-use Rattle.olr_map.proofs.Common.{List, Some, Line, ◌≡◌, ◌<◌, ◌∷◌, Err, sym, ◌∙◌, get, Map, has, Out, Ok, ap, In, [], ℕ}
+use Rattle.olr_map.proofs.Common.{lines_in, or_from, length, in_use, edited, false, arith, ◌==◌, near, Side, ◌||◌, true, List}
+use Rattle.olr_map.proofs.Common.{Some, Line, ◌≡◌, ◌<◌, ◌∷◌, Err, sym, ◌∙◌, get, Map, has, Out, Ok, ap, In, [], ℕ}
 use Rattle.std.specs.FinMap.{remove}
 use Rattle.olr_map.proofs.LineRecords.{used_by, unused_by}
 

@@ -1,8 +1,7 @@
 -- The slots of an edit's nodes: of an accepted edit, and where no node's slot changes. The faults of a map as returned.
 use Rattle.olr_map.proofs.Common.{edit_fault_of, common_steps, TableChange, MatchResult, IsReserved, tables_map, Result}
-use Rattle.olr_map.proofs.Common.{node_slot, SlotIndex, eqb-true, has_node, RoadMap, slot_by, eq-eqb, arith, subst, Err}
-use Rattle.olr_map.proofs.Common.{IsOk, Some, refl, true, ◌==◌, ◌||◌, Map, has, map, sym, ◌∙◌, ◌∷◌, ◌≡◌, Ok, [], ap, ℕ}
-use Rattle.olr_map.specs.Changes.{change_edit}
+use Rattle.olr_map.proofs.Common.{node_slot, SlotIndex, eqb-true, has_node, RoadMap, slot_by, eq-eqb, arith, subst, Err, IsOk}
+use Rattle.olr_map.proofs.Common.{Some, refl, true, ◌==◌, ◌||◌, Map, has, sym, ◌∙◌, ◌∷◌, ◌≡◌, Ok, [], ap, ℕ, change_edit}
 use Rattle.olr_map.specs.EditPlans.{AreSlots, IsEditPlan, planned_changes}
 use Rattle.olr_spec.specs.Map.{start, end, MapFault}
 use Rattle.olr_spec.specs.Detours.{ChangedLine, changes_of}

@@ -111,7 +111,7 @@ impl RoadMap {
     }
 
     /// The lines on one side of the node in a slot, with their far ends.
-    #[tactic(auto, using(crate::proofs::Reading::slot_filled))]
+    #[tactic(auto, using(crate::proofs::Reading::slot_filled, crate::proofs::Reading::slot_lines))]
     fn side_at(&self, side: Side, slot: u32) -> NodeLines<'_>
         requires { (v : ℕ) × IsTrue (has_node (map_of self.now) v) × (slot_of self.now v ≡ slot) }
         ensures lines { (v : ℕ) → IsTrue (has_node (map_of self.now) v) → slot_of self.now v ≡ slot

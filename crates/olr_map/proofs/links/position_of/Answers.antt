@@ -1,7 +1,6 @@
-use Rattle.olr_map.proofs.Common.{arith, ◌≡◌, ◌∙◌, ◌<◌, ◌≤◌, ◌-◌, ℕ, true, length, refl, sym, ap}
-use Rattle.std.proofs.Common.{Ordering, Less, Equal, Greater, is_lt, slice_index_or}
+use Rattle.olr_map.proofs.Common.{arith, ◌≡◌, ◌∙◌, ◌<◌, ◌≤◌, ◌-◌, ℕ, true, length, refl, sym, ap, Ordering, Less}
+use Rattle.olr_map.proofs.Common.{is_lt, slice_index_or, get_or_read_under}
 use Rattle.std.specs.Ordering.{nat_cmp, ordering_index}
-use Rattle.std.proofs.lemmas.List.{get_or_read_under}
 use Rattle.olr_map.proofs.links.position_of.Goals as goal
 
 -- what is not behind an answer `Less` is `Less`

@@ -1,5 +1,5 @@
-use Rattle.olr_map.proofs.Common.{ℕ, subst, sym, ap, arith, ◌≡◌, ◌∙◌, ◌==◌, ◌/◌, ◌%◌, ◌<◌, Some, cond, is_some, lookup}
-use Rattle.olr_map.proofs.Common.{slot_in, found_in}
+use Rattle.olr_map.proofs.Common.{ℕ, subst, sym, ap, arith, ◌≡◌, ◌∙◌, ◌==◌, ◌/◌, ◌%◌, ◌<◌, Some, cond, is_some, lookup, slot_in}
+use Rattle.olr_map.proofs.Common.{found_in}
 use Rattle.std.specs.HashMap.{spare}
 use Rattle.olr_map.proofs.Blocking.{block_changed, none_above, not_blank, on_ok, used_put}
 use Rattle.olr_map.proofs.blocks.Blocks.put.Goals.{After-put, After-insert-inserted}

@@ -1,5 +1,5 @@
-use Rattle.olr_map.proofs.Common.{true≢false, ℕ, ◌≡◌, ◌==◌, ◌/◌, ◌%◌, Some, None, cond, is_some, sym, ap, ◌∙◌, lookup}
-use Rattle.olr_map.proofs.Common.{slot_in, arith, common_steps, found_in}
+use Rattle.olr_map.proofs.Common.{true≢false, ℕ, ◌≡◌, ◌==◌, ◌/◌, ◌%◌, Some, None, cond, is_some, sym, ap, ◌∙◌, lookup, slot_in}
+use Rattle.olr_map.proofs.Common.{arith, common_steps, found_in}
 use Rattle.olr_map.proofs.Blocking.{block_changed, removed_again, used_put, used_removed}
 use Rattle.olr_map.proofs.blocks.Blocks.take.Goals.{After-take-slot, After-remove}
 use Rattle.olr_map.proofs.blocks.Blocks.take.Goals as goal

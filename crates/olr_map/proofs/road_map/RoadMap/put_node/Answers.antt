@@ -1,5 +1,4 @@
-use Rattle.olr_map.proofs.Common.{node_slots}
-use Rattle.olr_map.specs.declared.change.TableChange.TheVariants.{PutNode, TakeNode}
+use Rattle.olr_map.proofs.Common.{node_slots, PutNode, TakeNode}
 use Rattle.olr_map.proofs.ColumnLemmas.{node_fits}
 use Rattle.olr_map.proofs.Making.{TablesMade}
 use Rattle.olr_map.proofs.NodeChanges.{put_made}
