@@ -5,6 +5,7 @@ use Rattle.std.proofs.Common.{arith, ◌≡◌, ◌≢◌, ℕ, Bool, true, fals
 use Rattle.std.proofs.Common.{Some, None, is_some, Ok, refl, sym, ap, ◌∙◌, append_assoc, nat_cmp, Ordering, is_lt}
 use Rattle.std.proofs.Common.{is_eq}
 use Rattle.std.proofs.lemmas.Bool.{eq-eqb, ne_eqb}
+use Rattle.std.specs.Option.{option_or}
 use Rattle.std.proofs.lemmas.List.{append-nil}
 use Rattle.std.specs.Cmp.{nat_cmp_total}
 use Rattle.std.specs.FinMap.{FinMap, get, insert, entries, empty, entries_sorted, get-entries, get-empty, same_map}
@@ -27,14 +28,9 @@ lt_not_eq o h = grind arith
 apart : (k j : ℕ) → T (is_lt (nat_cmp k j)) → j ≢ k
 apart k j h is = grind (arith, nat_cmp)
 
--- the first of two, or else the second
-abbrev over : {X : Type 0} → Option X → Option X → Option X
-over (Some x) o = Some x
-over None o = o
-
-over_none : {X : Type 0} (o : Option X) → over o None ≡ o
-over_none (Some x) = refl
-over_none None = refl
+or_none : {X : Type 0} (o : Option X) → option_or o None ≡ o
+or_none (Some x) = refl
+or_none None = refl
 
 module _ {X : Type 0} where
   -- a number below all of them equals none of them
@@ -48,7 +44,7 @@ module _ {X : Type 0} where
   filled m (e ∷ es) = filled (insert m e.0 e.1) es
 
   get_filled : (m : FinMap nat_cmp X) (es : List (ℕ × X)) (q : ℕ) → T (is_sorted nat_cmp es) →
-      get (filled m es) q ≡ over (find nat_cmp q es) (get m q)
+      get (filled m es) q ≡ option_or (find nat_cmp q es) (get m q)
   get_filled m [] q s = refl
   get_filled m (e ∷ es) q s =
       grind (
@@ -70,7 +66,7 @@ module _ {X : Type 0} where
   filled_all : (m : FinMap nat_cmp X) → filled empty (entries m) ≡ m
   filled_all m =
       same_map nat_cmp_total nat_cmp-IsAntisymmetric (filled empty (entries m)) m (λ q.
-      grind (arith, get_filled, entries_sorted, get-empty, over_none, get-entries))
+      grind (arith, get_filled, entries_sorted, get-empty, or_none, get-entries))
 
   abbrev Absent : FinMap nat_cmp X → List (ℕ × X) → Type 0
   Absent m es = AllByRecursion (λ e. get m e.0 ≡ None) es

@@ -90,6 +90,7 @@ pub fn push_margin_record(text: &mut Vec<u8>, margin: Margin) -> Result<(), Allo
 }
 
 /// Appends a comma and a longitude or a latitude in degrees.
+#[tactic(auto, using(std::proofs::lemmas::List::append_assoc))]
 fn push_units(text: &mut Vec<u8>, units: i64) -> Result<(), AllocError>
     requires { IsTrue (has_degrees_text units) }
     ensures { OnOk result (text.new.items ≡ text.old.items ++ 44 ∷ degrees_text units) }
@@ -108,6 +109,7 @@ fn push_coord(text: &mut Vec<u8>, coord: Coord) -> Result<(), AllocError>
 }
 
 /// Appends the distance and the coordinate of each shape point.
+#[tactic(auto, using(std::proofs::lemmas::Grind::common_steps))]
 fn push_shape(text: &mut Vec<u8>, shape: &[Shape]) -> Result<(), AllocError>
     requires { IsTrue (is_recordable_shape shape.now) }
     ensures { OnOk result (text.new.items ≡ text.old.items ++ after_commas (fields_of_shape shape.now)) }
@@ -120,6 +122,7 @@ fn push_shape(text: &mut Vec<u8>, shape: &[Shape]) -> Result<(), AllocError>
 }
 
 /// Appends the number of each line.
+#[tactic(auto, using(crate::proofs::RecordLemmas::numbers_more))]
 fn push_lines(text: &mut Vec<u8>, lines: &[LineId]) -> Result<(), AllocError>
     ensures { OnOk result (text.new.items ≡ text.old.items ++ after_commas (map decimal lines.now)) }
 {

@@ -4,7 +4,7 @@ ghost use Rattle.std.specs.List.{list_all};
 ghost use Rattle.olr_commands.specs.Recordable as recordable;
 
 use olr_coords::{Coord, has_degrees_text};
-use olr_model::{Line, Shape};
+use olr_model::Line;
 
 /// The greatest length of a name in a record, in bytes.
 const LONGEST_NAME: usize = 64;
@@ -41,12 +41,7 @@ pub fn is_recordable_coord(coord: Coord) -> bool
 pub fn is_recordable_line(line: &Line) -> bool
     ensures { result ≡ recordable.is_recordable_shape line.now.shape }
 {
-    is_recordable_shape(&line.shape)
-}
-
-/// Whether a record can have each of these shape points.
-fn is_recordable_shape(shape: &[Shape]) -> bool
-    ensures { result ≡ recordable.is_recordable_shape shape.now }
-{
-    shape.iter().all(|point| is_recordable_coord(point.place))
+    line.shape
+        .iter()
+        .all(|point| is_recordable_coord(point.place))
 }

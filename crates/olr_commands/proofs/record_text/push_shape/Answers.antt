@@ -1,10 +1,6 @@
-use Rattle.std.proofs.Common.{◌∙◌, arith}
-use Rattle.std.proofs.lemmas.Grind.{common_steps}
+use Rattle.std.proofs.Common.{◌∙◌}
 use Rattle.olr_commands.proofs.RecordLemmas.{points_more}
 use Rattle.olr_commands.proofs.record_text.push_shape.Goals as goal
-
-pub push_coord-requires : goal.push_coord-requires
-push_coord-requires c = grind (arith, common_steps)
 
 pub loop-point-preserved : goal.loop-point-preserved
 loop-point-preserved c =
