@@ -87,6 +87,7 @@ pub fn has_good_fields(frc: u8, fow: u8, len: u32, shape: &[Shape]) -> bool
 }
 
 /// Whether the distances are strictly increasing and strictly between 0 and `len`.
+#[tactic(auto, using(std::proofs::lemmas::Grind::common_steps))]
 fn is_ascending(shape: &[Shape], len: u32) -> bool
     ensures ascends { result ≡ ascends_between 0 shape.now len }
     ensures placed { OnTrue result (IsTrue (are_coords shape.now)) }

@@ -9,12 +9,8 @@ four_steps n a b c d few = omega arith
 
 of_four : (n : ℕ) (bs : List ℕ) → n < 2 ^ 32 → 4 ≤ length bs → length bs < 5 → fold number_step n bs
     ≡ slice_index_or bs 0 0 + slice_index_or bs 1 0 * 256 + slice_index_or bs 2 0 * 65536 + slice_index_or bs 3 0 * 16777216
-of_four n [] few more less = absurd (omega arith)
-of_four n (a ∷ []) few more less = absurd (omega arith)
-of_four n (a ∷ b ∷ []) few more less = absurd (omega arith)
-of_four n (a ∷ b ∷ c ∷ []) few more less = absurd (omega arith)
 of_four n (a ∷ b ∷ c ∷ d ∷ []) few more less = four_steps n a b c d few
-of_four n (a ∷ b ∷ c ∷ d ∷ e ∷ bs) few more less = absurd (omega arith)
+of_four n bs few more less = absurd (omega arith)
 
 pub returns-in-len4 : goal.returns-in-len4
 returns-in-len4 c =
