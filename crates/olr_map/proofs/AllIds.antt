@@ -196,9 +196,9 @@ module _ (t : RoadMap) where
   has_nodes : (v : ℕ) → has (present hs) v ≡ has_node (tables_map t) v
   has_nodes v =
       both_ways (has (present hs) v) (has_node (tables_map t) v)
-      (λ h. let r = slot_of_id hs v h in (id_has t r.0 v (sym (same_id r.0) ∙ r.1)).0)
+      (λ h. let r = slot_of_id hs v h in grind (arith, id_has t r.0 v, same_id r.0, r.1))
       (λ h. let s = slot_of t.index (node_slots t.nodes) t.kept.indexed (all_held t.lines) v h in
-      id_in_slot hs s.0 v (same_id s.0 ∙ t.kept.indexed.filled v s.0 s.1))
+      grind (arith, id_in_slot hs s.0 v, same_id s.0, t.kept.indexed.filled v s.0 s.1))
 
   pub sorted_nodes : (xs ys : List ℕ) → xs ≡ present hs → IsPermutation xs ys → IsSortedByKey (λ n. n) nat_cmp ys →
       ys ≡ map (λ e. e.0) (entries (tables_map t).nodes)

@@ -68,10 +68,8 @@ blank_zeros (x ∷ xs) h = let first = none_before x (h 0) in let rest = blank_z
 -- what a comparison with four zeros shows
 pub blank_test : (b : Block) (t : Bool) → t ≡ pointwise nat_eq b.slots (zeros 4) → (t ≡ true → IsBlank b)
     × (IsBlank b → t ≡ true)
-blank_test b true e =
-    (λ _ i. ap (λ xs. number_before (slice_index xs i)) (same_text b.slots (zeros 4) e) ∙ zeros_report 4 i, λ _. refl)
-blank_test b false e =
-    (λ h. absurd cc, λ blank. absurd (other_text b.slots (zeros 4) e (blank_zeros b.slots blank ∙ ap zeros b.four)))
+blank_test b t e =
+    grind (arith, same_text b.slots (zeros 4), other_text b.slots (zeros 4), blank_zeros b.slots, zeros_report 4, b.four)
 
 pub not_blank : (b : Block) (place slot : ℕ) (r : Option ℕ) → slot_at b place ≡ cond (place == place) (Some slot) r →
     IsBlank b → ⊥

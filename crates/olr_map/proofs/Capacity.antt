@@ -2,9 +2,9 @@
 use Rattle.olr_map.proofs.Common.{map, option_map, option_map_or, IsRelinked, spare_numbers, IsRoomWithin, common_steps, ◌≡◌}
 use Rattle.olr_map.proofs.Common.{unwrap_or, node_slots, links_room, HasRoomFor, tables_map, IsReserved, ◌==◌, ◌&&◌}
 use Rattle.olr_map.proofs.Common.{true, cond, Some, None, refl, subst, arith, Coord, IsMap, SlotIndex, Links, ℕ, ◌<◌, ◌≤◌, []}
-use Rattle.olr_map.proofs.Common.{sym, ap, ◌∙◌, Map, Line, at, held, Room, Side, Out, In, false, pairs_of, spare_of, all_held}
+use Rattle.olr_map.proofs.Common.{sym, ap, ◌∙◌, Map, Line, at, held, Room, Side, Out, In, pairs_of, spare_of, all_held}
 use Rattle.olr_map.proofs.Common.{links_at, lines_on, lines_at, links_in, map_from, length, FinMap, lookup, eq-eqb, slot_by}
-use Rattle.olr_map.proofs.Common.{in_slot, IsListed, room_of, room_at, RoadMap, eqb-true, same_Some, node_room, node_slot}
+use Rattle.olr_map.proofs.Common.{in_slot, IsListed, room_of, room_at, RoadMap, eqb-true, node_room, node_slot}
 use Rattle.olr_map.proofs.Common.{IsIndexed, AreTables, NodeSlots, LineTable, from_entries, empty_map, empty_sound, coord_in}
 use Rattle.olr_map.proofs.Common.{and_parts, IsRoomier}
 use Rattle.std.specs.Ordering.{nat_cmp}
@@ -120,18 +120,11 @@ module _ (t : RoadMap) (nodes' : NodeSlots) (side : Side) (p v : ℕ) {R : Links
   roomier_links : (s : Side) (k : ℕ) (h : Links) → links_in s t.index (node_slots nodes') k ≡ Some h → (m : Links)
       × (links_in s t.index (node_slots t.nodes) k ≡ Some m) × IsRoomier m h
   roomier_links s k h is =
-      elim (same_side s side && (v == k)) as (λ c. (same_side s side && (v == k)) ≡ c →
-      cond c (Some w.links) (links_in s t.index (node_slots t.nodes) k) ≡ Some h → (m : Links)
-      × (links_in s t.index (node_slots t.nodes) k ≡ Some m) × IsRoomier m h) [
-        | true ↦ λ i j.
-            let both = and_parts (same_side s side) (v == k) i in (
-              links_at side w.entry,
-              ap (λ n. links_in s t.index (node_slots t.nodes) n) (sym (eqb-true v k both.1))
-                  ∙ ap (λ z. links_in z t.index (node_slots t.nodes) v) (side_is s side both.0) ∙ r.was,
-              subst (IsRoomier (links_at side w.entry)) (same_Some _ _ j) more,
-            )
-        | false ↦ λ i j. (h, j, record { lines = refl; ends = refl; room = omega arith })
-      ] refl (sym (r.now s k) ∙ is)
+      let now = r.now s k in (
+        cond (same_side s side && (v == k)) (links_at side w.entry) h,
+        grind (arith, common_steps, now, r.was, side_is, eqb-true, and_parts),
+        grind (arith, common_steps, now, more),
+      )
 
   pub roomier_kept : AreTables t.index (node_slots nodes') (all_held t.lines)
   roomier_kept =

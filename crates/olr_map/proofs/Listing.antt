@@ -3,8 +3,8 @@ use Rattle.olr_map.proofs.Common.{sorted_from_strictly_increasing, has-lines_whe
 use Rattle.olr_map.proofs.Common.{unwrap_or, option_map, place_not, passes_at, ascend_in, has_node, place_of, lines_at, is_some}
 use Rattle.olr_map.proofs.Common.{IsListed, lines_on, map_same, line_at, no_line, ends_on, LineEnd, FinMap, eq-eqb, eqb-true, ℕ}
 use Rattle.olr_map.proofs.Common.{Ok, ne_eqb, in_use, end_at, Option, length, get_or, Result, arith, Coord, IsMap, IsPut, Links}
-use Rattle.olr_map.proofs.Common.{◌||◌, Bool, true, cond, List, Some, None, refl, Line, near, Side, ◌==◌, ◌&&◌, ◌≡◌, ◌<◌, zero}
-use Rattle.olr_map.proofs.Common.{◌∷◌, map, Err, sym, ◌∙◌, get, Map, has, far, Out, ap, In, [], suc, set, not}
+use Rattle.olr_map.proofs.Common.{◌||◌, Bool, true, cond, List, Some, None, refl, Line, near, Side, ◌==◌, ◌≡◌, ◌<◌, zero}
+use Rattle.olr_map.proofs.Common.{◌∷◌, map, Err, sym, ◌∙◌, get, Map, has, far, Out, ap, In, [], suc, set}
 use Rattle.olr_spec.proofs.AscendingLists.{put_ascends, has-insert, has-remove, has_at, ascends-remove}
 use Rattle.std.proofs.lemmas.List.{map-append, take-map, drop-map}
 use Rattle.std.specs.List.{remove, insert}
@@ -37,12 +37,6 @@ module _ {Y : Type 0} where
       let others = map_put f g x same ys i up.1 (omega arith) is in
       λ j. first j ∷ others j
 
-or_cond : (b c : Bool) → (b || c) ≡ cond b true c
-or_cond b c = grind (arith, common_steps)
-
-and_cond : (b c : Bool) → (not b && c) ≡ cond b false c
-and_cond b c = grind (arith, common_steps)
-
 -- ---- a list in which a search for number x had this result
 
 module _ (old new : Links) (x : ℕ) (up : IsStrictlyIncreasing (lines_on old)) where
@@ -63,10 +57,10 @@ module _ (old new : Links) (x : ℕ) (up : IsStrictlyIncreasing (lines_on old)) 
       let absent = place_not xs x i place in
       record {
         ascends = rw lines (put_ascends xs x i up found);
-        numbers = λ n. ap (λ zs. has zs n) lines ∙ has-insert xs i x n ∙ or_cond (x == n) (has xs n);
+        numbers = λ n. grind (arith, common_steps, has-insert xs i x n);
         ends = λ f g before same last.
-            ends ∙ ap (λ zs. insert zs i e) (before ∙ map_same f g xs (λ y t. same y (others y absent t)))
-            ∙ ap (insert (map g xs) i) (last e refl) ∙ sym (map-inserted g xs i x) ∙ ap (map g) (sym lines);
+            let rest = map_same f g xs (λ y t. same y (others y absent t)) in
+            grind (arith, last e refl, map-inserted g xs i x);
         room = room;
         free = λ none. absurd cc;
       }
@@ -76,20 +70,16 @@ module _ (old new : Links) (x : ℕ) (up : IsStrictlyIncreasing (lines_on old)) 
   removed i found lines ends room free =
       let place = place_of xs x (Ok i) up found in
       let less : (n : ℕ) → has (remove xs i) n ≡ cond (x == n) false (has xs n) =
-      λ n. has-remove xs i x n up place.0 place.1 ∙ and_cond (x == n) (has xs n) in
+      λ n. grind (arith, common_steps, has-remove xs i x n up place.0 place.1) in
       record {
         ascends = rw lines (ascends-remove xs i up place.0);
         numbers = λ n. ap (λ zs. has zs n) lines ∙ less n;
         ends = λ f g before same last.
-            ends ∙ ap (λ zs. remove zs i) before ∙ sym (map-removed f xs i)
-            ∙ map_same f g (remove xs i) (λ y t. same y (other (x == y) (has xs y) (sym (less y) ∙ t)))
-            ∙ ap (map g) (sym lines);
+            let rest = map_same f g (remove xs i) (λ y t. same y (grind (arith, common_steps, less y))) in
+            grind (arith, map-removed f xs i);
         room = room;
         free = λ _ _. free;
-      } where
-        other : (b c : Bool) → cond b false c ≡ true → b ≡ false
-        other true c h = absurd cc
-        other false c h = refl
+      }
 
   pub reset : (i : ℕ) (e : LineEnd) → Finds (Ok i) → lines_on new ≡ xs → ends_on new ≡ set (ends_on old) i e →
       links_room new ≡ links_room old → IsPut old new x (Some e)
