@@ -1,22 +1,19 @@
 -- The nodes of a range of cells, and of a window.
-use Rattle.olr_spec.proofs.Common.{◌≡◌, ℕ, ◌+◌, ◌-◌, ◌<◌, ◌≤◌, inl, inr, ℤ, Bool, List, length, take, drop, get_or}
-use Rattle.olr_spec.proofs.Common.{Contains, IsTrue, IsFalse, arith, ap, ◌∙◌, subst, cases_lt, ltb-true, leb-false}
-use Rattle.olr_spec.proofs.Common.{get_or-drop, get_or-take, length-drop, length-take-le, Map, coord_at, Coord}
-use Rattle.olr_spec.specs.Ambiguity.{is_farther, usual_slack}
-use Rattle.olr_ambiguity.specs.declared.grid.Placed.{Placed}
-use Rattle.olr_ambiguity.specs.declared.rivals.Window.{Window}
-use Rattle.olr_ambiguity.specs.Grids.{Starts, Ends, cell_at, cells_from, lowest_lat, IsGridOf, IsWindow, Notes}
+use Rattle.olr_ambiguity.proofs.Common.{◌≡◌, length, get_or, IsTrue, arith, Placed, Window, Starts, cell_at, IsWindow, AreAdded}
+use Rattle.olr_ambiguity.proofs.Common.{ℕ, ◌+◌, ◌-◌, ◌<◌, ◌≤◌, inl, inr, ℤ, Bool, List, take, drop, ◌∙◌, subst, Map, Coord}
+use Rattle.olr_ambiguity.proofs.Common.{Contains, ap, cases_lt, ltb-true, ltb-false, coord_at, cells_from, lowest_lat, IsGridOf}
+use Rattle.olr_ambiguity.proofs.Common.{IsFalse, get_or-drop, get_or-take, length-drop, length-take-le, is_farther, usual_slack}
 
 -- an element whose cell is within is between the two positions
-between : (es : List Placed) (first last i j k : ℕ) (e : Placed) → Starts es first i → Ends es last j → k < length es →
-    get_or es k e ≡ e → first ≤ e.cell → e.cell ≤ last → (i ≤ k) × (k < j)
-between es first last i j k e s f lt at low high = grind (arith, s.0 k e, f.1 k e, cases_lt, ltb-true, leb-false)
+between : (es : List Placed) (first end i j k : ℕ) (e : Placed) → Starts es first i → Starts es end j → k < length es →
+    get_or es k e ≡ e → first ≤ e.cell → e.cell < end → (i ≤ k) × (k < j)
+between es first end i j k e s f lt at low high = grind (arith, s.0 k e, f.1 k e, cases_lt, ltb-true, ltb-false)
 
 -- from position i on, or from an earlier one
-pub in_range : (es : List Placed) (first last i n j : ℕ) → Starts es first i → Ends es last j → n ≤ i → j ≤ length es →
-    (e : Placed) → Contains es e → first ≤ e.cell → e.cell ≤ last → Contains (take (j - n) (drop n es)) e
-in_range es first last i n j s f few more e h low high =
-    let b = between es first last i j h.0 e s f h.1 h.2 low high in
+pub in_range : (es : List Placed) (first end i n j : ℕ) → Starts es first i → Starts es end j → n ≤ i → j ≤ length es →
+    (e : Placed) → Contains es e → first ≤ e.cell → e.cell < end → Contains (take (j - n) (drop n es)) e
+in_range es first end i n j s f few more e h low high =
+    let b = between es first end i j h.0 e s f h.1 h.2 low high in
     let k = h.0 - n in
     let on : n + k ≡ h.0 = omega (arith, b.0, few) in
     let long : length (take (j - n) (drop n es)) ≡ j - n = length-take-le (j - n) (drop n es) (omega (arith, length-drop n es, more)) in (
@@ -31,14 +28,14 @@ grid_more M F G es g more = grind (arith, more, g.placing.whole)
 
 -- ---- rows of a window
 
--- what was noted of the rows from `start` up to this one, in the columns from c0 to c1
+-- what was found in the rows from `start` up to this one, in the columns from c0 to c1
 pub record Rows (rival : ℕ → Bool) (es : List Placed) (start c0 c1 row : ℕ) (found : List ℕ) : Type 0 where
   pub sound : (v : ℕ) → Contains found v → IsTrue (rival v)
   pub whole : (e : Placed) (r : ℕ) → Contains es e → IsTrue (rival e.node) → start ≤ r → r < row →
       cell_at r c0 ≤ e.cell → e.cell ≤ cell_at r c1 → Contains found e.node
 
 pub rows_more : (rival : ℕ → Bool) (es near : List Placed) (start c0 c1 row : ℕ) (old new : List ℕ) → Rows rival es start c0 c1 row old →
-    Notes rival near old new →
+    AreAdded rival near old new →
     ((e : Placed) → Contains es e → cell_at row c0 ≤ e.cell → e.cell ≤ cell_at row c1 → Contains near e) →
     Rows rival es start c0 c1 (row + 1) new
 rows_more rival es near start c0 c1 row old new h n all =

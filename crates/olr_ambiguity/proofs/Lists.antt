@@ -1,23 +1,15 @@
--- Tests of a list's elements, one after another, and what is noted of them.
-use Rattle.olr_spec.proofs.Common.{◌≡◌, ◌≢◌, ℕ, suc, ◌+◌, ◌<◌, ◌⊎◌, inl, inr, Bool, true, false, not, ◌&&◌, ◌==◌, List}
-use Rattle.olr_spec.proofs.Common.{[], ◌∷◌, ◌++◌, filter, take, length, get_or, Contains, IsTrue, IsFalse, arith, sym}
-use Rattle.olr_spec.proofs.Common.{ap, ◌∙◌, subst, refl, ◌↔◌, eq-eqb, ne_eqb, cases_Bool, or_left, and_parts, both_ways}
-use Rattle.olr_spec.proofs.Common.{take_more, has, IsStrictlyIncreasing, Map, IsMap, has_line, has_node, coord_at}
-use Rattle.olr_spec.proofs.Common.{start, leg, Side, node_on, coordinate_on, ℤ, All, is_some, map, map-append}
-use Rattle.olr_spec.proofs.Common.{append_assoc, append-nil, length-take-le, Reference}
-use Rattle.std.specs.List.{list_any}
-use Rattle.std.proofs.lemmas.List.Elements.{Contains-push_cases, Contains-get_or}
-use Rattle.std.proofs.lemmas.List.Folds.{Any-from_list_any}
+-- Tests of a list's elements, one after another, and what is found by them.
+use Rattle.olr_ambiguity.proofs.Common.{◌≡◌, ◌≢◌, suc, ◌+◌, ◌<◌, ◌&&◌, ◌==◌, List, ◌++◌, take, subst, refl, IsMap, start, Side}
+use Rattle.olr_ambiguity.proofs.Common.{ℕ, ◌⊎◌, inl, inr, not, [], ◌∷◌, sym, ap, ◌∙◌, ◌↔◌, has, Map, leg, ℤ, All, map}
+use Rattle.olr_ambiguity.proofs.Common.{Bool, length-take-le, Contains-get_or, obstacles_from, all_nodes_ascend, same_ascending}
+use Rattle.olr_ambiguity.proofs.Common.{true, filter, length, get_or, IsTrue, eq-eqb, ne_eqb, is_some, side_at, in_from, Placed}
+use Rattle.olr_ambiguity.proofs.Common.{false, IsStrictlyIncreasing, Contains-push_cases, Any-from_list_any, is_outdone_for_all}
+use Rattle.olr_ambiguity.proofs.Common.{Contains, arith, has_line, has_node, coord_at, list_any, Outgoing, all_nodes, has_there}
+use Rattle.olr_ambiguity.proofs.Common.{and_parts, both_ways, take_more, Reference, Other_node, has-filter, exactly_in}
+use Rattle.olr_ambiguity.proofs.Common.{cases_Bool, map-append, append-nil, is_farther, usual_slack, Same_sector, exactly_out}
+use Rattle.olr_ambiguity.proofs.Common.{or_left, node_on, Incoming, is_rival, lines_on, Obstacle, has_here, has_from, AreAdded}
+use Rattle.olr_ambiguity.proofs.Common.{coordinate_on, append_assoc, decoded_coord, Other_bearing, obstacles_at, has-all_nodes}
 use Rattle.std.proofs.lemmas.List.Kept.{IsStrictlyIncreasing-filter}
-use Rattle.olr_spec.specs.Receiver.{Outgoing, Incoming, decoded_coord}
-use Rattle.olr_spec.specs.Ambiguity.{is_farther, usual_slack, is_outdone_for_all, is_rival, lines_on, all_nodes}
-use Rattle.olr_spec.specs.Ambiguity.{Obstacle, Same_sector, Other_bearing, Other_node, obstacles_at, obstacles_from}
-use Rattle.olr_spec.specs.Ambiguity.{side_at}
-use Rattle.olr_spec.proofs.ListLemmas.{has-filter, has_here, has_there}
-use Rattle.olr_spec.proofs.OrderLemmas.{exactly_in, exactly_out, has-all_nodes, all_nodes_ascend}
-use Rattle.olr_spec.proofs.SameNumbers.{has_from, in_from, same_ascending}
-use Rattle.olr_ambiguity.specs.declared.grid.Placed.{Placed}
-use Rattle.olr_ambiguity.specs.Grids.{Notes}
 
 pub none_any : (p : ℕ → Bool) (xs : List ℕ) → ((x : ℕ) → has xs x ≡ true → p x ≡ false) → list_any p xs ≡ false
 none_any p [] h = refl
@@ -38,7 +30,7 @@ lines_known M s w ys is =
     subst (λ (zs : List ℕ). All (λ y. IsTrue (has_line M y)) zs) (sym is)
     (λ k d lt. line_known M s w _ (has_from (lines_on s M w) _ (Contains-get_or (lines_on s M w) k d lt)))
 
-place_there : (M : Map) (s : Side) (y w : ℕ) → node_on s (leg M y) ≡ w → coordinate_on s (leg M y) ≡ coord_at M w
+pub place_there : (M : Map) (s : Side) (y w : ℕ) → node_on s (leg M y) ≡ w → coordinate_on s (leg M y) ≡ coord_at M w
 place_there M Outgoing y w e = ap (coord_at M) e
 place_there M Incoming y w e = ap (coord_at M) e
 
@@ -77,35 +69,22 @@ module _ (M : Map) (s : Side) (p : ℤ × ℤ) (x w : ℕ) where
       node_there m Outgoing y h = m.starts y h
       node_there m Incoming y h = m.ends y h
 
--- ---- noting
+-- ---- the rivals that were added
 
-pub notes_on : (rival : ℕ → Bool) (es : List Placed) (k : ℕ) (e : Placed) (old mid new : List ℕ) → k < length es → get_or es k e ≡ e →
-    Notes rival (take k es) old mid → IsTrue (rival e.node) →
-    ((n : ℕ) → Contains new n ↔ (Contains mid n ⊎ (n ≡ e.node))) → Notes rival (take (k + 1) es) old new
-notes_on rival es k e old mid new lt at h is more =
+pub added_more : (rival : ℕ → Bool) (es : List Placed) (k : ℕ) (e : Placed) (old mid new : List ℕ) → k < length es → get_or es k e ≡ e →
+    AreAdded rival (take k es) old mid → ((n : ℕ) → Contains new n ↔ (Contains mid n ⊎ ((n ≡ e.node) × IsTrue (rival e.node)))) →
+    AreAdded rival (take (k + 1) es) old new
+added_more rival es k e old mid new lt at h more =
     let next : take (k + 1) es ≡ take k es ++ e ∷ [] = take_more es k e lt ∙ ap (λ (f : Placed). take k es ++ f ∷ []) at in
     record {
       sound = λ v there. elim ((more v).0 there) [
         | inl before ↦ h.sound v before
-        | inr same ↦ inr (ap rival same ∙ is)
+        | inr is ↦ inr (ap rival is.0 ∙ is.1)
       ];
       kept = λ v there. (more v).1 (inl (h.kept v there));
       whole = λ f there r. elim (Contains-push_cases (take k es) e f (subst (λ (fs : List Placed). Contains fs f) next there)) [
         | inl before ↦ (more f.node).1 (inl (h.whole f before r))
-        | inr same ↦ (more f.node).1 (inr (ap (λ (g : Placed). g.node) (sym same)))
-      ];
-    }
-
-pub notes_past : (rival : ℕ → Bool) (es : List Placed) (k : ℕ) (e : Placed) (old mid : List ℕ) → k < length es → get_or es k e ≡ e →
-    Notes rival (take k es) old mid → IsFalse (rival e.node) → Notes rival (take (k + 1) es) old mid
-notes_past rival es k e old mid lt at h isnt =
-    let next : take (k + 1) es ≡ take k es ++ e ∷ [] = take_more es k e lt ∙ ap (λ (f : Placed). take k es ++ f ∷ []) at in
-    record {
-      sound = h.sound;
-      kept = h.kept;
-      whole = λ f there r. elim (Contains-push_cases (take k es) e f (subst (λ (fs : List Placed). Contains fs f) next there)) [
-        | inl before ↦ h.whole f before r
-        | inr same ↦ absurd (both_ways (rival f.node) (ap (λ (g : Placed). rival g.node) (sym same) ∙ isnt) r)
+        | inr same ↦ (more f.node).1 (inr (ap (λ (g : Placed). g.node) (sym same), ap (λ (g : Placed). rival g.node) same ∙ r))
       ];
     }
 

@@ -1,16 +1,10 @@
 -- The nodes in the windows of a reference's LRPs.
-use Rattle.olr_spec.proofs.Common.{◌≡◌, ◌∙◌, ◌+◌, ◌⊎◌, or_cases, take, ◌<◌, subst, ℕ, ℤ, List, Option, Some, sym, ap, slice_get, length, unwrap_or, Contains, IsTrue, IsFalse}
-use Rattle.olr_spec.proofs.Common.{le-leb, get_or, list_any_at, is_some, Coord, Map, IsMap, Reference, coord_at, has_node, leg, coordinate_on, no_coord}
-use Rattle.olr_spec.proofs.Common.{arith, and_from}
-use Rattle.std.proofs.lemmas.Option.{slice_get-get_or, slice_get_within}
-use Rattle.std.proofs.lemmas.List.Folds.{list_any_more}
-use Rattle.std.specs.FinMap.{get}
-use Rattle.std.specs.List.{list_any}
-use Rattle.olr_spec.proofs.OptionLemmas.{some_of}
-use Rattle.olr_spec.specs.Receiver.{decoded_coord}
-use Rattle.olr_spec.specs.Ambiguity.{is_farther, is_rival, side_at, usual_slack}
-use Rattle.olr_ambiguity.specs.declared.rivals.Window.{Window}
-use Rattle.olr_ambiguity.specs.Grids.{AreNodes, AreWindows, IsWindow, is_in}
+use Rattle.olr_ambiguity.proofs.Common.{◌≡◌, ◌∙◌, ◌+◌, ◌⊎◌, or_cases, take, ◌<◌, subst, ℕ, ℤ, List, Option, Some, sym, ap}
+use Rattle.olr_ambiguity.proofs.Common.{slice_get, length, unwrap_or, Contains, IsTrue, IsFalse, le-leb, get_or, list_any_at}
+use Rattle.olr_ambiguity.proofs.Common.{is_some, Coord, Map, IsMap, Reference, coord_at, has_node, leg, coordinate_on, no_coord}
+use Rattle.olr_ambiguity.proofs.Common.{arith, and_from, slice_get-get_or, slice_get_within, list_any_more, get, list_any}
+use Rattle.olr_ambiguity.proofs.Common.{some_of, decoded_coord, is_farther, is_rival, side_at, usual_slack, Window, AreNodes}
+use Rattle.olr_ambiguity.proofs.Common.{AreWindows, IsWindow, is_in}
 use Rattle.olr_ambiguity.proofs.Lists.{close, rival_known}
 
 in_window : (p : ℤ × ℤ) (c d : Coord) (w : Window) → IsWindow p c w → IsFalse (is_farther usual_slack p c d) → IsTrue (is_in w d)

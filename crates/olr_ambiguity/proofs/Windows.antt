@@ -1,12 +1,9 @@
 -- Each node that isn't farther by more than the slack is in the window.
-use Rattle.olr_spec.proofs.Common.{◌≡◌, ℕ, ◌+◌, ◌-◌, ◌*◌, ◌/◌, ◌<◌, ◌≤◌, ℤ, pos, negsuc, ◌+ℤ◌, ◌-ℤ◌, ◌≤ℤ◌, nat_abs}
-use Rattle.olr_spec.proofs.Common.{nat_lt, min, max, false, IsFalse, arith, ints, ◌∙◌, ltb-false, or_parts, mul-le}
-use Rattle.olr_spec.proofs.Common.{Coord, w128, to_z, to_z-of_z, ◌^◌}
-use Rattle.olr_bearing.proofs.Scaling.{held}
-use Rattle.std.proofs.Math.Nat.{div-mul-le_self, le-div_iff_mul-le, mul-le-mul_left, mul-le-mul_right, min-le_right}
-use Rattle.olr_spec.specs.Recovery.{lon_apart, lat_apart}
-use Rattle.olr_spec.specs.Ambiguity.{thousandths_up, cosine_up_to, least_cosine, is_farther, usual_slack}
-use Rattle.olr_ambiguity.specs.Grids.{cell_size, last_cell, part_above, cells_from, lowest_lat, lowest_lon}
+use Rattle.olr_ambiguity.proofs.Common.{◌≡◌, ℕ, ◌+◌, ◌-◌, ◌*◌, ◌/◌, ◌<◌, ◌≤◌, ℤ, pos, negsuc, ◌+ℤ◌, ◌-ℤ◌, ◌≤ℤ◌, nat_abs, nat_lt}
+use Rattle.olr_ambiguity.proofs.Common.{min, max, false, IsFalse, arith, ints, ◌∙◌, ap, ltb-false, or_parts, mul-le, Coord}
+use Rattle.olr_ambiguity.proofs.Common.{w128, to_z, to_z-of_z, ◌^◌, held, div-mul-le_self, le-div_iff_mul-le, mul-le-mul_left}
+use Rattle.olr_ambiguity.proofs.Common.{mul-le-mul_right, min-le_right, lon_apart, lat_apart, thousandths_up, cosine_up_to}
+use Rattle.olr_ambiguity.proofs.Common.{least_cosine, is_farther, usual_slack, cell_size, last_cell, part_above, cells_from}
 
 -- ---- cells
 
@@ -19,11 +16,19 @@ above_more (negsuc y) (negsuc z) h = omega arith
 div_more : (a b : ℕ) → a ≤ b → min (a / cell_size) last_cell ≤ min (b / cell_size) last_cell
 div_more a b h = omega (arith, h)
 
-pub cells_more : (low y z : ℤ) → y ≤ℤ z → cells_from low y ≤ cells_from low z
+cells_more : (low y z : ℤ) → y ≤ℤ z → cells_from low y ≤ cells_from low z
 cells_more low y z h = div_more (part_above (y -ℤ low)) (part_above (z -ℤ low)) (above_more (y -ℤ low) (z -ℤ low) (omega (arith, ints, h)))
 
 pub cells_few : (low z : ℤ) → cells_from low z ≤ last_cell
 cells_few low z = min-le_right (part_above (z -ℤ low) / cell_size) last_cell
+
+-- those within n of a coordinate
+pub cells_within : (low z d : ℤ) (n a b : ℕ) → nat_abs (z -ℤ d) ≤ n → a ≡ cells_from low (z -ℤ pos n) →
+    b ≡ cells_from low (z +ℤ pos n) → (a ≤ cells_from low d) × (cells_from low d ≤ b)
+cells_within low z d n a b h e f =
+    let down : (z -ℤ pos n) ≤ℤ d = omega (arith, ints, h) in
+    let up : d ≤ℤ (z +ℤ pos n) = omega (arith, ints, h) in
+    (omega (arith, e, cells_more low (z -ℤ pos n) d down), omega (arith, f, cells_more low d (z +ℤ pos n) up))
 
 -- ---- cosines
 
@@ -56,8 +61,11 @@ module _ (p : ℤ × ℤ) (c d : Coord) (near : IsFalse (is_farther usual_slack 
   parts : (nat_lt reach (lat_apart p d) ≡ false) × (nat_lt (1000000 * reach) (least_cosine p d * lon_apart p d) ≡ false)
   parts = or_parts (nat_lt reach (lat_apart p d)) (nat_lt (1000000 * reach) (least_cosine p d * lon_apart p d)) near
 
-  pub near_lat : lat_apart p d ≤ reach
+  near_lat : lat_apart p d ≤ reach
   near_lat = ltb-false reach (lat_apart p d) parts.0
+
+  pub lat_within : (z : ℤ) (n : ℕ) → z ≡ p.1 → n ≡ reach → nat_abs (z -ℤ d.lat) ≤ n
+  lat_within z n is far = omega (arith, ap (λ y. nat_abs (y -ℤ d.lat)) is, near_lat)
 
   near_lon : least_cosine p d * lon_apart p d ≤ 1000000 * reach
   near_lon = ltb-false (1000000 * reach) (least_cosine p d * lon_apart p d) parts.1
@@ -74,29 +82,11 @@ module _ (p : ℤ × ℤ) (c d : Coord) (near : IsFalse (is_farther usual_slack 
       let all : q * lon_apart p d ≤ least_cosine p d * lon_apart p d = mul-le-mul_right (lon_apart p d) least in
       omega (arith, all, near_lon)
 
-  pub row_within : (r0 r1 : ℕ) → r0 ≡ cells_from lowest_lat (p.1 -ℤ pos reach) → r1 ≡ cells_from lowest_lat (p.1 +ℤ pos reach) →
-      (r0 ≤ cells_from lowest_lat d.lat) × (cells_from lowest_lat d.lat ≤ r1)
-  row_within r0 r1 e f =
-      let low : (p.1 -ℤ pos reach) ≤ℤ d.lat = omega (arith, ints, near_lat) in
-      let high : d.lat ≤ℤ (p.1 +ℤ pos reach) = omega (arith, ints, near_lat) in (
-        omega (arith, e, cells_more lowest_lat (p.1 -ℤ pos reach) d.lat low),
-        omega (arith, f, cells_more lowest_lat d.lat (p.1 +ℤ pos reach) high),
-      )
-
-  pub column_within : (w c0 c1 : ℕ) → lon_apart p d ≤ w → c0 ≡ cells_from lowest_lon (p.0 -ℤ pos w) →
-      c1 ≡ cells_from lowest_lon (p.0 +ℤ pos w) → (c0 ≤ cells_from lowest_lon d.lon) × (cells_from lowest_lon d.lon ≤ c1)
-  column_within w c0 c1 h e f =
-      let low : (p.0 -ℤ pos w) ≤ℤ d.lon = omega (arith, ints, h) in
-      let high : d.lon ≤ℤ (p.0 +ℤ pos w) = omega (arith, ints, h) in (
-        omega (arith, e, cells_more lowest_lon (p.0 -ℤ pos w) d.lon low),
-        omega (arith, f, cells_more lowest_lon d.lon (p.0 +ℤ pos w) high),
-      )
+-- ---- numbers of 128 bits
 
 pub sum_within : (z : ℤ) (w a b : ℕ) → nat_abs z ≤ a → w ≤ b → nat_abs (z +ℤ pos w) ≤ a + b
 sum_within (pos n) w a b h g = omega (arith, ints, h, g)
 sum_within (negsuc n) w a b h g = grind (arith, ints, h, g)
-
--- ---- numbers of 128 bits
 
 pub held_small : (z : ℤ) → nat_abs z ≤ 10 ^ 31 → held w128 z ≡ z
 held_small z h = to_z-of_z w128 z (omega (arith, ints, h))

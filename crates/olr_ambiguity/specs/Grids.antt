@@ -6,8 +6,8 @@
 --     IsGridOf M F es, IsGrid M es      the same, in ascending order of cells; of all nodes
 --     HasRivals M s p x es, HasAllRivals M r xs es      a grid with each rival of line x at an LRP that is decoded as p; of
 --         the lines xs at all LRPs of a reference
---     Starts es first i, Ends es last j      where a range of cells starts and ends
---     Notes rival es old new      those of these nodes that are rivals were added
+--     Starts es first i      where the cells from the first on start
+--     AreAdded rival es old new      those of these nodes that are rivals were added
 --     IsWindow p c w      each node that isn't farther from p than one at c, by more than the slack, is in these rows and columns
 --     is_in w c      a coordinate's cell is in these rows and columns
 --     AreWindows M r xs ws      those of the lines xs at the LRPs of r
@@ -76,13 +76,9 @@ abbrev pub HasAllRivals : Map → Reference → List ℕ → List Placed → Typ
 HasAllRivals M r xs es =
     (k x : ℕ) → slice_get xs k ≡ Some x → HasRivals M (side_at r k) (decoded_coord r k) x es
 
--- the position of the first element in the cell `first` or a later one, and the one after the last in the cell `last` or an
--- earlier one
+-- the position of the first element in the cell `first` or a later one
 abbrev pub Starts : List Placed → ℕ → ℕ → Type 0
 Starts es first i = IsPartitionPoint (λ e. nat_lt e.cell first ≡ true) (λ e. nat_lt e.cell first ≡ false) es i
-
-abbrev pub Ends : List Placed → ℕ → ℕ → Type 0
-Ends es last j = IsPartitionPoint (λ e. nat_le e.cell last ≡ true) (λ e. nat_le e.cell last ≡ false) es j
 
 pub record IsWindow (p : ℤ × ℤ) (c : Coord) (w : Window) : Type 0 where
   pub rows : (d : Coord) → IsFalse (is_farther usual_slack p c d) →
@@ -107,7 +103,7 @@ AreNodes M ids places = (v : ℕ) (c : Coord) →
     (get M.nodes v ≡ Some c) ↔ ((k : ℕ) × (slice_get ids k ≡ Some (Some v)) × (slice_get places k ≡ Some c))
 
 -- those of these nodes that are rivals were added
-pub record Notes (rival : ℕ → Bool) (es : List Placed) (old new : List ℕ) : Type 0 where
+pub record AreAdded (rival : ℕ → Bool) (es : List Placed) (old new : List ℕ) : Type 0 where
   pub sound : (v : ℕ) → Contains new v → Contains old v ⊎ IsTrue (rival v)
   pub kept : (v : ℕ) → Contains old v → Contains new v
   pub whole : (e : Placed) → Contains es e → IsTrue (rival e.node) → Contains new e.node

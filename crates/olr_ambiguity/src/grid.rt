@@ -1,9 +1,9 @@
 //! The nodes of a map by the cell of a grid in which they are.
-ghost use Rattle.std.specs.Prelude.{◌≡◌, ◌≤◌, ◌^◌, nat_abs, length, All, Contains, IfOk, IsTrue};
+ghost use Rattle.std.specs.Prelude.{◌≡◌, ◌≤◌, ◌<◌, ◌*◌, ◌^◌, ◌-ℤ◌, ℤ, nat_abs, length, All, Contains, IfOk, IsTrue};
 ghost use Rattle.std.specs.List.Sorted.{IsNonDecreasingBy};
 ghost use Rattle.olr_spec.specs.Ambiguity.{all_nodes};
 ghost use Rattle.olr_spec.specs.Map.{has_node};
-ghost use Rattle.olr_ambiguity.specs.Grids.{Ends, IsGrid, IsGridOf, IsPlacing, Starts, cell_at, cell_of, cells_from, last_cell, lowest_lat, lowest_lon};
+ghost use Rattle.olr_ambiguity.specs.Grids.{IsGrid, IsGridOf, IsPlacing, Starts, cell_at, cell_of, cells_from, last_cell, lowest_lat, lowest_lon};
 
 use crate::own_line::coord_of;
 use olr_coords::Coord;
@@ -17,9 +17,9 @@ const COLUMNS: u64 = 2_097_152;
 /// The number of the last cell of a row, and of the last row.
 pub(crate) const LAST_CELL: u64 = 2_097_151;
 /// The lowest latitude, -90 degrees.
-const LOWEST_LAT: i128 = -29_491_200_000_000;
+pub(crate) const LOWEST_LAT: i128 = -29_491_200_000_000;
 /// The lowest longitude, -180 degrees.
-const LOWEST_LON: i128 = -58_982_400_000_000;
+pub(crate) const LOWEST_LON: i128 = -58_982_400_000_000;
 
 /// A node in its cell.
 #[derive(Clone, Copy)]
@@ -69,6 +69,18 @@ pub(crate) fn column_of(longitude: i128) -> u64
     cells_from(LOWEST_LON, longitude)
 }
 
+/// The first and the last of the cells within `reach` of `z`, at most 10^31, counted from `low`.
+pub(crate) fn cells_around(low: i128, z: i128, reach: u128) -> (u64, u64)
+    requires low { nat_abs low ≤ 10 ^ 14 }
+    requires z { nat_abs z ≤ 10 ^ 31 }
+    requires reach { reach ≤ 5 * 10 ^ 37 }
+    ensures around { (d : ℤ) → nat_abs (z -ℤ d) ≤ reach → (result.0 ≤ cells_from low d) × (cells_from low d ≤ result.1) }
+    ensures few { (result.0 ≤ last_cell) × (result.1 ≤ last_cell) }
+{
+    let reach = reach as i128;
+    (cells_from(low, z - reach), cells_from(low, z + reach))
+}
+
 /// The number of a cell.
 pub(crate) fn cell_at(row: u64, column: u64) -> u64
     requires row { row ≤ last_cell }
@@ -114,15 +126,6 @@ fn start_of(nodes: &[Placed], first: u64) -> usize
     nodes.partition_point(|node| node.cell < first)
 }
 
-/// The position after the last node whose cell is at most `last`.
-fn end_of(nodes: &[Placed], last: u64) -> usize
-    requires { IsNonDecreasingBy (λ e. e.cell) nodes.now }
-    ensures bound { result ≤ length nodes.now }
-    ensures ends { Ends nodes.now last result }
-{
-    nodes.partition_point(|node| node.cell <= last)
-}
-
 impl Grid {
     /// The grid of a map, by the numbers of all its nodes in ascending order.
     pub fn new<M: MapRead>(alloc: Global, map: &M, ids: &[NodeId]) -> Result<Grid, AllocError>
@@ -142,15 +145,15 @@ impl Grid {
         Ok(Grid { nodes })
     }
 
-    /// The nodes whose cells are from `first` to `last`.
-    pub(crate) fn within(&self, first: u64, last: u64) -> &[Placed]
+    /// The nodes whose cells are from `first` on and before `end`.
+    pub(crate) fn within(&self, first: u64, end: u64) -> &[Placed]
         requires { IsNonDecreasingBy (λ e. e.cell) self.now.nodes.items }
         ensures some { (e : Placed) → Contains result.now e → Contains self.now.nodes.items e }
-        ensures all { (e : Placed) → Contains self.now.nodes.items e → first ≤ e.cell → e.cell ≤ last → Contains result.now e }
+        ensures all { (e : Placed) → Contains self.now.nodes.items e → first ≤ e.cell → e.cell < end → Contains result.now e }
     {
         let nodes = self.nodes.as_slice();
         let start = start_of(nodes, first);
-        let end = end_of(nodes, last);
+        let end = start_of(nodes, end);
         &nodes[start.min(end)..end]
     }
 }

@@ -94,15 +94,12 @@ fn node_on<M: MapRead>(map: &M, side: Side, id: LineId) -> NodeId
 }
 
 /// The coordinate of a candidate's node.
+#[tactic(auto, using(crate::proofs::Lists::place_there))]
 pub(crate) fn coordinate_on<M: MapRead>(map: &M, side: Side, id: LineId) -> Coord
     requires { IsTrue (has_line (M.map map.now) id) }
     ensures { result ≡ coordinate_on (side_of side) (leg (M.map map.now) id) }
 {
-    let line = line_of(map, id);
-    match side {
-        Side::Outgoing => coord_of(map, line.from),
-        Side::Incoming => coord_of(map, line.to),
-    }
+    coord_of(map, node_on(map, side, id))
 }
 
 /// The direction of a candidate at its node.

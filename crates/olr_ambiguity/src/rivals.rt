@@ -5,12 +5,12 @@ ghost use Rattle.olr_spec.specs.Map.{coord_at, has_line, has_node};
 ghost use Rattle.olr_spec.specs.Recovery.{lat_apart, lon_apart};
 ghost use Rattle.olr_spec.specs.Reference.{leg};
 ghost use Rattle.olr_spec.specs.Ambiguity.{all_nodes, is_outdone_for_all, is_rival, usual_slack};
-ghost use Rattle.olr_ambiguity.specs.Grids.{ArePlaced, HasRivals, IsWindow, Notes};
+ghost use Rattle.olr_ambiguity.specs.Grids.{AreAdded, ArePlaced, HasRivals, IsWindow};
 ghost use Rattle.olr_ambiguity.specs.OwnLines.{IsOwnLine, side_of};
 ghost use Rattle.olr_ambiguity.specs.Places.{IsPlaced, place_of};
 
 use crate::decoded::DecodedPlace;
-use crate::grid::{Grid, LAST_CELL, Placed, cell_at, column_of, row_of};
+use crate::grid::{Grid, LAST_CELL, LOWEST_LAT, LOWEST_LON, Placed, cell_at, cells_around};
 use crate::measures::{ONE, SLACK, cosine_up_to, is_farther, lat_apart, lon_apart};
 use crate::own_line::{OwnLine, is_outdone, lines_on};
 use olr_coords::Coord;
@@ -51,21 +51,15 @@ pub(crate) fn window_of(place: DecodedPlace, here: Coord) -> Window
 {
     let reach = reach_of(place, here);
     let cosine = cosine_up_to(place.lat.unsigned_abs() + reach);
-    let rows = (
-        row_of(place.lat - reach as i128),
-        row_of(place.lat + reach as i128),
-    );
+    let rows = cells_around(LOWEST_LAT, place.lat, reach);
     if cosine == 0 {
         return Window {
             rows,
             columns: (0, LAST_CELL),
         };
     }
-    let wide = widened(reach, cosine) as i128;
-    Window {
-        rows,
-        columns: (column_of(place.lon - wide), column_of(place.lon + wide)),
-    }
+    let columns = cells_around(LOWEST_LON, place.lon, widened(reach, cosine));
+    Window { rows, columns }
 }
 
 /// Whether one of these candidates isn't outdone by the own line.
@@ -99,7 +93,7 @@ fn is_rival<M: MapRead>(map: &M, own: &OwnLine, node: NodeId, place: Coord) -> b
 }
 
 /// Adds those of these nodes that are rivals.
-fn note_rivals<M: MapRead>(
+fn add_rivals<M: MapRead>(
     map: &M,
     own: &OwnLine,
     nodes: &[Placed],
@@ -107,7 +101,7 @@ fn note_rivals<M: MapRead>(
 ) -> Result<(), AllocError>
     requires own { IsOwnLine (M.map map.now) own.now }
     requires right { ArePlaced (M.map map.now) nodes.now }
-    ensures { OnOk result (Notes (is_rival (M.map map.now) (side_of own.now.side) (place_of own.now.place) own.now.id)
+    ensures { OnOk result (AreAdded (is_rival (M.map map.now) (side_of own.now.side) (place_of own.now.place) own.now.id)
         nodes.now found.old found.new) }
 {
     for near in nodes {
@@ -136,8 +130,8 @@ pub(crate) fn rivals<M: MapRead>(
     let window = window_of(place, here);
     let (first, last) = window.columns;
     for row in window.rows.0..window.rows.1 + 1 {
-        let nodes = grid.within(cell_at(row, first), cell_at(row, last));
-        note_rivals(map, own, nodes, &mut found)?;
+        let nodes = grid.within(cell_at(row, first), cell_at(row, last) + 1);
+        add_rivals(map, own, nodes, &mut found)?;
     }
     // For the proof alone: the nodes ascend.
     let _ascending = found.as_slice();

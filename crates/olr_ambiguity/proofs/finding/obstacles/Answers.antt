@@ -1,5 +1,4 @@
-use Rattle.olr_spec.specs.Receiver.{decoded_coord}
-use Rattle.olr_spec.specs.Ambiguity.{side_at}
+use Rattle.olr_ambiguity.proofs.Common.{decoded_coord, side_at}
 use Rattle.olr_ambiguity.proofs.Cells.{grid_more}
 use Rattle.olr_ambiguity.proofs.Lists.{rival_known}
 use Rattle.olr_ambiguity.proofs.finding.obstacles.Goals as goal

@@ -1,9 +1,5 @@
-use Rattle.olr_spec.proofs.Common.{◌≡◌, ◌∙◌, ◌++◌, length, refl, sym, ap, get_or, get_or_default, arith}
-use Rattle.olr_spec.specs.Receiver.{decoded_coord}
-use Rattle.olr_spec.specs.Ambiguity.{obstacles_at, side_at}
-use Rattle.std.proofs.lemmas.Option.{slice_get_read}
-use Rattle.olr_ambiguity.specs.OwnLines.{side_of}
-use Rattle.olr_ambiguity.specs.Places.{place_of}
+use Rattle.olr_ambiguity.proofs.Common.{◌≡◌, ◌∙◌, ◌++◌, length, refl, sym, ap, get_or, get_or_default, arith, decoded_coord}
+use Rattle.olr_ambiguity.proofs.Common.{obstacles_at, side_at, slice_get_read, side_of, place_of}
 use Rattle.olr_ambiguity.proofs.Lists.{one_more, numbered}
 use Rattle.olr_ambiguity.proofs.finding.obstacles_by.Goals as goal
 

@@ -1,6 +1,4 @@
-use Rattle.olr_spec.proofs.Common.{◌≡◌, map, take}
-use Rattle.olr_spec.specs.Ambiguity.{obstacles_from}
-use Rattle.olr_answers.specs.Ambiguities.{found_of}
+use Rattle.olr_ambiguity.proofs.Common.{◌≡◌, map, take, obstacles_from, found_of}
 use Rattle.olr_ambiguity.proofs.finding.obstacles_by.Given as goal
 
 -- the ambiguities at the LRPs so far

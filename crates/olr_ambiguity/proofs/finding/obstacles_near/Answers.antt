@@ -1,7 +1,4 @@
-use Rattle.olr_spec.proofs.Common.{ℕ, List, Contains, get_or, sym, subst}
-use Rattle.std.proofs.lemmas.List.Elements.{Contains-get_or}
-use Rattle.olr_ambiguity.specs.declared.rivals.Window.{Window}
-use Rattle.olr_ambiguity.specs.Grids.{AreWindows}
+use Rattle.olr_ambiguity.proofs.Common.{ℕ, List, Contains, get_or, sym, subst, Contains-get_or, Window, AreWindows}
 use Rattle.olr_ambiguity.proofs.Cells.{grid_more}
 use Rattle.olr_ambiguity.proofs.NearNodes.{in_slot, rival_near}
 use Rattle.olr_ambiguity.proofs.finding.obstacles_near.Goals as goal

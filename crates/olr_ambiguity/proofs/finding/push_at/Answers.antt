@@ -1,8 +1,6 @@
-use Rattle.olr_spec.proofs.Common.{◌≡◌, ◌∙◌, List, ℕ, ap, filter, map, leg, node_on, ◌++◌}
-use Rattle.olr_spec.specs.Ambiguity.{Other_bearing, Other_node, Same_sector, all_nodes, is_rival, is_twin_of, is_unclear, lines_on}
-use Rattle.olr_ambiguity.specs.Places.{place_of}
-use Rattle.olr_answers.specs.Ambiguities.{found_of}
-use Rattle.olr_ambiguity.specs.OwnLines.{side_of}
+use Rattle.olr_ambiguity.proofs.Common.{◌≡◌, ◌∙◌, List, ℕ, ap, filter, map, leg, node_on, ◌++◌, Other_bearing, Other_node}
+use Rattle.olr_ambiguity.proofs.Common.{Same_sector, all_nodes, is_rival, lines_on, place_of, found_of, side_of}
+use Rattle.olr_spec.specs.Ambiguity.{is_twin_of, is_unclear}
 use Rattle.olr_ambiguity.proofs.Lists.{joined_at, each}
 use Rattle.olr_ambiguity.proofs.finding.push_at.Goals as goal
 

@@ -1,7 +1,5 @@
-use Rattle.olr_spec.proofs.Common.{◌≡◌, ◌++◌, map, filter, take}
-use Rattle.olr_answers.specs.Ambiguities.{found_of}
+use Rattle.olr_ambiguity.proofs.Common.{◌≡◌, ◌++◌, map, filter, take, found_of, side_of}
 use Rattle.olr_ambiguity.specs.Causes.{applies, named}
-use Rattle.olr_ambiguity.specs.OwnLines.{side_of}
 use Rattle.olr_ambiguity.proofs.finding.push_lines.Given as goal
 
 -- those of the lines so far

@@ -1,6 +1,4 @@
-use Rattle.olr_spec.proofs.Common.{◌≡◌, ◌++◌, map, take}
-use Rattle.olr_spec.specs.Ambiguity.{Other_node}
-use Rattle.olr_answers.specs.Ambiguities.{found_of}
+use Rattle.olr_ambiguity.proofs.Common.{◌≡◌, ◌++◌, map, take, Other_node, found_of}
 use Rattle.olr_ambiguity.proofs.finding.push_nodes.Given as goal
 
 -- the nodes so far

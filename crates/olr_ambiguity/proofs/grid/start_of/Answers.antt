@@ -1,7 +1,5 @@
-use Rattle.std.proofs.Common.{rules}
-use Rattle.olr_spec.proofs.Common.{nat_lt}
+use Rattle.olr_ambiguity.proofs.Common.{rules, nat_lt, Placed}
 use Rattle.std.proofs.lemmas.List.Sorted.{IsPartitionPoint-from_clause, IsPartitionedBy-ltb}
-use Rattle.olr_ambiguity.specs.declared.grid.Placed.{Placed}
 use Rattle.olr_ambiguity.proofs.grid.start_of.Goals as goal
 
 pub returns-clause-starts : goal.returns-clause-starts

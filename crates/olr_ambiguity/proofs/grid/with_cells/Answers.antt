@@ -1,7 +1,6 @@
-use Rattle.olr_spec.proofs.Common.{◌≡◌, ◌∙◌, ◌++◌, ◌∷◌, [], ℕ, List, Contains, IsTrue, inl, inr, has_node, coord_at, ap, sym, subst, arith, cases_lt, get_or, get_or_default}
-use Rattle.std.proofs.lemmas.List.Elements.{Contains-push, Contains-push_cases, Contains-append_left}
-use Rattle.olr_ambiguity.specs.declared.grid.Placed.{Placed}
-use Rattle.olr_ambiguity.specs.Grids.{cell_of}
+use Rattle.olr_ambiguity.proofs.Common.{◌≡◌, ◌∙◌, ◌++◌, ◌∷◌, [], ℕ, List, Contains, IsTrue, inl, inr, has_node, coord_at, ap}
+use Rattle.olr_ambiguity.proofs.Common.{sym, subst, arith, cases_lt, get_or, get_or_default, Contains-push, Contains-push_cases}
+use Rattle.olr_ambiguity.proofs.Common.{Contains-append_left, Placed, cell_of}
 use Rattle.olr_ambiguity.proofs.grid.with_cells.Goals as goal
 
 pub coord_of-place-requires : goal.coord_of-place-requires

@@ -1,6 +1,4 @@
-use Rattle.olr_spec.proofs.Common.{◌≡◌, ℕ, ◌<◌, get_or, Contains}
-use Rattle.olr_ambiguity.specs.declared.grid.Placed.{Placed}
-use Rattle.olr_ambiguity.specs.Grids.{ArePlaced}
+use Rattle.olr_ambiguity.proofs.Common.{◌≡◌, ℕ, ◌<◌, get_or, Contains, Placed, ArePlaced}
 use Rattle.olr_ambiguity.proofs.grid.with_cells.Given as goal
 
 -- the nodes so far

@@ -1,4 +1,4 @@
-use Rattle.std.proofs.Common.{rules}
+use Rattle.olr_ambiguity.proofs.Common.{rules}
 use Rattle.olr_ambiguity.proofs.NearNodes.{in_next}
 use Rattle.olr_ambiguity.proofs.near.hull_of.Goals as goal
 

@@ -1,6 +1,4 @@
-use Rattle.olr_spec.proofs.Common.{IsTrue, take, Coord}
-use Rattle.std.specs.List.{list_any}
-use Rattle.olr_ambiguity.specs.Grids.{is_in}
+use Rattle.olr_ambiguity.proofs.Common.{IsTrue, take, Coord, list_any, is_in}
 use Rattle.olr_ambiguity.proofs.near.hull_of.Given as goal
 
 -- of the windows so far

@@ -1,7 +1,5 @@
-use Rattle.olr_spec.proofs.Common.{◌≡◌, ◌∙◌, inl, inr, Some, refl, sym, ap, arith, cases_lt, length, slice_get, Coord}
-use Rattle.std.proofs.lemmas.Option.{get_or_from_slice_get, slice_get_read, slice_get_within}
-use Rattle.std.specs.List.{list_any}
-use Rattle.olr_ambiguity.specs.Grids.{is_in}
+use Rattle.olr_ambiguity.proofs.Common.{◌≡◌, ◌∙◌, inl, inr, Some, refl, sym, ap, arith, cases_lt, length, slice_get, Coord}
+use Rattle.olr_ambiguity.proofs.Common.{get_or_from_slice_get, slice_get_read, slice_get_within, list_any, is_in}
 use Rattle.olr_ambiguity.proofs.near.nodes_in.Goals as goal
 
 pub loop-k-preserved : goal.loop-k-preserved

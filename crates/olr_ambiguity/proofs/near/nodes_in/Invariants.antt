@@ -1,6 +1,4 @@
-use Rattle.olr_spec.proofs.Common.{◌≡◌, ◌<◌, ℕ, Contains, IsTrue, Some, slice_get, Coord}
-use Rattle.std.specs.List.{list_any}
-use Rattle.olr_ambiguity.specs.Grids.{is_in}
+use Rattle.olr_ambiguity.proofs.Common.{◌≡◌, ◌<◌, ℕ, Contains, IsTrue, Some, slice_get, Coord, list_any, is_in}
 use Rattle.olr_ambiguity.proofs.near.nodes_in.Given as goal
 
 -- those in the slots so far

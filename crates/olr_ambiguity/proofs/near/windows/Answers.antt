@@ -1,12 +1,6 @@
-use Rattle.olr_spec.proofs.Common.{◌≡◌, ◌∙◌, ◌++◌, ◌∷◌, [], ℤ, List, inl, inr, sym, ap, subst, arith, cases_lt, slice_get, Contains, Coord, leg, coordinate_on}
-use Rattle.std.proofs.lemmas.List.Elements.{Contains-push, Contains-append_left}
-use Rattle.std.proofs.lemmas.Option.{get_or_from_slice_get, slice_get_within}
-use Rattle.olr_spec.specs.Receiver.{decoded_coord}
-use Rattle.olr_spec.specs.Ambiguity.{side_at}
-use Rattle.olr_ambiguity.specs.declared.rivals.Window.{Window}
-use Rattle.olr_ambiguity.specs.Grids.{IsWindow}
-use Rattle.olr_ambiguity.specs.OwnLines.{side_of}
-use Rattle.olr_ambiguity.specs.Places.{place_of}
+use Rattle.olr_ambiguity.proofs.Common.{◌≡◌, ◌∙◌, ◌++◌, ◌∷◌, [], ℤ, List, inl, inr, sym, ap, subst, arith, Coord, leg, Window}
+use Rattle.olr_ambiguity.proofs.Common.{cases_lt, Contains, Contains-push, decoded_coord, side_at, IsWindow, side_of, place_of}
+use Rattle.olr_ambiguity.proofs.Common.{slice_get, coordinate_on, Contains-append_left, get_or_from_slice_get, slice_get_within}
 use Rattle.olr_ambiguity.proofs.near.windows.Goals as goal
 
 pub loop-k-preserved : goal.loop-k-preserved

@@ -1,8 +1,5 @@
-use Rattle.olr_spec.proofs.Common.{◌≡◌, ◌<◌, ℕ, Contains, Some, slice_get, coordinate_on, leg}
-use Rattle.olr_spec.specs.Receiver.{decoded_coord}
-use Rattle.olr_spec.specs.Ambiguity.{side_at}
-use Rattle.olr_ambiguity.specs.declared.rivals.Window.{Window}
-use Rattle.olr_ambiguity.specs.Grids.{IsWindow}
+use Rattle.olr_ambiguity.proofs.Common.{◌≡◌, ◌<◌, ℕ, Contains, Some, slice_get, coordinate_on, leg, decoded_coord, side_at}
+use Rattle.olr_ambiguity.proofs.Common.{Window, IsWindow}
 use Rattle.olr_ambiguity.proofs.near.windows.Given as goal
 
 -- of the lines so far

@@ -1,4 +1,4 @@
-use Rattle.olr_spec.specs.Receiver.{Outgoing, Incoming}
+use Rattle.olr_ambiguity.proofs.Common.{Outgoing, Incoming}
 use Rattle.olr_ambiguity.proofs.Lists.{lines_known}
 use Rattle.olr_ambiguity.proofs.own_line.lines_on.Goals as goal
 

@@ -1,8 +1,4 @@
-use Rattle.olr_spec.proofs.Common.{◌≡◌, false, not, take, leg}
-use Rattle.std.specs.List.{list_any}
-use Rattle.olr_spec.specs.Ambiguity.{is_outdone_for_all}
-use Rattle.olr_ambiguity.specs.OwnLines.{side_of}
-use Rattle.olr_ambiguity.specs.Places.{place_of}
+use Rattle.olr_ambiguity.proofs.Common.{◌≡◌, false, not, take, leg, list_any, is_outdone_for_all, side_of, place_of}
 use Rattle.olr_ambiguity.proofs.rivals.has_rival.Given as goal
 
 -- each line so far is outdone

@@ -1,8 +1,5 @@
-use Rattle.olr_spec.proofs.Common.{◌≢◌, ◌==◌, ◌∙◌, List, ℕ, not, sym, ap, eq-eqb, eqb-true, both_ways, leg}
-use Rattle.std.specs.List.{list_any}
-use Rattle.olr_spec.specs.Ambiguity.{is_farther, usual_slack, is_outdone_for_all}
-use Rattle.olr_ambiguity.specs.OwnLines.{side_of}
-use Rattle.olr_ambiguity.specs.Places.{place_of}
+use Rattle.olr_ambiguity.proofs.Common.{◌≢◌, ◌==◌, ◌∙◌, List, ℕ, not, sym, ap, eq-eqb, eqb-true, both_ways, leg, list_any}
+use Rattle.olr_ambiguity.proofs.Common.{is_farther, usual_slack, is_outdone_for_all, side_of, place_of}
 use Rattle.olr_ambiguity.proofs.Lists.{not_itself, by_lines, not_far}
 use Rattle.olr_ambiguity.proofs.rivals.is_rival.Goals.{then-eq-via-then-eq, then-eq-via-else-eq+then-is_farther}
 use Rattle.olr_ambiguity.proofs.rivals.is_rival.Goals as goal

@@ -1,7 +1,5 @@
-use Rattle.olr_spec.proofs.Common.{◌≡◌, false, subst, sym, arith, coord_at, Coord}
-use Rattle.olr_spec.specs.Ambiguity.{is_farther, is_rival, usual_slack}
-use Rattle.olr_ambiguity.specs.OwnLines.{side_of}
-use Rattle.olr_ambiguity.specs.Places.{place_of}
+use Rattle.olr_ambiguity.proofs.Common.{◌≡◌, false, subst, sym, arith, coord_at, Coord, is_farther, is_rival, usual_slack}
+use Rattle.olr_ambiguity.proofs.Common.{side_of, place_of}
 use Rattle.olr_ambiguity.proofs.Cells.{rows_more, whole_window}
 use Rattle.olr_ambiguity.proofs.Lists.{all_found, rival_known, close}
 use Rattle.olr_ambiguity.proofs.rivals.rivals.Goals as goal
@@ -12,7 +10,7 @@ loop-row-preserved g c =
     let o = c.args.own.now in
     let w = c.window_of-window.result in
     rows_more (is_rival M (side_of o.side) (place_of o.place) o.id) c.args.grid.now.nodes.items c.within-nodes.result.now w.rows.0
-    w.columns.0 w.columns.1 c.loop-row.row c.loop-row.found c.note_rivals.new.found c.loop-row.invariant c.in_ok-note_rivals.ensures
+    w.columns.0 w.columns.1 c.loop-row.row c.loop-row.found c.add_rivals.new.found c.loop-row.invariant c.in_ok-add_rivals.ensures
     (λ e h low high. c.within-nodes.ensures.all e h (omega (arith, c.cell_at.ensures, low)) (omega (arith, c.cell_at-in-loop-row.ensures, high)))
 
 pub returns : goal.returns

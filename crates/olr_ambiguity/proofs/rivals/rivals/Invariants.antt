@@ -1,6 +1,4 @@
-use Rattle.olr_spec.specs.Ambiguity.{is_rival}
-use Rattle.olr_ambiguity.specs.OwnLines.{side_of}
-use Rattle.olr_ambiguity.specs.Places.{place_of}
+use Rattle.olr_ambiguity.proofs.Common.{is_rival, side_of, place_of}
 use Rattle.olr_ambiguity.proofs.Cells.{Rows}
 use Rattle.olr_ambiguity.proofs.rivals.rivals.Given as goal
 

@@ -1,7 +1,4 @@
-use Rattle.olr_spec.proofs.Common.{◌∙◌, List, ℕ, ap, sym, get_or, has}
-use Rattle.olr_spec.proofs.OrderLemmas.{has-all_nodes}
-use Rattle.olr_spec.proofs.SameNumbers.{has_from, in_from}
-use Rattle.std.proofs.lemmas.List.Elements.{Contains-get_or}
+use Rattle.olr_ambiguity.proofs.Common.{◌∙◌, List, ℕ, ap, sym, get_or, has, has-all_nodes, has_from, in_from, Contains-get_or}
 use Rattle.std.proofs.lemmas.Result.{IfOk-weaker}
 use Rattle.olr_ambiguity.proofs.Cells.{grid_more}
 use Rattle.olr_ambiguity.proofs.grid.Grid.new.Goals as goal
