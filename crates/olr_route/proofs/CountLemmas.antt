@@ -1,12 +1,9 @@
 -- The nodes that a search has settled, and their number.
-use Rattle.olr_route.proofs.Common.{◌==◌, ℕ, List, Contains, sym, ap, ◌∙◌, inl, inr, arith, ◌≢◌, ◌≤◌, nat_le, filter}
-use Rattle.olr_route.proofs.Common.{Map, AreFilled, AreNodesIn, label_of, IsSearch, LiesWithin, Direction, Dijkstra}
-use Rattle.olr_route.proofs.Common.{Bool, ◌↔◌, AreApart, Counts}
-use Rattle.std.proofs.lemmas.Bool.{and_from, and_parts, eqb-true, le-leb, leb-true}
-use Rattle.std.proofs.lemmas.Bool.Decides.{Decides-eqb}
-use Rattle.std.proofs.lemmas.Map.Made.{is_member-Decides, is_member-filter}
-use Rattle.std.specs.Cmp.{nat_eq_equiv}
-use Rattle.std.specs.Set.{is_member}
+use Rattle.olr_route.proofs.Common.{ℕ, List, Contains, sym, ◌∙◌, inl, inr, arith, ◌≢◌, ◌≤◌, nat_le, filter, Map, AreFilled}
+use Rattle.olr_route.proofs.Common.{AreNodesIn, label_of, IsSearch, LiesWithin, Direction, Dijkstra, Bool, ◌↔◌, AreApart}
+use Rattle.olr_route.proofs.Common.{Counts, has_from, in_from, has}
+use Rattle.std.proofs.lemmas.Bool.{and_from, and_parts, le-leb, leb-true}
+use Rattle.olr_spec.proofs.ListLemmas.{has-filter}
 use Rattle.std.proofs.lemmas.List.Kept.{AllPairs-filter}
 use Rattle.olr_route.proofs.DistinctLemmas.{nodes_of, slot_in, node_in, nodes_distinct, as_many_nodes}
 use Rattle.olr_route.proofs.SearchLemmas.{labelled_listed, label_is, is_distance, distance_node}
@@ -40,13 +37,12 @@ module _ (M : Map) (slot : ℕ → ℕ) (direction : Direction) (from : List (�
   near_slots_exactly p =
       let reached = s.frontier.reached.items in
       let test : ℕ → Bool = λ q. nat_le (label_of s.frontier q) s.limit in
-      let listed = is_member-Decides Decides-eqb reached p in
-      let within = is_member-Decides Decides-eqb near_slots p in
-      let same = is_member-filter nat_eq_equiv test p (λ x is. ap test (eqb-true p x is)) reached in
+      let both = has-filter test reached p in
       let small = h.small in (
-        λ c. leb-true (label_of s.frontier p) s.limit (and_parts (is_member ◌==◌ reached p) (test p) (sym same ∙ within.1 c)).1,
-        λ le. within.0
-            (same ∙ and_from (is_member ◌==◌ reached p) (test p) (listed.1 (labelled_listed s.frontier p (omega arith))) (le-leb (label_of s.frontier p) s.limit le)),
+        λ c. leb-true (label_of s.frontier p) s.limit (and_parts (test p) (has reached p) (sym both ∙ has_from near_slots p c)).0,
+        λ le.
+            let listed = has_from reached p (labelled_listed s.frontier p (omega arith)) in
+            in_from near_slots p (both ∙ and_from (test p) (has reached p) (le-leb (label_of s.frontier p) s.limit le) listed),
       )
 
   -- each slot with a label has a node

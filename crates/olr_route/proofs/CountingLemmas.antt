@@ -1,18 +1,15 @@
 -- The map as it counts for one line more, as a search sees it.
-use Rattle.olr_route.proofs.Common.{◌≡◌, ◌≢◌, ℕ, ◌+◌, ◌<◌, ◌≤◌, List, [], ◌∷◌, ◌++◌, IsTrue, true, false, ap, sym}
-use Rattle.olr_route.proofs.Common.{subst, inl, inr, arith, ◌∙◌, refl, cases_eq, Map, IsMap, has_node, has_line, has}
-use Rattle.olr_route.proofs.Common.{start, end, dm, label_of, IsSearch, Along, Dijkstra, IsOver, IsSearchedAs, MayCount}
-use Rattle.olr_route.proofs.Common.{AreFit, ◌==◌, cond, ne_eqb, positive, line_short, UniqueShortest, IsOnlyPredecessor}
-use Rattle.olr_route.proofs.Common.{Frontier, IsRoute, IsRoute-split, dm_of, dm_of-append, length, length-append}
+use Rattle.olr_route.proofs.Common.{◌≡◌, ◌≢◌, ◌↔◌, ℕ, ◌+◌, ◌<◌, ◌≤◌, List, [], ◌∷◌, ◌++◌, IsTrue, true, ap, sym, subst, inl}
+use Rattle.olr_route.proofs.Common.{inr, arith, ◌∙◌, refl, cases_eq, Map, IsMap, has_node, has_line, has, start, end, dm}
+use Rattle.olr_route.proofs.Common.{label_of, IsSearch, Along, Dijkstra, IsOver, IsSearchedAs, MayCount, AreFit, ◌==◌, cond}
+use Rattle.olr_route.proofs.Common.{ne_eqb, positive, line_short, UniqueShortest, IsOnlyPredecessor, Frontier, IsRoute}
+use Rattle.olr_route.proofs.Common.{IsRoute-split, dm_of, dm_of-append, length, length-append, cases_Bool, eq-eqb, false≢true}
+use Rattle.olr_route.proofs.Common.{append_assoc, Margin, counted, counted_dm, is_margin, ResolvedLine}
 use Rattle.std.proofs.Math.Nat.{mul-le-mul_left}
-use Rattle.std.proofs.lemmas.Bool.{cases_Bool, eq-eqb, false≢true}
-use Rattle.std.proofs.lemmas.List.{append_assoc}
 use Rattle.std.proofs.lemmas.List.Folds.{list_any-append}
-use Rattle.olr_spec.specs.Margins.{Margin, counted, counted_dm, is_margin}
-use Rattle.olr_spec.proofs.CountedLemmas.{counted_known, counted_start, counted_end, counted_other, counted_own}
-use Rattle.olr_spec.proofs.CountedLemmas.{counted_least, get_counted}
+use Rattle.olr_spec.proofs.CountedLemmas.{counted_known, counted_start, counted_end, counted_other, counted_own, counted_least}
+use Rattle.olr_spec.proofs.CountedLemmas.{get_counted}
 use Rattle.olr_route.proofs.RouteEnds.{last_step}
-use Rattle.olr_route.specs.ResolvedLines.{ResolvedLine}
 use Rattle.olr_route.proofs.MarkLemmas.{marked}
 use Rattle.olr_route.proofs.UniqueLemmas.{reported}
 
@@ -145,10 +142,8 @@ module _ (g : Margin) (M : Map) (slot : ℕ → ℕ) (x : ℕ) (route : List ℕ
   pub reported_as : (s b : ℕ) (q : Dijkstra) → IsSearch N slot Along ((s, b) ∷ []) q → (len : ℕ) → len ≡ dm N x →
       UniqueShortest N s (start M x) route → b + (dm_of N route + len) ≤ q.limit + 1 → (near length : ℕ) →
       near ≡ label_of q.frontier (slot (start M x)) → length ≡ label_of q.frontier (slot (end M x)) →
-      (near + len ≡ length → IsOnlyPredecessor M slot q.frontier x (end M x) length →
-      UniqueShortest N s (end M x) (route ++ x ∷ []))
-      × (UniqueShortest N s (end M x) (route ++ x ∷ []) →
-      (near + len ≡ length) × IsOnlyPredecessor M slot q.frontier x (end M x) length)
+      ((near + len ≡ length) × IsOnlyPredecessor M slot q.frontier x (end M x) length)
+      ↔ UniqueShortest N s (end M x) (route ++ x ∷ [])
   reported_as s b q h len is unique short near length is_near is_length =
       let xs = route ++ x ∷ [] in
       let from = counted_start g M xs x in
@@ -158,7 +153,7 @@ module _ (g : Margin) (M : Map) (slot : ℕ → ℕ) (x : ℕ) (route : List ℕ
       reported N slot s b q h route x line (subst (λ v. UniqueShortest N s v route) (sym from) unique) (omega arith) near length
       (is_near ∙ ap (λ v. label_of q.frontier (slot v)) (sym from))
       (is_length ∙ ap (λ v. label_of q.frontier (slot v)) (sym to)) in (
-        λ sum only. subst (λ v. UniqueShortest N s v xs) to (k.0 (omega arith) (only_counted q.frontier length only)),
+        λ read. subst (λ v. UniqueShortest N s v xs) to (k.0 (omega (arith, read.0), only_counted q.frontier length read.1)),
         λ whole.
             let here = subst (λ v. UniqueShortest N s v xs) (sym to) whole in
             let both = k.1 here in

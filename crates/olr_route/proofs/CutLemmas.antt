@@ -1,12 +1,11 @@
 -- How a search goes on where it may label only some nodes, and what it says in the end.
-use Rattle.olr_route.proofs.Common.{◌≡◌, ℕ, ◌+◌, ◌≤◌, ◌<◌, ◌⊎◌, List, IsTrue, ap, subst, inl, inr, arith, ◌∙◌, refl}
-use Rattle.olr_route.proofs.Common.{sym, ⊤, cases_lt, Map, has_node, has_line, dm, Leads, near_end, far_end, label_of}
-use Rattle.olr_route.proofs.Common.{IsQueued, Moves, IsLabelled, IsUnderWay, IsSearch, IsCut, GREATEST_LIMIT, Frontier}
-use Rattle.olr_route.proofs.Common.{Direction, Dijkstra, max, CutAt, IsAlike, StaysWithin, IsCounted, LabelsNear}
+use Rattle.olr_route.proofs.Common.{◌≡◌, ℕ, ◌+◌, ◌≤◌, ◌<◌, ◌⊎◌, List, IsTrue, ap, subst, inl, inr, arith, ◌∙◌, refl, sym, ⊤}
+use Rattle.olr_route.proofs.Common.{cases_lt, Map, has_node, has_line, dm, Leads, near_end, far_end, label_of, IsQueued, Moves}
+use Rattle.olr_route.proofs.Common.{IsLabelled, IsUnderWay, IsSearch, IsCut, GREATEST_LIMIT, Frontier, Direction, Dijkstra, max}
+use Rattle.olr_route.proofs.Common.{CutAt, IsAlike, StaysWithin, IsCounted, LabelsNear, FromWithin, IsBegunAt}
 use Rattle.olr_route.proofs.SearchLemmas.{alike_labels, labelled_same}
 use Rattle.olr_route.proofs.SettledLemmas.{counted_up}
-use Rattle.olr_route.proofs.Common.{FromWithin, IsBegunAt}
-use Rattle.olr_route.proofs.WayLemmas.{by_ways, near_there}
+use Rattle.olr_route.proofs.WayLemmas.{by_ways, ends_there}
 
 module _ (M : Map) (slot : ℕ → ℕ) (direction : Direction) (from : List (ℕ × ℕ)) (P : ℕ → ℕ → Type 0) where
   pub cut_begun : (f : Frontier) → IsUnderWay M slot direction from f → IsCut M slot direction from P f
@@ -82,7 +81,7 @@ module _ (M : Map) (slot : ℕ → ℕ) (direction : Direction) (from : List (�
           let w = near_end M direction x in
           let there : Q (far_end M direction x) (label_of f (slot w) + dm M x) = less _ _ _ short (omega arith) in
           let here = lets w (label_of f (slot w)) (before x (label_of f (slot w)) known there) in
-          elim (u.front w (near_there M u.labelled.sound direction x known) here.1) [
+          elim (u.front w (ends_there M u.labelled.sound direction x known).0 here.1) [
             | inl cut ↦ let le = cut x known refl (lets (far_end M direction x) _ there).0 in omega arith
             | inr q ↦ absurd (here.2 (slot w) q)
           ]
@@ -104,11 +103,13 @@ settled_up_to M slot direction from f limit u small far v d near l =
 -- ---- no farther than a limit
 
 -- a label with which the search begins, or that of a line from a node within a limit, as the others decrease
-pub begun_still : {M : Map} {slot : ℕ → ℕ} {from : List (ℕ × ℕ)} {old new : ℕ → ℕ} {p : ℕ} → new p ≡ old p →
-    IsBegunAt M slot from old p → IsBegunAt M slot from new p
-begun_still same b =
+pub begun_still : {M N : Map} {slot : ℕ → ℕ} {from : List (ℕ × ℕ)} {old new : ℕ → ℕ} {p : ℕ} →
+    ((v : ℕ) → IsTrue (has_node M v) → IsTrue (has_node N v)) → new p ≡ old p → IsBegunAt M slot from old p →
+    IsBegunAt N slot from new p
+begun_still there same b =
     let least = b.least in
-    record { source = b.source; begun = b.begun; listed = b.listed; there = b.there; at = b.at; least = omega arith }
+    let known = there b.source b.there in
+    record { source = b.source; begun = b.begun; listed = b.listed; there = known; at = b.at; least = omega arith }
 
 from_still : {M : Map} {slot : ℕ → ℕ} {direction : Direction} {was is : ℕ} {old new : ℕ → ℕ} {p : ℕ} → was ≤ is →
     ((q : ℕ) → new q ≤ old q) → new p ≡ old p → FromWithin M slot direction was old p → FromWithin M slot direction is new p
@@ -144,7 +145,7 @@ pub near_on : (M : Map) (slot : ℕ → ℕ) (direction : Direction) (from : Lis
 near_on M slot direction from was limit is old new le more better within near p low = elim (within p) [
   | inr k ↦ inr (from_still more (λ q. omega arith) refl k)
   | inl same ↦ elim (near p (omega arith)) [
-    | inl b ↦ inl (begun_still same b)
+    | inl b ↦ inl (begun_still (λ v there. there) same b)
     | inr k ↦ inr (from_still le better same k)
   ]
 ]

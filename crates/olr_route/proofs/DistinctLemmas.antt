@@ -1,14 +1,11 @@
 -- Lists of slots without duplicates, the nodes in them, and what is found in them.
-use Rattle.olr_route.proofs.Common.{◌≡◌, ◌==◌, ℕ, ◌<◌, List, [], ◌∷◌, ◌++◌, Contains, IsTrue, get_or, length, ◌≤◌, refl}
-use Rattle.olr_route.proofs.Common.{sym, ap, ◌∙◌, subst, inl, inr, arith, IsDistinct, get_or-map, length-map}
-use Rattle.olr_route.proofs.Common.{Contains-append_cases, Contains-one, Contains-later, Contains-here, AreApart}
-use Rattle.olr_route.proofs.Common.{AreFilled, AreNodesIn, IsDistinct-from_apart, ne_eqb, Contains-get_or}
-use Rattle.olr_route.proofs.Common.{Contains-cases, Map, has_node, Bool, true, false, cond}
-use Rattle.std.proofs.lemmas.Bool.{eqb-true}
+use Rattle.olr_route.proofs.Common.{◌≡◌, ◌==◌, ℕ, ◌<◌, List, [], ◌∷◌, ◌++◌, Contains, IsTrue, get_or, length, ◌≤◌, refl, sym}
+use Rattle.olr_route.proofs.Common.{ap, ◌∙◌, subst, inl, inr, arith, IsDistinct, get_or-map, length-map, Contains-append_cases}
+use Rattle.olr_route.proofs.Common.{Contains-one, Contains-later, Contains-here, AreApart, AreFilled, AreNodesIn}
+use Rattle.olr_route.proofs.Common.{IsDistinct-from_apart, ne_eqb, Contains-get_or, Contains-cases, Map, has_node, Bool, true}
+use Rattle.olr_route.proofs.Common.{false, cond, eqb-true, nat_eq_equiv, map-append, append-nil}
 use Rattle.std.proofs.lemmas.Map.Made.{length-le_from_is_member}
 use Rattle.std.proofs.lemmas.Map.Views.{Contains-from_any, list_any-from_Contains}
-use Rattle.std.specs.Cmp.{nat_eq_equiv}
-use Rattle.std.proofs.lemmas.List.{map-append, append-nil}
 
 pub slots_distinct : (ps : List ℕ) → AreApart ps → IsDistinct ◌==◌ ps
 slots_distinct ps apart = IsDistinct-from_apart ◌==◌ ps (λ i j d lt past. ne_eqb _ _ (apart i j d lt past))

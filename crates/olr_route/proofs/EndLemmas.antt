@@ -1,16 +1,14 @@
 -- Distances from one node, and the lines that end the shortest routes.
-use Rattle.olr_route.proofs.LabelNames.{◌≡◌, ◌↔◌, ℕ, ◌+◌, ◌<◌, ◌≤◌, List, [], ◌∷◌, ◌++◌, Option, Some, None, IsTrue}
-use Rattle.olr_route.proofs.LabelNames.{arith, sym, refl, ap, subst, cases_lt, length, get_or, none-some, Map, has_node}
-use Rattle.olr_route.proofs.LabelNames.{start, dm, lines_in, IsRoute, dm_of, Least, Leads, IsDistance, Along, EndsRoute}
-use Rattle.olr_route.proofs.LabelNames.{IsLast, first_one, last_step, dm_of-line, IsStrictlyIncreasing}
-use Rattle.std.proofs.Common.{eqb}
+use Rattle.olr_route.proofs.Common.{◌≡◌, ◌↔◌, ℕ, ◌+◌, ◌<◌, ◌≤◌, List, [], ◌∷◌, ◌++◌, Option, Some, None, IsTrue, arith, sym}
+use Rattle.olr_route.proofs.Common.{refl, ap, subst, length, get_or, cases_lt, none-some, Map, has_node, start, dm, lines_in}
+use Rattle.olr_route.proofs.Common.{IsRoute, dm_of, Least, Leads, IsDistance, Along, EndsRoute, IsLast, IsStrictlyIncreasing}
+use Rattle.olr_route.proofs.Common.{eqb, eqb-true, eq-eqb, Against, Contains-one, ascend_in}
 use Rattle.std.specs.Option.{option_eq}
-use Rattle.std.proofs.lemmas.Bool.{eqb-true, eq-eqb}
-use Rattle.olr_route.proofs.Common.{Against, Contains-one}
+use Rattle.olr_spec.proofs.AscendingLists.{ascends}
+use Rattle.olr_route.proofs.NoteLemmas.{first_one}
+use Rattle.olr_route.proofs.RouteEnds.{last_step, dm_of-line}
 use Rattle.olr_route.proofs.ReadLemmas.{found_at}
 use Rattle.olr_route.proofs.WayLemmas.{leads_on}
-use Rattle.olr_spec.proofs.AscendingLists.{ascends}
-use Rattle.olr_spec.proofs.OrderLemmas.{ascend_in}
 
 -- what `==` says of an option and a number
 pub option_is : (o : Option ℕ) (n : ℕ) → IsTrue (option_eq eqb o (Some n)) ↔ (o ≡ Some n)

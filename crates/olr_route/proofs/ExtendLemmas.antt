@@ -1,12 +1,9 @@
 -- A test of each line of a route: whether it extends a shortest path, or a unique one.
-use Rattle.olr_route.proofs.LabelNames.{ℕ, zero, suc, ◌+◌, ◌<◌, ◌≤◌, ◌↔◌, List, [], ◌∷◌, ◌++◌, Bool, true, false, refl}
-use Rattle.olr_route.proofs.LabelNames.{IsTrue, sym, subst, arith, length, Map, IsMap, start, end, dm, IsRoute, dm_of}
-use Rattle.olr_route.proofs.LabelNames.{LeastWithin, one_least, last_step, prefix_of_least, route_on, dm_of-line}
-use Rattle.olr_route.proofs.LabelNames.{false≢true}
+use Rattle.olr_route.proofs.Common.{ℕ, zero, suc, ◌+◌, ◌<◌, ◌≤◌, ◌↔◌, List, [], ◌∷◌, ◌++◌, Bool, true, false, refl, IsTrue, sym}
+use Rattle.olr_route.proofs.Common.{subst, arith, length, Map, IsMap, start, end, dm, IsRoute, dm_of, LeastWithin, one_least}
+use Rattle.olr_route.proofs.Common.{prefix_of_least, false≢true, append-nil, AllWithin, HoldsAt, dm_of-append}
 use Rattle.std.proofs.Common.{append_assoc, MatchBool}
-use Rattle.std.proofs.lemmas.List.{append-nil}
-use Rattle.std.specs.List.{AllWithin, HoldsAt}
-use Rattle.olr_spec.proofs.RouteLemmas.{dm_of-append}
+use Rattle.olr_route.proofs.RouteEnds.{last_step, route_on, dm_of-line}
 
 -- if the shortest path ends with line x, the line extends the one to its start
 pub same_front : (M : Map) → IsMap M → (s limit x : ℕ) (route front : List ℕ) → LeastWithin M s limit (start M x) route →

@@ -1,18 +1,15 @@
 -- The entries of the queue before and after a push and a pop.
-use Rattle.olr_route.proofs.Common.{◌≡◌, ℕ, ◌<◌, ◌≤◌, ◌⊎◌, List, [], ◌∷◌, Contains, sym, ap, ◌∙◌, subst, inl, inr}
-use Rattle.olr_route.proofs.Common.{arith, refl, IsPermutation, Contains-permutation, Contains-append_cases}
-use Rattle.olr_route.proofs.Common.{Contains-append_right, Contains-one, queue_key, ◌/◌, ◌%◌, ◌^◌, IsUpperBound}
-use Rattle.olr_route.proofs.Common.{ge_from_not_lt, Some, Contains-here, IsPermutation-sym, IsDistinct-IsPermutation}
-use Rattle.olr_route.proofs.Common.{false}
+use Rattle.olr_route.proofs.Common.{◌≡◌, ℕ, ◌<◌, ◌≤◌, ◌⊎◌, [], ◌∷◌, sym, ap, ◌∙◌, inl, inr, ◌/◌, ◌%◌, ◌^◌, Some}
+use Rattle.olr_route.proofs.Common.{List, Contains, subst, arith, refl, queue_key, IsUpperBound, false, lt_by_cmp, nat_eq_equiv}
+use Rattle.olr_route.proofs.Common.{IsPermutation, Contains-permutation, Contains-one, Contains-here, IsPermutation-sym, ne_eqb}
+use Rattle.olr_route.proofs.Common.{Contains-append_cases, Contains-append_right, IsDistinct-IsPermutation, All-contains_itself}
+use Rattle.std.proofs.lemmas.Map.Keys.{ge_from_not_lt, IsDistinct-cons, IsDistinct-head, IsDistinct-tail}
 use Rattle.std.specs.Prelude.{None, Ok, Err, Option, Result, IfSome, IfNone, OnOk, OnErr}
 use Rattle.std.specs.declared.cmp.Reverse.{Reverse}
 use Rattle.std.proofs.lemmas.Nat.{div-mul-add, mod-mul-add}
 use Rattle.olr_route.specs.Entries.{entry_cmp, entry_eq}
-use Rattle.std.specs.Cmp.{nat_eq_equiv}
-use Rattle.std.proofs.lemmas.List.Elements.{All-contains, All-contains_itself, All-from_recursion, All-weaker, recursion_from_All}
+use Rattle.std.proofs.lemmas.List.Elements.{All-contains, All-from_recursion, All-weaker, recursion_from_All}
 use Rattle.std.specs.List.{AllByRecursion, IsDistinct}
-use Rattle.std.proofs.lemmas.Bool.{ne_eqb}
-use Rattle.std.proofs.lemmas.Map.Keys.{IsDistinct-cons, IsDistinct-head, IsDistinct-tail}
 
 abbrev pub Entry : Type 0
 Entry = Reverse ℕ
@@ -38,11 +35,9 @@ popped_others xs ys x d p small perm w = elim (popped_or xs ys x (record { 0 = q
 
 low_from_greatest : (x : Entry) (ys : List Entry) → IsUpperBound entry_cmp x ys → (y : Entry) → Contains ys y →
     x.0 ≤ y.0
-low_from_greatest x [] h y w = absurd (omega (arith, w.1))
-low_from_greatest x (z ∷ zs) h y w = elim (Contains-append_cases (z ∷ []) zs y w) [
-  | inl a ↦ subst (λ (v : Entry). x.0 ≤ v.0) (sym (Contains-one z y a)) (ge_from_not_lt z.0 x.0 h.0)
-  | inr b ↦ low_from_greatest x zs h.1 y b
-]
+low_from_greatest x ys h y w =
+    let Above : Entry → Type 0 = λ z. lt_by_cmp entry_cmp x z ≡ false in
+    ge_from_not_lt y.0 x.0 (All-contains Above ys y (All-from_recursion Above ys h) w)
 
 -- the removed entry has the least length
 pub popped_least : (xs ys : List Entry) (x : Entry) (d p : ℕ) → p < 2 ^ 32 → IsPermutation xs (x ∷ ys) →

@@ -1,13 +1,12 @@
 -- Distances with their last lines are the labels of the shortest paths.
-use Rattle.olr_route.proofs.LabelNames.{◌≡◌, ℕ, zero, suc, ◌<◌, ◌≤◌, ◌↔◌, List, [], ◌∷◌, ◌++◌, Option, Some, None, refl}
-use Rattle.olr_route.proofs.LabelNames.{ap, ◌∙◌, subst, inl, inr, arith, none-some, Map, IsMap, start, IsRoute, dm_of}
-use Rattle.olr_route.proofs.LabelNames.{Least, LeastWithin, empty_least, one_least, positive, LiesWithin, Along}
-use Rattle.olr_route.proofs.LabelNames.{IsLabel, ends_of, empty, ended, dm_of-line, route_on, last_step, same_last}
-use Rattle.olr_route.proofs.LabelNames.{MatchOption, get_or, get_or_default, AreLabels, limit_of}
-use Rattle.std.proofs.Common.{reverse}
-use Rattle.olr_spec.specs.Routes.{FirstSmaller}
-use Rattle.olr_spec.proofs.RouteLemmas.{last_first, route_start}
+use Rattle.olr_route.proofs.Common.{◌≡◌, ℕ, zero, suc, ◌<◌, ◌≤◌, ◌↔◌, List, [], ◌∷◌, ◌++◌, Option, Some, None, refl, ap, ◌∙◌}
+use Rattle.olr_route.proofs.Common.{subst, inl, inr, arith, get_or, none-some, Map, IsMap, start, IsRoute, dm_of, Least}
+use Rattle.olr_route.proofs.Common.{LeastWithin, IsLabel, AreLabels, limit_of, empty_least, one_least, positive, LiesWithin}
+use Rattle.olr_route.proofs.Common.{Along, get_or_default, FirstSmaller, last_first, route_start}
+use Rattle.std.proofs.Common.{MatchOption, reverse}
 use Rattle.olr_route.specs.declared.labels.Labels.{Labels}
+use Rattle.olr_route.proofs.RouteEnds.{ends_of, dm_of-line, route_on, last_step, same_last}
+use Rattle.olr_route.proofs.RouteEnds.Ends.{empty, ended}
 use Rattle.olr_route.proofs.SearchLemmas.{near_leads}
 use Rattle.olr_route.proofs.EndLemmas.{leads_route, route_leads, distance_le, ends_route, least_long}
 

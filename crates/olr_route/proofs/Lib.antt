@@ -12,7 +12,6 @@ mod CountLemmas
 mod MarkLemmas
 pub mod UniqueLemmas
 mod CountingLemmas
-pub mod LabelNames
 pub mod EndLemmas
 pub mod LabelLemmas
 pub mod ExtendLemmas

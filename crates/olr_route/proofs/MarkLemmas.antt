@@ -1,19 +1,16 @@
 -- A search goes on where a line counts longer whose start isn't settled yet.
-use Rattle.olr_route.proofs.Common.{◌≡◌, ◌≢◌, ℕ, ◌+◌, ◌<◌, ◌≤◌, List, IsTrue, ap, sym, subst, inl, inr, arith, ◌∙◌}
-use Rattle.olr_route.proofs.Common.{refl, cases_eq, Map, has_node, has_line, start, end, dm, Leads, near_end, far_end}
-use Rattle.olr_route.proofs.Common.{label_of, IsLabelled, IsUnderWay, IsSearch, GREATEST_LIMIT, Direction, Along}
-use Rattle.olr_route.proofs.Common.{Against, Dijkstra, IsOver, IsSearchedAs, Frontier}
-use Rattle.olr_route.proofs.CutLemmas.{settled_up_to}
+use Rattle.olr_route.proofs.Common.{◌≡◌, ◌≢◌, ℕ, ◌+◌, ◌<◌, ◌≤◌, List, IsTrue, ap, sym, subst, inl, inr, arith, ◌∙◌, refl}
+use Rattle.olr_route.proofs.Common.{cases_eq, Map, has_node, has_line, start, end, dm, Leads, near_end, far_end, label_of}
+use Rattle.olr_route.proofs.Common.{IsLabelled, IsUnderWay, IsSearch, GREATEST_LIMIT, Direction, Along, Against, Dijkstra}
+use Rattle.olr_route.proofs.Common.{IsOver, IsSearchedAs, Frontier}
+use Rattle.olr_route.proofs.CutLemmas.{begun_still, settled_up_to}
 use Rattle.olr_route.proofs.SearchLemmas.{followed}
-use Rattle.olr_route.proofs.WayLemmas.{by_ways, leads_first, leads_on, near_there, far_there}
+use Rattle.olr_route.proofs.WayLemmas.{by_ways, leads_first, leads_on, ends_there}
 
-pub near_over : (M N : Map) → IsOver M N → (direction : Direction) (x : ℕ) → near_end N direction x ≡ near_end M direction x
-near_over M N o Along x = o.starts x
-near_over M N o Against x = o.ends x
-
-pub far_over : (M N : Map) → IsOver M N → (direction : Direction) (x : ℕ) → far_end N direction x ≡ far_end M direction x
-far_over M N o Along x = o.ends x
-far_over M N o Against x = o.starts x
+pub ends_over : (M N : Map) → IsOver M N → (direction : Direction) (x : ℕ) →
+    (near_end N direction x ≡ near_end M direction x) × (far_end N direction x ≡ far_end M direction x)
+ends_over M N o Along x = (o.starts x, o.ends x)
+ends_over M N o Against x = (o.ends x, o.starts x)
 
 -- where each line counts as long as it is
 pub plain : (M : Map) (slot : ℕ → ℕ) (direction : Direction) (f : Frontier) (next : ℕ) →
@@ -51,8 +48,8 @@ module _ (N K : Map) (slot : ℕ → ℕ) (direction : Direction) (from : List (
       let same = settled_line x near in
       let on =
       leads_on K direction from x e (known x line)
-      (subst (λ u. Leads K direction from u e) (sym (near_over N K over direction x)) first) in
-      let end = far_over N K over direction x ∙ to in
+      (subst (λ u. Leads K direction from u e) (sym (ends_over N K over direction x).0) first) in
+      let end = (ends_over N K over direction x).1 ∙ to in
       let long : e + dm K x ≡ d = omega (arith, same) in
       coe 0 1 (i. Leads K direction from (end i) (long i)) on
 
@@ -63,7 +60,7 @@ module _ (N K : Map) (slot : ℕ → ℕ) (direction : Direction) (from : List (
       (λ u b listed node _. leads_first K direction from u b listed (there u node))
       (λ x e line first more le.
       let low =
-      h.settled (near_end N direction x) e (near_there N h.under_way.labelled.sound direction x line) (omega arith) first in
+      h.settled (near_end N direction x) e (ends_there N h.under_way.labelled.sound direction x line).0 (omega arith) first in
       line_on x (far_end N direction x) e (e + dm N x) line refl (omega arith) refl (more (omega arith))) v d l near
 
   leads_still : (v : ℕ) → IsTrue (has_node N v) → label_of s.frontier (slot v) ≤ GREATEST_LIMIT →
@@ -79,10 +76,10 @@ module _ (N K : Map) (slot : ℕ → ℕ) (direction : Direction) (from : List (
             (leads_first K direction from b.source b.begun b.listed (there b.source b.there))
         | inr k ↦
             let w = near_end N direction k.line in
-            let way = l.leads w (near_there N l.sound direction k.line k.known) (omega (arith, h.small, k.near)) in
+            let way = l.leads w (ends_there N l.sound direction k.line k.known).0 (omega (arith, h.small, k.near)) in
             let low = followed N slot direction from s h k.line k.known k.near in
             line_on k.line v (label_of s.frontier (slot w)) (label_of s.frontier (slot v)) k.known
-            (l.own (far_end N direction k.line) v (far_there N l.sound direction k.line k.known) node k.to) k.near
+            (l.own (far_end N direction k.line) v (ends_there N l.sound direction k.line k.known).1 node k.to) k.near
             (omega (arith, k.sum, ap (label_of s.frontier) k.to))
             (leads_same w (label_of s.frontier (slot w)) k.near way)
       ]
@@ -116,8 +113,8 @@ module _ (N K : Map) (slot : ℕ → ℕ) (direction : Direction) (from : List (
         front = λ v a small. elim (u.front v (here v a) small) [
           | inr q ↦ inr q
           | inl cut ↦ inl (λ x line near lets.
-              let low = cut x (back x line) (sym (near_over N K over direction x) ∙ near) tt in
-              let e = ap (λ w. label_of s.frontier (slot w)) (far_over N K over direction x) in
+              let low = cut x (back x line) (sym (ends_over N K over direction x).0 ∙ near) tt in
+              let e = ap (λ w. label_of s.frontier (slot w)) (ends_over N K over direction x).1 in
               omega (arith, at_least x))
         ];
       }
@@ -131,21 +128,14 @@ module _ (N K : Map) (slot : ℕ → ℕ) (direction : Direction) (from : List (
         settled_up_to K slot direction from s.frontier s.limit under_way_still h.small
         (λ e p w. let far = h.counted.ahead e p w in omega arith) v d le l;
     near = λ p small. elim (h.near p small) [
-      | inl b ↦ inl (record {
-        source = b.source;
-        begun = b.begun;
-        listed = b.listed;
-        there = there b.source b.there;
-        at = b.at;
-        least = b.least;
-      })
+      | inl b ↦ inl (begun_still there refl b)
       | inr k ↦ inr (record {
         line = k.line;
         known = known k.line k.known;
-        to = ap slot (far_over N K over direction k.line) ∙ k.to;
-        near = subst (λ w. label_of s.frontier (slot w) ≤ s.limit) (sym (near_over N K over direction k.line)) k.near;
+        to = ap slot (ends_over N K over direction k.line).1 ∙ k.to;
+        near = subst (λ w. label_of s.frontier (slot w) ≤ s.limit) (sym (ends_over N K over direction k.line).0) k.near;
         sum =
-            let e = ap (λ w. label_of s.frontier (slot w)) (near_over N K over direction k.line) in
+            let e = ap (λ w. label_of s.frontier (slot w)) (ends_over N K over direction k.line).0 in
             omega (arith, k.sum, settled_line k.line k.near);
       })
     ];

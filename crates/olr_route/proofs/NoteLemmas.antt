@@ -1,10 +1,8 @@
 -- The table of labels and the list of the slots with labels, as either changes.
-use Rattle.olr_route.proofs.Common.{◌≡◌, ◌≢◌, ℕ, ◌<◌, ◌≤◌, List, [], ◌∷◌, ◌++◌, Contains, length, get_or, refl, sym}
-use Rattle.olr_route.proofs.Common.{ap, ◌∙◌, subst, inl, inr, arith, cases_eq, get_or-set_same, get_or-set_other}
-use Rattle.olr_route.proofs.Common.{Contains-append_cases, Contains-append_right, set, Contains-one, UNREACHED}
-use Rattle.olr_route.proofs.Common.{label_in, AreAllReached, NotesOnce, get_or_past, get_or_read_under}
-use Rattle.olr_route.proofs.Common.{Contains-append_left, ◌⊎◌}
-use Rattle.olr_route.specs.Queues.{LowLabels, Queued, queue_len}
+use Rattle.olr_route.proofs.Common.{◌≡◌, ◌≢◌, ℕ, ◌<◌, ◌≤◌, List, [], ◌∷◌, ◌++◌, Contains, length, get_or, refl, sym, ap, ◌∙◌}
+use Rattle.olr_route.proofs.Common.{subst, inl, inr, arith, cases_eq, get_or-set_same, get_or-set_other, Contains-append_cases}
+use Rattle.olr_route.proofs.Common.{Contains-append_right, set, Contains-one, UNREACHED, label_in, AreAllReached, NotesOnce}
+use Rattle.olr_route.proofs.Common.{get_or_past, get_or_read_under, Contains-append_left, ◌⊎◌, LowLabels, Queued, queue_len}
 use Rattle.olr_route.specs.declared.queue.Queue.{Queue}
 
 pub first_one : {X : Type 0} → (x : X) → Contains (x ∷ []) x

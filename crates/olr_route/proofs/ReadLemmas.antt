@@ -1,10 +1,8 @@
 -- The lists of the lines that are entered at a node.
-use Rattle.olr_route.proofs.Common.{arith, ◌≡◌, ℕ, ◌<◌, List, true, IsTrue, length, get_or, sym, ap, ◌∙◌, subst, Map}
-use Rattle.olr_route.proofs.Common.{has_line, near_end, lines_at, Direction, Along, Against, is_some, unwrap_or}
-use Rattle.olr_route.proofs.Common.{no_line, has, at_index, has_read}
-use Rattle.olr_route.specs.ResolvedLines.{ResolvedLine, IsResolved, record_of}
+use Rattle.olr_route.proofs.Common.{arith, ◌≡◌, ℕ, ◌<◌, List, true, IsTrue, length, get_or, sym, ap, ◌∙◌, subst, Map, has_line}
+use Rattle.olr_route.proofs.Common.{near_end, lines_at, Direction, Along, Against, is_some, unwrap_or, no_line, has, at_index}
+use Rattle.olr_route.proofs.Common.{has_read, ResolvedLine, IsResolved, record_of, exactly_in, exactly_out}
 use Rattle.std.specs.FinMap.{get}
-use Rattle.olr_spec.proofs.OrderLemmas.{exactly_in, exactly_out}
 use Rattle.olr_spec.proofs.OptionLemmas.{some_of}
 
 listed : (M : Map) (d : Direction) (v x : ℕ) → has (lines_at M d v) x ≡ true → IsTrue (has_line M x) × (near_end M d x ≡ v)

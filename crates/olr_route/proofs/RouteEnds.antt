@@ -1,28 +1,20 @@
 -- Routes, split at their last line.
-use Rattle.olr_route.proofs.Common.{◌≡◌, ℕ, ◌+◌, List, [], ◌∷◌, ◌++◌, IsTrue, length, get_or, refl, sym, ap, ◌∙◌}
-use Rattle.olr_route.proofs.Common.{subst, arith, length-append, ◌≢◌, ◌≤◌, inl, inr, cases_eq, cases_lt, Map, has_line}
-use Rattle.olr_route.proofs.Common.{start, end, dm, IsRoute, dm_of, UniqueShortest, get_or_push, dm_of-append}
-use Rattle.olr_route.proofs.Common.{IsRoute-append, IsRoute-split}
+use Rattle.olr_route.proofs.Common.{◌≡◌, ℕ, ◌+◌, List, [], ◌∷◌, ◌++◌, IsTrue, refl, ap, ◌∙◌, subst, arith, ◌≢◌, ◌≤◌, inl, inr}
+use Rattle.olr_route.proofs.Common.{cases_eq, cases_lt, Map, has_line, start, end, dm, IsRoute, dm_of, UniqueShortest}
+use Rattle.olr_route.proofs.Common.{dm_of-append, IsRoute-append, IsRoute-split, same_from_push}
+use Rattle.olr_spec.proofs.DecideLemmas.{last_of_list}
 
 pub same_last : (xs ys : List ℕ) (x y : ℕ) → xs ++ x ∷ [] ≡ ys ++ y ∷ [] → x ≡ y
-same_last xs ys x y e =
-    let long : length (xs ++ x ∷ []) ≡ length (ys ++ y ∷ []) = ap (λ (zs : List ℕ). length zs) e in
-    let many : length ys ≡ length xs = omega (arith, length-append xs (x ∷ []), length-append ys (y ∷ [])) in
-    sym (get_or_push xs x 0 (length xs) refl) ∙ ap (λ (zs : List ℕ). get_or zs (length xs) 0) e
-    ∙ get_or_push ys y 0 (length xs) many
+same_last xs ys x y e = (same_from_push xs ys x y e).1
 
 -- a list is empty, or ends with an element
 pub data Ends (xs : List ℕ) : Type 0 where
   empty : xs ≡ [] → Ends xs
   ended : (front : List ℕ) (x : ℕ) → xs ≡ front ++ x ∷ [] → Ends xs
 
-ends_more : (y : ℕ) (ys : List ℕ) → Ends ys → Ends (y ∷ ys)
-ends_more y ys (empty e) = ended [] y (ap (λ (zs : List ℕ). y ∷ zs) e)
-ends_more y ys (ended front x e) = ended (y ∷ front) x (ap (λ (zs : List ℕ). y ∷ zs) e)
-
 pub ends_of : (xs : List ℕ) → Ends xs
 ends_of [] = empty refl
-ends_of (x ∷ xs) = ends_more x xs (ends_of xs)
+ends_of (x ∷ xs) = let k = last_of_list x xs in ended k.0 k.1 k.2
 
 pub dm_of-line : (M : Map) (xs : List ℕ) (x : ℕ) → dm_of M (xs ++ x ∷ []) ≡ dm_of M xs + dm M x
 dm_of-line M xs x = omega (arith, dm_of-append M xs (x ∷ []))

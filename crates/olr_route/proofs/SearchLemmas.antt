@@ -1,17 +1,12 @@
 -- The invariants of a search that can be continued.
-use Rattle.olr_route.proofs.Common.{refl, ◌==◌, has_line, near_end, far_end, dm, ◌≡◌, ◌≢◌, ℕ, ◌+◌, ◌<◌, ◌≤◌, ◌⊎◌, List, [], ◌∷◌, Contains, IsTrue, length, get_or}
-use Rattle.olr_route.proofs.Common.{sym, ap, ◌∙◌, subst, inl, inr, arith, set, cases_eq, cases_lt, get_or-set_same}
-use Rattle.olr_route.proofs.Common.{get_or-set_other, Contains-append_cases, Map, HasEnds, has_node, Contains-one}
-use Rattle.olr_route.proofs.Common.{Leads, IsDistance, label_in, NotesOnce, AreApart, label_of, frontier_len, IsQueued}
-use Rattle.olr_route.proofs.Common.{IsRelaxed, Moves, IsLabelled, IsSearch, LiesWithin, GREATEST_LIMIT, Frontier}
-use Rattle.olr_route.proofs.Common.{Direction, Dijkstra, Contains-get_or, sum_by-set, queue_len, IsEmpty, IsAlike}
-use Rattle.olr_route.proofs.Common.{NotedOnce, CoversSlots, IsReached}
-use Rattle.std.proofs.lemmas.List.Quantifiers.{all_pairs_push}
-use Rattle.std.proofs.lemmas.Bool.{cases_Bool}
-use Rattle.std.proofs.lemmas.Bool.Decides.{Decides-eqb, not_from_Decides}
-use Rattle.std.proofs.lemmas.Map.Made.{is_member-Decides}
-use Rattle.std.specs.Set.{is_member}
-use Rattle.olr_route.proofs.WayLemmas.{leads_node, near_there}
+use Rattle.olr_route.proofs.Common.{refl, has_line, near_end, far_end, dm, ◌≡◌, ◌≢◌, ℕ, ◌+◌, ◌<◌, ◌≤◌, ◌⊎◌, List, [], ◌∷◌}
+use Rattle.olr_route.proofs.Common.{Contains, IsTrue, length, get_or, sym, ap, ◌∙◌, subst, inl, inr, arith, set, cases_eq}
+use Rattle.olr_route.proofs.Common.{cases_lt, get_or-set_same, get_or-set_other, Contains-append_cases, Map, HasEnds, has_node}
+use Rattle.olr_route.proofs.Common.{Contains-one, Leads, IsDistance, label_in, NotesOnce, AreApart, label_of, frontier_len}
+use Rattle.olr_route.proofs.Common.{IsQueued, IsRelaxed, Moves, IsLabelled, IsSearch, LiesWithin, GREATEST_LIMIT, Frontier}
+use Rattle.olr_route.proofs.Common.{Direction, Dijkstra, Contains-get_or, sum_by-set, queue_len, IsEmpty, IsAlike, NotedOnce}
+use Rattle.olr_route.proofs.Common.{CoversSlots, IsReached, all_pairs_push, cases_Bool, false≢true, has_from, in_from, has}
+use Rattle.olr_route.proofs.WayLemmas.{leads_node, ends_there}
 
 -- ---- one label is lowered
 
@@ -59,12 +54,11 @@ moves_then f g h m n = record {
 -- each slot with a label is in the list
 pub labelled_listed : (f : Frontier) (p : ℕ) → label_of f p ≤ GREATEST_LIMIT → Contains f.reached.items p
 labelled_listed f p small =
-    let listed = is_member-Decides Decides-eqb f.reached.items p in
-    elim (cases_Bool (is_member ◌==◌ f.reached.items p)) [
-      | inl on ↦ listed.0 on
+    elim (cases_Bool (has f.reached.items p)) [
+      | inl on ↦ in_from f.reached.items p on
       | inr off ↦
           let no_label =
-          f.noted p (λ q c same. not_from_Decides (is_member ◌==◌ f.reached.items p) listed off (subst (Contains f.reached.items) same c)) in
+          f.noted p (λ q c same. false≢true (sym off ∙ ap (has f.reached.items) (sym same) ∙ has_from f.reached.items q c)) in
           absurd (omega arith)
     ]
 
@@ -174,7 +168,7 @@ module _ (M : Map) (slot : ℕ → ℕ) (direction : Direction) (from : List (�
         label_of s.frontier (slot (far_end M direction x)) ≤ label_of s.frontier (slot (near_end M direction x)) + dm M x
     followed x line near =
         let v = near_end M direction x in
-        elim (h.under_way.front v (near_there M h.under_way.labelled.sound direction x line) (omega (arith, h.small))) [
+        elim (h.under_way.front v (ends_there M h.under_way.labelled.sound direction x line).0 (omega (arith, h.small))) [
           | inl cut ↦ cut x line refl tt
           | inr w ↦ let far = h.counted.ahead (label_of s.frontier (slot v)) (slot v) w in absurd (omega arith)
         ]

@@ -1,11 +1,8 @@
 -- The slots that are settled, as the frontier changes.
-use Rattle.olr_route.proofs.Common.{◌⊎◌, ◌≡◌, ◌≢◌, ℕ, ◌+◌, ◌<◌, ◌≤◌, [], ◌∷◌, ◌++◌, Contains, sym, ap, ◌∙◌, ◌^◌, subst}
-use Rattle.olr_route.proofs.Common.{inl, inr, arith, length-append, Contains-append_cases, Contains-append_left}
-use Rattle.olr_route.proofs.Common.{Contains-one, Contains-get_or, label_of, IsQueued, IsRelaxed, IsAlike, IsCounted}
-use Rattle.olr_route.proofs.Common.{GREATEST_LIMIT, Frontier}
-use Rattle.olr_route.specs.Queues.{IsPopped}
-use Rattle.std.proofs.lemmas.List.Elements.{Contains-push}
-use Rattle.std.proofs.lemmas.List.Quantifiers.{all_pairs_push}
+use Rattle.olr_route.proofs.Common.{◌⊎◌, ◌≡◌, ◌≢◌, ℕ, ◌+◌, ◌<◌, ◌≤◌, [], ◌∷◌, ◌++◌, Contains, sym, ap, ◌∙◌, ◌^◌, subst, inl}
+use Rattle.olr_route.proofs.Common.{inr, arith, length-append, Contains-append_cases, Contains-append_left, Contains-one}
+use Rattle.olr_route.proofs.Common.{Contains-get_or, label_of, IsQueued, IsRelaxed, IsAlike, IsCounted, GREATEST_LIMIT}
+use Rattle.olr_route.proofs.Common.{Frontier, IsPopped, Contains-push, all_pairs_push}
 use Rattle.olr_route.proofs.DistinctLemmas.{slots_distinct, no_more}
 use Rattle.olr_route.proofs.SearchLemmas.{put_le, put_moves, alike_labels, labelled_listed}
 

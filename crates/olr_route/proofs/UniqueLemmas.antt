@@ -1,7 +1,7 @@
 -- Whether a line extends a unique shortest path, by distances only.
-use Rattle.olr_route.proofs.Common.{◌≡◌, ℕ, ◌+◌, ◌≤◌, List, [], ◌∷◌, ◌++◌, IsTrue, ap, inl, inr, arith, cases_lt, Map}
-use Rattle.olr_route.proofs.Common.{has_node, has_line, start, end, dm, IsRoute, dm_of, UniqueShortest, Contains-one}
-use Rattle.olr_route.proofs.Common.{refl, label_of, IsSearch, GREATEST_LIMIT, Along, Dijkstra, IsOnlyPredecessor}
+use Rattle.olr_route.proofs.Common.{◌≡◌, ℕ, ◌+◌, ◌≤◌, List, [], ◌∷◌, ◌++◌, IsTrue, ap, inl, inr, arith, cases_lt, Map, has_node}
+use Rattle.olr_route.proofs.Common.{has_line, start, end, dm, IsRoute, dm_of, UniqueShortest, Contains-one, refl, ◌↔◌, label_of}
+use Rattle.olr_route.proofs.Common.{IsSearch, GREATEST_LIMIT, Along, Dijkstra, IsOnlyPredecessor}
 use Rattle.olr_route.proofs.NoteLemmas.{first_one}
 use Rattle.olr_route.proofs.SearchLemmas.{followed}
 use Rattle.olr_route.proofs.WayLemmas.{way_start}
@@ -77,8 +77,6 @@ module _ (M : Map) (slot : ℕ → ℕ) (s b : ℕ) (q : Dijkstra) (h : IsSearch
     -- the result, by what the code reads of the labels
     pub reported : (near length : ℕ) → near ≡ label_of q.frontier (slot (start M x)) →
         length ≡ label_of q.frontier (slot (end M x)) →
-        (near + dm M x ≡ length → IsOnlyPredecessor M slot q.frontier x (end M x) length →
-        UniqueShortest M s (end M x) (route ++ x ∷ []))
-        × (UniqueShortest M s (end M x) (route ++ x ∷ []) →
-        (near + dm M x ≡ length) × IsOnlyPredecessor M slot q.frontier x (end M x) length)
+        ((near + dm M x ≡ length) × IsOnlyPredecessor M slot q.frontier x (end M x) length)
+        ↔ UniqueShortest M s (end M x) (route ++ x ∷ [])
     reported near length is_near is_length = grind (arith, label_of, extends_if, sum_if, only_if)

@@ -1,32 +1,26 @@
 -- Routes in one direction or the other, and the far ends of the lines at a node.
-use Rattle.olr_route.proofs.Common.{end, start, ◌≡◌, ℕ, ◌+◌, ◌<◌, List, [], ◌∷◌, ◌++◌, Contains, IsTrue, length, get_or}
-use Rattle.olr_route.proofs.Common.{refl, sym, ap, ◌∙◌, subst, arith, get_or-map, length-map, get_or_default_zero, Map, IsMap}
-use Rattle.olr_route.proofs.Common.{HasEnds, has_node, has_line, dm, IsRoute, dm_of, LineEnd, Way, Leads, positive}
-use Rattle.olr_route.proofs.Common.{near_end, far_end, lines_at, Direction, Along, Against, map, ends_at}
-use Rattle.olr_model.specs.Ends.{end_out, end_in}
+use Rattle.olr_route.proofs.Common.{end, start, ◌≡◌, ℕ, ◌+◌, ◌<◌, List, [], ◌∷◌, ◌++◌, Contains, IsTrue, length, get_or, refl}
+use Rattle.olr_route.proofs.Common.{sym, ap, ◌∙◌, subst, arith, get_or-map, length-map, get_or_default_zero, Map, IsMap}
+use Rattle.olr_route.proofs.Common.{HasEnds, has_node, has_line, dm, IsRoute, dm_of, LineEnd, Way, Leads, positive, near_end}
+use Rattle.olr_route.proofs.Common.{far_end, lines_at, Direction, Along, Against, map, ends_at}
 use Rattle.olr_route.proofs.ReadLemmas.{read_at, found_at}
 use Rattle.olr_route.proofs.RouteEnds.{dm_of-line, route_on}
 
 pub has_ends : (M : Map) → IsMap M → HasEnds M
 has_ends M m = record { starts = m.starts; ends = m.ends; long = positive M m }
 
-pub near_there : (M : Map) → HasEnds M → (direction : Direction) (x : ℕ) → IsTrue (has_line M x) →
-    IsTrue (has_node M (near_end M direction x))
-near_there M m Along x known = m.starts x known
-near_there M m Against x known = m.ends x known
-
-pub far_there : (M : Map) → HasEnds M → (direction : Direction) (x : ℕ) → IsTrue (has_line M x) →
-    IsTrue (has_node M (far_end M direction x))
-far_there M m Along x known = m.ends x known
-far_there M m Against x known = m.starts x known
+pub ends_there : (M : Map) → HasEnds M → (direction : Direction) (x : ℕ) → IsTrue (has_line M x) →
+    IsTrue (has_node M (near_end M direction x)) × IsTrue (has_node M (far_end M direction x))
+ends_there M m Along x known = (m.starts x known, m.ends x known)
+ends_there M m Against x known = (m.ends x known, m.starts x known)
 
 pub near_node : (M : Map) → IsMap M → (direction : Direction) (x : ℕ) → IsTrue (has_line M x) →
     IsTrue (has_node M (near_end M direction x))
-near_node M m = near_there M (has_ends M m)
+near_node M m direction x known = (ends_there M (has_ends M m) direction x known).0
 
 pub far_node : (M : Map) → IsMap M → (direction : Direction) (x : ℕ) → IsTrue (has_line M x) →
     IsTrue (has_node M (far_end M direction x))
-far_node M m = far_there M (has_ends M m)
+far_node M m direction x known = (ends_there M (has_ends M m) direction x known).1
 
 -- a route without lines stays where it begins
 pub leads_first : (M : Map) (direction : Direction) (from : List (ℕ × ℕ)) (s b : ℕ) → Contains from (s, b) →
@@ -91,7 +85,7 @@ pub leads_node : (M : Map) → HasEnds M → (direction : Direction) (from : Lis
     Leads M direction from v d → IsTrue (has_node M v)
 leads_node M m direction from v d l =
     by_ways M from (λ w _. IsTrue (has_node M w)) direction (λ s b _ there. there)
-    (λ x e known _ _. far_there M m direction x known) v d l
+    (λ x e known _ _. (ends_there M m direction x known).1) v d l
 
 -- a route to a node begins at one
 pub way_start : (M : Map) → HasEnds M → (s v : ℕ) (xs : List ℕ) → IsRoute M s v xs → IsTrue (has_node M v) →
@@ -105,30 +99,20 @@ way_start M m s v (x ∷ xs) w there = subst (λ (u : ℕ). IsTrue (has_node M u
 abbrev pub no_end : LineEnd
 no_end = record { slot = 0; len = 0 }
 
--- the element of a list that is made by a function
-made_at : (f : ℕ → LineEnd) (xs : List ℕ) (items : List LineEnd) (i : ℕ) → items ≡ map f xs →
-    i < length items → (i < length xs) × (get_or items i no_end ≡ f (get_or xs i 0))
-made_at f xs items i is lt =
-    let long : length items ≡ length xs = ap (λ (zs : List LineEnd). length zs) is ∙ length-map xs f in
-    (omega arith, ap (λ (zs : List LineEnd). get_or zs i no_end) is ∙ get_or-map f xs i 0 no_end (omega arith))
-
 -- the far end of a line
 abbrev far_of : Map → (ℕ → ℕ) → Direction → ℕ → LineEnd
-far_of M slot Along x = end_out M slot x
-far_of M slot Against x = end_in M slot x
-
-record IsFar (M : Map) (slot : ℕ → ℕ) (direction : Direction) (x : ℕ) (e : LineEnd) : Type 0 where
-  there : e.slot ≡ slot (far_end M direction x)
-  len : e.len ≡ dm M x
-
-far_is : (M : Map) (slot : ℕ → ℕ) (direction : Direction) (x : ℕ) → IsFar M slot direction x (far_of M slot direction x)
-far_is M slot Along x = record { there = refl; len = refl }
-far_is M slot Against x = record { there = refl; len = refl }
+far_of M slot direction x = record { slot = slot (far_end M direction x); len = dm M x }
 
 ends_are : (M : Map) (slot : ℕ → ℕ) (direction : Direction) (v : ℕ) →
     ends_at M slot direction v ≡ map (far_of M slot direction) (lines_at M direction v)
 ends_are M slot Along v = refl
 ends_are M slot Against v = refl
+
+pub as_many : (M : Map) (slot : ℕ → ℕ) (direction : Direction) (v : ℕ) (lines : List ℕ) (items : List LineEnd) →
+    lines ≡ lines_at M direction v → items ≡ ends_at M slot direction v → length items ≡ length lines
+as_many M slot direction v lines items same is =
+    ap (λ (es : List LineEnd). length es) (is ∙ ends_are M slot direction v)
+    ∙ length-map (lines_at M direction v) (far_of M slot direction) ∙ ap (λ (xs : List ℕ). length xs) (sym same)
 
 -- the i-th line that is entered at a node, and its far end
 pub record IsEntry (M : Map) (slot : ℕ → ℕ) (direction : Direction) (v : ℕ) (lines : List ℕ) (i : ℕ) (e : LineEnd) : Type 0
@@ -144,17 +128,18 @@ pub entry_is : (M : Map) (slot : ℕ → ℕ) (direction : Direction) (v : ℕ) 
     IsEntry M slot direction v lines i (get_or items i no_end)
 entry_is M slot direction v lines items same is i lt =
     let made = is ∙ ends_are M slot direction v ∙ ap (λ (zs : List ℕ). map (far_of M slot direction) zs) (sym same) in
-    let k = made_at (far_of M slot direction) lines items i made lt in
+    let within : i < length lines = omega (arith, as_many M slot direction v lines items same is) in
     let x = get_or lines i 0 in
-    let own = read_at M direction v lines i x same k.0 (sym (get_or_default_zero lines i x k.0)) in
-    let f = subst (IsFar M slot direction x) (sym k.1) (far_is M slot direction x) in
-    record { within = k.0; known = own.0; leads = own.1; there = f.there; len = f.len }
-
-pub as_many : (M : Map) (slot : ℕ → ℕ) (direction : Direction) (v : ℕ) (lines : List ℕ) (items : List LineEnd) →
-    lines ≡ lines_at M direction v → items ≡ ends_at M slot direction v → length items ≡ length lines
-as_many M slot direction v lines items same is =
-    ap (λ (es : List LineEnd). length es) (is ∙ ends_are M slot direction v)
-    ∙ length-map (lines_at M direction v) (far_of M slot direction) ∙ ap (λ (xs : List ℕ). length xs) (sym same)
+    let own = read_at M direction v lines i x same within (sym (get_or_default_zero lines i x within)) in
+    let far : get_or items i no_end ≡ far_of M slot direction x =
+    ap (λ (zs : List LineEnd). get_or zs i no_end) made ∙ get_or-map (far_of M slot direction) lines i 0 no_end within in
+    record {
+      within = within;
+      known = own.0;
+      leads = own.1;
+      there = ap (λ (e : LineEnd). e.slot) far;
+      len = ap (λ (e : LineEnd). e.len) far;
+    }
 
 -- each line that is entered at v is in the lists
 pub record HasEntry (M : Map) (slot : ℕ → ℕ) (direction : Direction) (lines : List ℕ) (items : List LineEnd) (x : ℕ) : Type 0

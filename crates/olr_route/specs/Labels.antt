@@ -1,5 +1,5 @@
 -- Shortest paths within a limit, and labels: what a search says of them at each node that it reaches.
---     LeastWithin, UniqueWithin M s limit t xs      xs is the (unique) shortest path from s to t, and within the limit
+--     LeastWithin M s limit t xs      xs is the shortest path from s to t, and within the limit
 --     IsFound M slot s q v d      the search q from s has found the distance d of v
 --     EndsRoute M s v d x      line x leads to v; the distance of its start from s and its length add up to d
 --     IsLast M s v d o      o is the least such line, if there is one
@@ -13,7 +13,7 @@ use Rattle.std.specs.Prelude.{◌≡◌, ◌↔◌, ℕ, ◌+◌, ◌<◌, ◌�
 use Rattle.std.specs.Prelude.{slice_index, slice_index_or}
 use Rattle.std.specs.List.Sorted.{IsStrictlyIncreasing}
 use Rattle.olr_spec.specs.Map.{Map, IsMap, has_line, start, end, dm}
-use Rattle.olr_spec.specs.Routes.{dm_of, Least, UniqueShortest}
+use Rattle.olr_spec.specs.Routes.{dm_of, Least}
 use Rattle.olr_route.specs.Counts.{saturated_count}
 use Rattle.olr_route.specs.Distances.{IsDistance}
 use Rattle.olr_route.specs.Searches.{IsSearch, LiesWithin}
@@ -24,10 +24,6 @@ use Rattle.olr_route.specs.declared.labels.Labels.{Labels}
 
 pub record LeastWithin (M : Map) (s limit t : ℕ) (xs : List ℕ) : Type 0 where
   pub least : Least M s t xs
-  pub within : dm_of M xs ≤ limit
-
-pub record UniqueWithin (M : Map) (s limit t : ℕ) (xs : List ℕ) : Type 0 where
-  pub unique : UniqueShortest M s t xs
   pub within : dm_of M xs ≤ limit
 
 pub record IsFound (M : Map) (slot : ℕ → ℕ) (s : ℕ) (q : Dijkstra) (v d : ℕ) : Type 0 where

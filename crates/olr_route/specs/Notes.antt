@@ -7,8 +7,6 @@
 --     AreNodesIn M slot ps vs      vs are the nodes in the slots ps, in their order
 use Rattle.std.specs.Prelude.{◌≡◌, ◌≢◌, ℕ, ◌<◌, ◌≤◌, ◌⊎◌, List, [], ◌∷◌, ◌++◌, Contains, IsTrue, map, slice_index_or}
 use Rattle.std.specs.List.{AllPairs}
-use Rattle.std.specs.Coded.{coded_ℕ, Coded-set}
-use Rattle.std.proofs.Props.{props}
 use Rattle.olr_spec.specs.Map.{Map, has_node}
 use Rattle.olr_route.specs.declared.frontier.TheConstants.{GREATEST_LIMIT, UNREACHED}
 
@@ -20,9 +18,6 @@ AreAllReached table reached = (p : ℕ) → ((q : ℕ) → Contains reached q �
 
 abbrev pub AreApart : List ℕ → Type 0
 AreApart ps = AllPairs (λ (q p : ℕ). q ≢ p) ps
-
-pub AreAllReached-prop : (table : List ℕ) (reached : List ℕ) → IsProp (AreAllReached table reached)
-AreAllReached-prop table reached = hlevel (props, Coded-set coded_ℕ)
 
 abbrev pub NotesOnce : List ℕ → List ℕ → ℕ → ℕ → Type 0
 NotesOnce old new label p =

@@ -8,8 +8,6 @@
 --     LowLabels table q      no slot is queued at a length that is less than its label
 use Rattle.std.specs.Prelude.{◌≡◌, ℕ, ◌+◌, ◌*◌, ◌<◌, ◌≤◌, ◌⊎◌, ◌^◌, List, Contains}
 use Rattle.std.specs.BinaryHeap.{heap_items, heap_len}
-use Rattle.std.specs.Coded.{coded_ℕ, Coded-set}
-use Rattle.std.proofs.Props.{props}
 use Rattle.olr_route.specs.Notes.{label_in}
 use Rattle.olr_route.specs.declared.queue.Queue.{Queue}
 
@@ -33,6 +31,3 @@ pub record IsPopped (q r : Queue) (limit : ℕ) (x : ℕ × ℕ) : Type 0 where
 
 abbrev pub LowLabels : List ℕ → Queue → Type 0
 LowLabels table q = (d p : ℕ) → Queued q d p → label_in table p ≤ d
-
-abbrev pub LowLabels-prop : (table : List ℕ) (q : Queue) → IsProp (LowLabels table q)
-LowLabels-prop table q = hlevel (props, Coded-set coded_ℕ)

@@ -1,7 +1,7 @@
 //! The state of a search: labels by slot, the slots of the labelled nodes, and the queue of slots to continue from.
 ghost use Rattle.std.specs.Prelude.{◌≡◌, ◌<◌, OnErr, OnOk};
-ghost use Rattle.olr_route.specs.Notes.{AreAllReached, AreAllReached-prop, NotesOnce};
-ghost use Rattle.olr_route.specs.Queues.{IsPopped, LowLabels, LowLabels-prop};
+ghost use Rattle.olr_route.specs.Notes.{AreAllReached, NotesOnce};
+ghost use Rattle.olr_route.specs.Queues.{IsPopped, LowLabels};
 
 use crate::queue::Queue;
 use olr_model::{MapRead, NodeId};
@@ -26,8 +26,8 @@ pub struct Frontier {
     /// A running total of the lines at queued slots, modulo 2^64. Its only use is that these lines are read, and so are in
     /// the processor's cache, some time before the search follows them.
     lines_ahead: u64,
-    ghost noted: { AreAllReached table.items reached.items } by { AreAllReached-prop table.items reached.items },
-    ghost low: { LowLabels table.items queue } by { LowLabels-prop table.items queue },
+    ghost noted: { AreAllReached table.items reached.items },
+    ghost low: { LowLabels table.items queue },
 }
 
 /// Records the slot of a node that has no label yet.

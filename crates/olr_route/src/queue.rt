@@ -2,7 +2,6 @@
 ghost use Rattle.std.proofs.Props.{props};
 ghost use Rattle.std.specs.BinaryHeap.{IsHeap, heap_items};
 ghost use Rattle.std.specs.List.{IsDistinct};
-ghost use Rattle.std.proofs.lemmas.Map.Keys.{IsDistinct-prop};
 ghost use Rattle.olr_route.specs.Entries.{entry_cmp, entry_eq};
 
 use std::alloc::{AllocError, Global};
@@ -18,7 +17,7 @@ const SLOTS: u64 = 4_294_967_296;
 pub struct Queue {
     heap: BinaryHeap<Reverse<u64>>,
     ghost ordered: { IsHeap entry_cmp (heap_items heap) } by { Prim.hlevel props },
-    ghost once: { IsDistinct entry_eq (heap_items heap) } by { IsDistinct-prop entry_eq (heap_items heap) },
+    ghost once: { IsDistinct entry_eq (heap_items heap) } by { Prim.hlevel props },
 }
 
 impl Queue {

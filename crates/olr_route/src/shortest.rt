@@ -3,7 +3,7 @@
 ghost use Rattle.std.specs.Prelude.{◌↔◌, ◌≤◌, ◌+◌, ℕ, List, [], ◌∷◌, ◌++◌, IsTrue};
 ghost use Rattle.olr_spec.specs.Map.{start, end, dm};
 ghost use Rattle.olr_spec.specs.Routes.{IsRoute, UniqueShortest, dm_of};
-ghost use Rattle.olr_route.specs.Labels.{LeastWithin, UniqueWithin, AreLabels, limit_of};
+ghost use Rattle.olr_route.specs.Labels.{LeastWithin, AreLabels, limit_of};
 
 use crate::labels::Labels;
 use crate::resolved::resolve_line;
@@ -54,7 +54,7 @@ pub fn is_least<M: MapRead>(map: &M, labels: &Labels, lines: &[LineId]) -> bool
 pub fn is_unique_shortest<M: MapRead>(map: &M, labels: &Labels, lines: &[LineId]) -> bool
     ensures { (s t : ℕ) → AreLabels (M.map map.now) (M.node_slot map.now) s labels.now
         → IsRoute (M.map map.now) s t lines.now
-        → (IsTrue result ↔ UniqueWithin (M.map map.now) s (limit_of labels.now) t lines.now) }
+        → (IsTrue result ↔ (UniqueShortest (M.map map.now) s t lines.now × (dm_of (M.map map.now) lines.now ≤ limit_of labels.now))) }
 {
     is_least(map, labels, lines) && lines.iter().all(|line| extends_unique(map, labels, *line))
 }

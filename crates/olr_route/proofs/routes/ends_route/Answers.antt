@@ -1,6 +1,5 @@
-use Rattle.olr_route.proofs.LabelNames.{◌≡◌, ◌∷◌, [], ℕ, ◌-◌, Along, sym, subst, ◌∙◌, arith, IsDistance}
-use Rattle.std.proofs.Common.{ap, Option, unwrap_or}
-use Rattle.olr_spec.specs.Map.{Line, no_line}
+use Rattle.olr_route.proofs.Common.{◌≡◌, ◌∷◌, [], ℕ, sym, subst, ◌∙◌, arith, Along, IsDistance, ap, Option, Line, no_line}
+use Rattle.std.proofs.Common.{◌-◌, unwrap_or}
 use Rattle.olr_route.proofs.EndLemmas.{option_is}
 use Rattle.olr_route.proofs.routes.ends_route.Goals as goal
 

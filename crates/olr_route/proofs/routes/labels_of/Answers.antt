@@ -1,7 +1,6 @@
-use Rattle.olr_route.proofs.LabelNames.{◌∷◌, [], ◌++◌, ℕ, List, None, Option, Contains, length, get_or, length-append}
-use Rattle.olr_route.proofs.LabelNames.{ap, sym, ◌∙◌, subst, arith, below_more, get_or_default_zero, Along, IsLabel}
-use Rattle.std.proofs.Common.{is_some}
-use Rattle.std.proofs.lemmas.List.{get_or_push, get_or_append_left}
+use Rattle.olr_route.proofs.Common.{◌∷◌, [], ◌++◌, ℕ, List, None, Option, Contains, length, get_or, length-append, ap, sym, ◌∙◌}
+use Rattle.olr_route.proofs.Common.{subst, arith, below_more, get_or_default_zero, Along, IsLabel, is_some, get_or_push}
+use Rattle.olr_route.proofs.Common.{get_or_append_left}
 use Rattle.olr_route.proofs.routes.labels_of.Goals as goal
 
 pub unwrap-dist-requires : goal.unwrap-dist-requires

@@ -1,4 +1,4 @@
-use Rattle.olr_route.proofs.LabelNames.{◌≡◌, ◌<◌, ◌∷◌, [], ℕ, None, length, get_or, Along, IsLabel, IsSearch}
+use Rattle.olr_route.proofs.Common.{◌≡◌, ◌<◌, ◌∷◌, [], ℕ, None, length, get_or, Along, IsLabel, IsSearch}
 use Rattle.olr_route.specs.Searches.{limit_of}
 use Rattle.olr_route.proofs.routes.labels_of.Given as goal
 

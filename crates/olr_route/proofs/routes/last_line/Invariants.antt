@@ -1,4 +1,4 @@
-use Rattle.olr_route.proofs.LabelNames.{ℕ, ◌<◌, get_or, EndsRoute, IsFound}
+use Rattle.olr_route.proofs.Common.{ℕ, ◌<◌, get_or, EndsRoute, IsFound}
 use Rattle.olr_route.proofs.routes.last_line.Given as goal
 
 abbrev pub invariant-loop-line : goal.invariant-loop-line

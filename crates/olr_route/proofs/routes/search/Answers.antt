@@ -1,8 +1,6 @@
-use Rattle.olr_route.proofs.LabelNames.{◌∷◌, [], ◌⊎◌, ◌↔◌, ℕ, List, Contains, length, refl, sym, subst, inl, inr}
-use Rattle.olr_route.proofs.LabelNames.{Along, IsStrictlyIncreasing, LiesWithin, Counts, ◌∙◌}
-use Rattle.std.proofs.Common.{rules}
+use Rattle.olr_route.proofs.Common.{◌∷◌, [], ◌⊎◌, ◌↔◌, ℕ, List, Contains, length, refl, sym, subst, inl, inr, ◌∙◌, Along}
+use Rattle.olr_route.proofs.Common.{IsStrictlyIncreasing, LiesWithin, Counts, rules, distinct_from_ascending}
 use Rattle.olr_route.proofs.DistinctLemmas.{no_more}
-use Rattle.olr_spec.proofs.SameNumbers.{distinct_from_ascending}
 use Rattle.olr_route.proofs.routes.search.Given.{Over}
 use Rattle.olr_route.proofs.routes.search.Goals.{In_ok-labels}
 use Rattle.olr_route.proofs.routes.search.Goals as goal

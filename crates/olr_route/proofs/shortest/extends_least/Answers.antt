@@ -1,5 +1,4 @@
-use Rattle.olr_route.proofs.LabelNames.{◌∷◌, [], ◌++◌, ℕ, List, sym, subst, ap, ◌∙◌, LeastWithin, limit_of}
-use Rattle.olr_route.specs.ResolvedLines.{ResolvedLine}
+use Rattle.olr_route.proofs.Common.{◌∷◌, [], ◌++◌, ℕ, List, sym, subst, ap, ◌∙◌, LeastWithin, limit_of, ResolvedLine}
 use Rattle.olr_route.proofs.EndLemmas.{option_is}
 use Rattle.olr_route.proofs.ExtendLemmas.{same_front}
 use Rattle.olr_route.proofs.shortest.extends_least.Goals as goal

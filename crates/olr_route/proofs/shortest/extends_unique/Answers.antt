@@ -1,7 +1,5 @@
-use Rattle.olr_route.proofs.LabelNames.{◌∷◌, [], ◌++◌, ◌+◌, ◌≤◌, ◌↔◌, ℕ, IsTrue, ap, subst, start, end, UniqueShortest}
-use Rattle.olr_route.proofs.LabelNames.{dm_of, limit_of, dm, arith, sym, ◌∙◌}
-use Rattle.olr_spec.specs.Margins.{no_margin}
-use Rattle.olr_route.specs.ResolvedLines.{ResolvedLine}
+use Rattle.olr_route.proofs.Common.{◌∷◌, [], ◌++◌, ◌+◌, ◌≤◌, ◌↔◌, ℕ, IsTrue, ap, subst, arith, sym, ◌∙◌, start, end, dm}
+use Rattle.olr_route.proofs.Common.{UniqueShortest, dm_of, limit_of, no_margin, ResolvedLine}
 use Rattle.olr_route.proofs.ReadLemmas.{resolved_as}
 use Rattle.olr_route.proofs.shortest.extends_unique.Goals as goal
 

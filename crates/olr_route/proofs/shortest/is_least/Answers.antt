@@ -1,5 +1,4 @@
-use Rattle.olr_route.proofs.LabelNames.{arith, limit_of, dm_of, LeastWithin, empty_least}
-use Rattle.std.proofs.Common.{rules, tests}
+use Rattle.olr_route.proofs.Common.{arith, limit_of, LeastWithin, dm_of, empty_least, rules, tests}
 use Rattle.std.proofs.lemmas.Iterator.{cases_from_all, YieldsList-from_slice}
 use Rattle.olr_route.proofs.ExtendLemmas.{Extends, Stops, tested, prefix_within}
 use Rattle.olr_route.proofs.shortest.is_least.Goals as goal

@@ -1,7 +1,5 @@
-use Rattle.olr_route.proofs.LabelNames.{limit_of, UniqueShortest}
-use Rattle.std.proofs.Common.{rules, tests}
+use Rattle.olr_route.proofs.Common.{limit_of, UniqueShortest, rules, tests, empty_unique, prefix_of_unique}
 use Rattle.std.proofs.lemmas.Iterator.{cases_from_all, YieldsList-from_slice}
-use Rattle.olr_spec.proofs.RouteLemmas.{empty_unique, prefix_of_unique}
 use Rattle.olr_route.proofs.ExtendLemmas.{Extends, Stops, tested}
 use Rattle.olr_route.proofs.shortest.is_unique_shortest.Goals as goal
 
@@ -17,4 +15,4 @@ returns-then-is_least g c = λ s t a w.
     tested M s limit unique prefix _ t lines (empty_unique M a.sound s) w short.within
     (cases_from_all _ _ _ (Extends M s limit unique prefix) (Stops M s limit unique prefix) c.all.ensures.ran
     (YieldsList-from_slice lines cc) (λ x q k. search (rules, tests)) (λ x q k. search (rules, tests))) in
-    (λ yes. record { unique = k.0 yes; within = short.within }, λ whole. k.1 whole.unique)
+    (λ yes. (k.0 yes, short.within), λ whole. k.1 whole.0)

@@ -1,8 +1,8 @@
-use Rattle.olr_route.proofs.Common.{◌≡◌, ◌≤◌, ◌<◌, ◌+◌, ℕ, IsTrue, get_or, sym, ap, subst, ◌∙◌, arith, inl, inr, Map}
-use Rattle.olr_route.proofs.Common.{has_node, dm, Leads, near_end, far_end, label_of, below_more, line_short, positive}
+use Rattle.olr_route.proofs.Common.{◌≡◌, ◌≤◌, ◌<◌, ◌+◌, ℕ, IsTrue, get_or, sym, ap, subst, ◌∙◌, arith, inl, inr, Map, has_node}
+use Rattle.olr_route.proofs.Common.{dm, Leads, near_end, far_end, label_of, below_more, line_short, positive}
 use Rattle.olr_route.proofs.Common.{get_or_default_zero, IsSeenAs}
 use Rattle.olr_route.proofs.WayLemmas.{IsEntry, entry_is, has_entry, no_end, far_node, leads_on}
-use Rattle.olr_route.proofs.MarkLemmas.{near_over, far_over}
+use Rattle.olr_route.proofs.MarkLemmas.{ends_over}
 use Rattle.olr_route.proofs.SearchLemmas.{moves_then}
 use Rattle.olr_route.proofs.CutLemmas.{stays_then}
 use Rattle.olr_route.proofs.steps.follow.Given.{Over}
@@ -89,13 +89,13 @@ loop-index-preserved g c =
       labelled = λ N v from s known at_slot leads l.
           let near : v ≡ near_end N way x =
           l.own v own.0 known (subst IsTrue (sym (s.over.nodes own.0)) own.1) (at_slot ∙ sym own.2) ∙ sym e.leads
-          ∙ sym (near_over M N s.over way x) in
+          ∙ sym (ends_over M N s.over way x).0 in
           let on =
           leads_on N way from x d (subst IsTrue (sym (s.over.lines x)) e.known)
           (subst (λ (u : ℕ). Leads N way from u d) near leads) in
           to.labelled N slot way from (far_end N way x)
-          (subst IsTrue (sym (s.over.nodes (far_end N way x))) (subst (λ u. IsTrue (has_node M u)) (sym (far_over M N s.over way x)) there))
-          (ap slot (far_over M N s.over way x) ∙ sym e.there)
+          (subst IsTrue (sym (s.over.nodes (far_end N way x))) (subst (λ u. IsTrue (has_node M u)) (sym (ends_over M N s.over way x).1) there))
+          (ap slot (ends_over M N s.over way x).1 ∙ sym e.there)
           (subst (λ u. Leads N way from (far_end N way x) (d + u)) (seen N s) on)
           (inv.labelled N v from s known at_slot leads l);
       followed =
@@ -112,13 +112,13 @@ loop-index-preserved g c =
             | inl same ↦ inl same
             | inr new ↦
                 let place : label_of h (slot (near_end N way x)) ≡ label_of h c.args.slot =
-                ap (label_of h) (ap slot (near_over M N s.over way x ∙ e.leads) ∙ own.2) in
+                ap (label_of h) (ap slot ((ends_over M N s.over way x).0 ∙ e.leads) ∙ own.2) in
                 let was = inv.moves.better c.args.slot in
                 let le = to.moves.better c.args.slot in
                 inr (record {
                   line = x;
                   known = subst IsTrue (sym (s.over.lines x)) e.known;
-                  to = ap slot (far_over M N s.over way x) ∙ sym e.there ∙ sym new.1;
+                  to = ap slot (ends_over M N s.over way x).1 ∙ sym e.there ∙ sym new.1;
                   near = omega (arith, c.requires.label);
                   sum = omega (arith, c.requires.label, seen N s, new.0);
                 })
@@ -136,14 +136,14 @@ returns-clause-closed g c = λ N v s known at x line near under.
     let counted = g.L.Lengths.counts c.args.lengths.now in
     let inside = subst IsTrue (s.over.nodes v) known in
     let there = subst IsTrue (s.over.lines x) line in
-    let from = sym (near_over M N s.over way x) ∙ near in
+    let from = sym (ends_over M N s.over way x).0 ∙ near in
     let k =
     has_entry M slot way v x c.lines_from.result.lines.now c.lines_from.result.ends.now
     (c.lines_from.ensures.lines v inside at) (c.lines_from.ensures.ends v inside at) there from in
     let long : dm N x ≡ counted (get_or c.lines_from.result.lines.now k.index 0) (get_or c.lines_from.result.ends.now k.index no_end).len =
     s.long x there (ap slot from ∙ at) ∙ coe 0 1 (i. counted x (dm M x) ≡ counted (k.line i) (sym k.len i)) (λ _. counted x (dm M x)) in
     let place : slot (far_end N way x) ≡ (get_or c.lines_from.result.ends.now k.index no_end).slot =
-    ap slot (far_over M N s.over way x) ∙ sym k.there in
+    ap slot (ends_over M N s.over way x).1 ∙ sym k.there in
     let low =
     c.loop-index.invariant.followed k.index (omega arith)
     (coe 0 1 (i. g.A.Admits.lets c.args.admits.now (place i) (c.args.dist + long i)) under) in

@@ -1,5 +1,4 @@
-use Rattle.olr_route.proofs.Common.{IsRelaxed, arith}
-use Rattle.std.proofs.lemmas.Result.{on_ok_weaker}
+use Rattle.olr_route.proofs.Common.{IsRelaxed, arith, on_ok_weaker}
 use Rattle.olr_route.proofs.SearchLemmas.{put_cases, put_labelled, put_moves}
 use Rattle.olr_route.proofs.SettledLemmas.{counted_put}
 use Rattle.olr_route.proofs.steps.label_node.Goals as goal

@@ -1,5 +1,5 @@
-use Rattle.olr_route.proofs.Common.{◌≡◌, ◌+◌, ℕ, refl, sym, ap, subst, ◌∙◌, inl, inr, arith, label_of, IsCounted}
-use Rattle.olr_route.proofs.Common.{IsQueued, IsTrue, Map, IsSearchedAs, IsSeenAs, ◌≤◌}
+use Rattle.olr_route.proofs.Common.{◌≡◌, ◌+◌, ℕ, refl, sym, ap, subst, ◌∙◌, inl, inr, arith, label_of, IsCounted, IsQueued}
+use Rattle.olr_route.proofs.Common.{IsTrue, Map, IsSearchedAs, IsSeenAs, ◌≤◌}
 use Rattle.olr_route.proofs.SettledLemmas.{counted_same, counted_more, counted_up, counted_fits}
 use Rattle.olr_route.proofs.steps.settle.Given.{Over}
 use Rattle.olr_route.proofs.CutLemmas.{cut_begun, cut_same, cut_more, stays_then, stays_more}
@@ -8,8 +8,7 @@ use Rattle.olr_route.proofs.steps.settle.Goals as goal
 
 pub loop-next-init : goal.loop-next-init
 loop-next-init g c = record {
-  cut = λ N from n near next h s u. cut_begun N (g.M.MapRead.node_slot c.args.map.now) c.args.direction
-      from (g.A.Admits.lets c.args.admits.now) c.args.frontier.now u;
+  cut = λ N from n near next h s u. cut_begun _ _ _ _ _ c.args.frontier.now u;
   better = λ p. omega arith;
   near = λ N n near next h s p. inl refl;
   counted = λ n near next h. (near, next, subst (λ (m : ℕ). IsCounted c.args.frontier.now m near next) (omega arith) h, omega arith, omega arith);
@@ -68,9 +67,7 @@ loop-next-preserved-in-Continue-1 g c =
     record {
       cut = λ N from n near next h s u.
           let told = seen g c N n near next h s in
-          cut_more N (g.M.MapRead.node_slot c.args.map.now) c.args.direction from
-          (g.A.Admits.lets c.args.admits.now) c.loop-next.frontier c.pop_within.new.self c.follow.new.frontier
-          c.in-Some.next.0 c.in-Some.next.1 o.alike o.popped.others (omega arith) (omega (arith, o.popped.within)) e.moves
+          cut_more _ _ _ _ _ c.loop-next.frontier c.pop_within.new.self c.follow.new.frontier c.in-Some.next.0 c.in-Some.next.1 o.alike o.popped.others (omega arith) (omega (arith, o.popped.within)) e.moves
           (λ v ways. e.labelled N v ways told) (λ v. e.closed N v told) (c.loop-next.invariant.cut N from n near next h s u);
       better = λ q.
           let a = e.moves.better q in
@@ -116,8 +113,7 @@ loop-next-preserved g c =
     let o = c.in-Some.ensures in
     record {
       cut = λ N from n near next h s u.
-          cut_same N (g.M.MapRead.node_slot c.args.map.now) c.args.direction from
-          (g.A.Admits.lets c.args.admits.now) c.loop-next.frontier c.pop_within.new.self o.alike (still g c)
+          cut_same _ _ _ _ _ c.loop-next.frontier c.pop_within.new.self o.alike (still g c)
           (c.loop-next.invariant.cut N from n near next h s u);
       counted = λ n near next h.
           let k = c.loop-next.invariant.counted n near next h in (
@@ -137,8 +133,7 @@ loop-next-preserved g c =
 pub returns-clause-cut : goal.returns-clause-cut
 returns-clause-cut g c = λ N from n near next h s u.
     let e = c.in_default.ensures in
-    cut_same N (g.M.MapRead.node_slot c.args.map.now) c.args.direction from
-    (g.A.Admits.lets c.args.admits.now) c.loop-next.frontier c.pop_within.new.self e.alike (λ q w. e.same _ q w)
+    cut_same _ _ _ _ _ c.loop-next.frontier c.pop_within.new.self e.alike (λ q w. e.same _ q w)
     (c.loop-next.invariant.cut N from n near next h s u)
 
 pub returns-clause-counted : goal.returns-clause-counted

@@ -1,5 +1,5 @@
-use Rattle.olr_route.proofs.Common.{◌≤◌, ◌+◌, ℕ, List, Map, max, label_of, IsUnderWay, IsCut, IsCounted, StaysWithin}
-use Rattle.olr_route.proofs.Common.{to_do, IsSearchedAs}
+use Rattle.olr_route.proofs.Common.{◌≤◌, ◌+◌, ℕ, List, Map, max, label_of, IsUnderWay, IsCut, IsCounted, StaysWithin, to_do}
+use Rattle.olr_route.proofs.Common.{IsSearchedAs}
 use Rattle.olr_route.proofs.steps.settle.Given as goal
 
 abbrev pub invariant-loop-next : goal.invariant-loop-next

@@ -44,7 +44,7 @@ loop-begin-preserved g c =
       ];
       near = λ p small. elim (e.only items p (n, c.loop-begin-test.true, sym c.begin-item.is)) [
         | inr b ↦ b
-        | inl same ↦ begun_still same (inv.near p (omega arith))
+        | inl same ↦ begun_still (λ v there. there) same (inv.near p (omega arith))
       ];
       way = inv.way;
       limit = inv.limit;

@@ -1,5 +1,5 @@
-use Rattle.olr_route.proofs.Common.{◌≡◌, ◌≤◌, ◌<◌, ℕ, IsTrue, get_or, has_node, label_of, IsQueued, IsLabelled}
-use Rattle.olr_route.proofs.Common.{GREATEST_LIMIT, IsBegunAt}
+use Rattle.olr_route.proofs.Common.{◌≡◌, ◌≤◌, ◌<◌, ℕ, IsTrue, get_or, has_node, label_of, IsQueued, IsLabelled, GREATEST_LIMIT}
+use Rattle.olr_route.proofs.Common.{IsBegunAt}
 use Rattle.olr_route.proofs.distances.Dijkstra.begin.Given as goal
 
 abbrev pub invariant-loop-begin : goal.invariant-loop-begin

@@ -1,9 +1,6 @@
-use Rattle.olr_route.proofs.Common.{◌≡◌, ◌+◌, ◌≤◌, ◌++◌, ◌∷◌, [], ℕ, List, IsSearch, UniqueShortest, IsOnlyPredecessor}
-use Rattle.olr_route.proofs.Common.{sym, ap, subst, arith, ◌∙◌, ◌↔◌, IsTrue, label_of, start, end, dm, dm_of, Along}
-use Rattle.olr_route.proofs.Common.{Against, lines_in}
-use Rattle.std.proofs.lemmas.Bool.{false≢true}
-use Rattle.olr_route.specs.ResolvedLines.{ResolvedLine}
-use Rattle.olr_spec.specs.Margins.{Margin, counted}
+use Rattle.olr_route.proofs.Common.{◌≡◌, ◌+◌, ◌≤◌, ◌++◌, ◌∷◌, [], ℕ, List, IsSearch, UniqueShortest, IsOnlyPredecessor, sym, ap}
+use Rattle.olr_route.proofs.Common.{subst, arith, ◌∙◌, ◌↔◌, IsTrue, label_of, start, end, dm, dm_of, Along, Against, lines_in}
+use Rattle.olr_route.proofs.Common.{false≢true, ResolvedLine, Margin, counted}
 use Rattle.olr_model.specs.Ends.{ends_in}
 use Rattle.olr_route.proofs.CountingLemmas.{reported_as}
 use Rattle.olr_route.proofs.WayLemmas.{as_many}
@@ -19,10 +16,8 @@ read : (g : Over) (c : After-is_sum g) (m : Margin) (s b : ℕ) (route : List �
     let length = c.label-length.result in
     IsSearch N (g.M.MapRead.node_slot c.args.map.now) Along ((s, b) ∷ []) c.args.self.now → c.args.line.len ≡ dm N x →
     UniqueShortest N s (start M x) route → b + (dm_of N route + c.args.line.len) ≤ c.args.self.now.limit + 1 →
-    (c.label.result + c.args.line.len ≡ length → IsOnlyPredecessor M (g.M.MapRead.node_slot c.args.map.now)
-    c.args.self.now.frontier x (end M x) length → UniqueShortest N s (end M x) (route ++ x ∷ []))
-    × (UniqueShortest N s (end M x) (route ++ x ∷ []) → (c.label.result + c.args.line.len ≡ length)
-    × IsOnlyPredecessor M (g.M.MapRead.node_slot c.args.map.now) c.args.self.now.frontier x (end M x) length)
+    ((c.label.result + c.args.line.len ≡ length) × IsOnlyPredecessor M (g.M.MapRead.node_slot c.args.map.now)
+    c.args.self.now.frontier x (end M x) length) ↔ UniqueShortest N s (end M x) (route ++ x ∷ [])
 read g c m s b route h len unique short =
     let labels = label_of c.args.self.now.frontier in
     reported_as m (g.M.MapRead.map c.args.map.now) (g.M.MapRead.node_slot c.args.map.now) c.args.line.id route
@@ -75,6 +70,6 @@ returns g c = λ m s b route h len unique short.
     ↔ IsOnlyPredecessor M (g.M.MapRead.node_slot c.args.map.now) c.args.self.now.frontier x (end M c.args.line.id)
     c.label-length.result) (ap (λ (r : ResolvedLine). r.id) c.line.view_is)
     (c.is_only_predecessor.ensures M (g.M.MapRead.node_slot c.args.map.now) (end M c.args.line.id) e.0 e.1) in (
-      λ yes. k.0 (ap (λ n. c.label.result + n) (sym len) ∙ c.is_sum.ensures.0 c.if-not-is_sum.false) (only.0 yes),
+      λ yes. k.0 (ap (λ n. c.label.result + n) (sym len) ∙ c.is_sum.ensures.0 c.if-not-is_sum.false, only.0 yes),
       λ whole. only.1 (k.1 whole).1,
     )

@@ -1,7 +1,6 @@
-use Rattle.olr_route.proofs.Common.{ℕ, List, IsPermutation, Contains-permutation, eqb, IsPermutation-sym, AreNodesIn}
-use Rattle.olr_route.proofs.Common.{IsSearch, IsNonDecreasingBy-from_sort, IsDistinct-IsPermutation, Direction}
-use Rattle.olr_route.proofs.Common.{IsStrictlyIncreasing-from_distinct}
-use Rattle.std.specs.Cmp.{nat_eq_equiv}
+use Rattle.olr_route.proofs.Common.{ℕ, List, IsPermutation, Contains-permutation, eqb, IsPermutation-sym, AreNodesIn, IsSearch}
+use Rattle.olr_route.proofs.Common.{IsNonDecreasingBy-from_sort, IsDistinct-IsPermutation, Direction}
+use Rattle.olr_route.proofs.Common.{IsStrictlyIncreasing-from_distinct, nat_eq_equiv}
 use Rattle.olr_route.proofs.CountLemmas.{filled, near_slots, near_slots_apart, near_slots_exactly, exactly_in}
 use Rattle.olr_route.proofs.DistinctLemmas.{nodes_distinct}
 use Rattle.olr_route.proofs.distances.Dijkstra.nodes.Given.{Over}

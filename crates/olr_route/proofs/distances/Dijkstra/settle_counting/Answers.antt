@@ -1,6 +1,4 @@
-use Rattle.olr_route.proofs.Common.{◌+◌, ◌++◌, ◌∷◌, [], Along}
-use Rattle.std.proofs.lemmas.Result.{on_ok_weaker}
-use Rattle.olr_spec.specs.Margins.{counted}
+use Rattle.olr_route.proofs.Common.{◌++◌, ◌∷◌, [], Along, on_ok_weaker, counted}
 use Rattle.olr_route.proofs.CountingLemmas.{searched_as, may_go_on, with_own_fits}
 use Rattle.olr_route.proofs.distances.Dijkstra.settle_counting.Goals as goal
 

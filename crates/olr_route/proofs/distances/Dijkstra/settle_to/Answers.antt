@@ -1,5 +1,4 @@
-use Rattle.olr_route.proofs.Common.{◌+◌}
-use Rattle.std.proofs.lemmas.Result.{on_ok_weaker}
+use Rattle.olr_route.proofs.Common.{◌+◌, on_ok_weaker}
 use Rattle.olr_route.proofs.MarkLemmas.{plain}
 use Rattle.olr_route.proofs.distances.Dijkstra.settle_to.Goals as goal
 

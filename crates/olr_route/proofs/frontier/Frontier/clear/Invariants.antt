@@ -1,5 +1,4 @@
-use Rattle.olr_route.proofs.Common.{◌≡◌, vec_len}
-use Rattle.olr_route.specs.Queues.{queue_len}
+use Rattle.olr_route.proofs.Common.{◌≡◌, vec_len, queue_len}
 use Rattle.olr_route.proofs.frontier.Frontier.clear.Given as goal
 
 abbrev pub invariant-loop-reached : goal.invariant-loop-reached

@@ -1,5 +1,4 @@
-use Rattle.olr_route.proofs.Common.{◌≡◌, inl, inr, arith, cases_lt, label_in, get_or_past, length, UNREACHED}
-use Rattle.std.proofs.lemmas.Grind.{common_steps}
+use Rattle.olr_route.proofs.Common.{◌≡◌, inl, inr, arith, cases_lt, label_in, get_or_past, length, UNREACHED, common_steps}
 use Rattle.olr_route.proofs.frontier.Frontier.make_room.Goals as goal
 
 pub invariant_of-self-clause-low : goal.invariant_of-self-clause-low

@@ -1,7 +1,5 @@
-use Rattle.olr_route.proofs.Common.{ℕ, Bool, List, nat_le, filter, label_of, get_or, subst, sym, Contains-get_or}
-use Rattle.olr_route.proofs.Common.{◌∙◌, AreFilled, AreNodesIn}
-use Rattle.std.proofs.lemmas.List.{take_all}
-use Rattle.std.proofs.lemmas.List.Elements.{filter_more}
+use Rattle.olr_route.proofs.Common.{ℕ, Bool, List, nat_le, filter, label_of, get_or, subst, sym, Contains-get_or, ◌∙◌}
+use Rattle.olr_route.proofs.Common.{AreFilled, AreNodesIn, take_all, filter_more}
 use Rattle.olr_route.proofs.DistinctLemmas.{nodes_more}
 use Rattle.olr_route.proofs.frontier.Frontier.nodes_within.Goals as goal
 

@@ -1,4 +1,4 @@
-use Rattle.olr_route.proofs.LabelNames.{◌≡◌, ℕ, Some, ap, ◌∙◌, sym, arith, none-some}
+use Rattle.olr_route.proofs.Common.{◌≡◌, ℕ, Some, ap, ◌∙◌, sym, arith, none-some}
 use Rattle.olr_route.proofs.labels.Labels.dist.Goals as goal
 
 pub returns-in_err-dist : goal.returns-in_err-dist

@@ -1,4 +1,4 @@
-use Rattle.olr_route.proofs.LabelNames.{◌≡◌, None, get_or, sym, ◌∙◌, arith, get_or_default, IsLabel, limit_of}
+use Rattle.olr_route.proofs.Common.{◌≡◌, None, get_or, sym, ◌∙◌, arith, get_or_default, IsLabel, limit_of}
 use Rattle.std.proofs.Common.{Ok, Err}
 use Rattle.olr_spec.proofs.AscendingLists.{place_of, there_found}
 use Rattle.olr_route.proofs.labels.Labels.label.Goals as goal

@@ -1,4 +1,4 @@
-use Rattle.olr_route.proofs.LabelNames.{sym, ◌∙◌, none-some, limit_of}
+use Rattle.olr_route.proofs.Common.{sym, ◌∙◌, none-some, limit_of}
 use Rattle.olr_route.proofs.LabelLemmas.{label_of, last_is, near_of}
 use Rattle.olr_route.proofs.labels.Labels.last_line.Goals as goal
 

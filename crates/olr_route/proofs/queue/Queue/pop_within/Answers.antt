@@ -1,5 +1,4 @@
-use Rattle.std.proofs.Common.{rules}
-use Rattle.olr_route.proofs.Common.{arith, inl, inr, IsPermutation-sym}
+use Rattle.olr_route.proofs.Common.{rules, arith, inl, inr, IsPermutation-sym}
 use Rattle.olr_route.proofs.HeapLemmas.{popped_others, popped_least, popped_once, popped_gone, popped_there}
 use Rattle.olr_route.proofs.HeapLemmas.{pushed_kept}
 use Rattle.olr_route.proofs.queue.Queue.pop_within.Goals as goal
