@@ -17,18 +17,14 @@ none_any p (x ∷ xs) h = grind (arith, h x (has_here x xs), none_any p xs (λ y
 
 -- ---- rivals
 
-line_there : (M : Map) (s : Side) (w y : ℕ) → has (lines_on s M w) y ≡ true → node_on s (leg M y) ≡ w
-line_there M Outgoing w y h = grind (arith, exactly_out M w y)
-line_there M Incoming w y h = grind (arith, exactly_in M w y)
-
-line_known : (M : Map) (s : Side) (w y : ℕ) → has (lines_on s M w) y ≡ true → IsTrue (has_line M y)
-line_known M Outgoing w y h = ap is_some ((exactly_out M w y).0 h).1.0
-line_known M Incoming w y h = ap is_some ((exactly_in M w y).0 h).1.0
+line_in : (M : Map) (s : Side) (w y : ℕ) → has (lines_on s M w) y ≡ true → IsTrue (has_line M y) × (node_on s (leg M y) ≡ w)
+line_in M Outgoing w y h = (ap is_some ((exactly_out M w y).0 h).1.0, grind (arith, exactly_out M w y))
+line_in M Incoming w y h = (ap is_some ((exactly_in M w y).0 h).1.0, grind (arith, exactly_in M w y))
 
 pub lines_known : (M : Map) (s : Side) (w : ℕ) (ys : List ℕ) → ys ≡ lines_on s M w → All (λ y. IsTrue (has_line M y)) ys
 lines_known M s w ys is =
     subst (λ (zs : List ℕ). All (λ y. IsTrue (has_line M y)) zs) (sym is)
-    (λ k d lt. line_known M s w _ (has_from (lines_on s M w) _ (Contains-get_or (lines_on s M w) k d lt)))
+    (λ k d lt. (line_in M s w _ (has_from (lines_on s M w) _ (Contains-get_or (lines_on s M w) k d lt))).0)
 
 pub place_there : (M : Map) (s : Side) (y w : ℕ) → node_on s (leg M y) ≡ w → coordinate_on s (leg M y) ≡ coord_at M w
 place_there M Outgoing y w e = ap (coord_at M) e
@@ -48,7 +44,7 @@ module _ (M : Map) (s : Side) (p : ℤ × ℤ) (x w : ℕ) where
   not_far far =
       let none : open_lines ≡ false =
       none_any (λ y. not (is_outdone_for_all s p (leg M x) (leg M y))) (lines_on s M w) (λ y on.
-      let there = place_there M s y w (line_there M s w y on) in
+      let there = place_there M s y w (line_in M s w y on).1 in
       let off : is_farther usual_slack p (coordinate_on s (leg M x)) (coordinate_on s (leg M y)) ≡ true =
       ap (is_farther usual_slack p (coordinate_on s (leg M x))) there ∙ far in
       ap not (or_left (is_farther usual_slack p (coordinate_on s (leg M x)) (coordinate_on s (leg M y))) _ off)) in
@@ -63,7 +59,7 @@ module _ (M : Map) (s : Side) (p : ℤ × ℤ) (x w : ℕ) where
       let at = Any-from_list_any (λ y. not (is_outdone_for_all s p (leg M x) (leg M y))) (lines_on s M w) some.1 in
       let y = get_or (lines_on s M w) at.0 at.1 in
       let on = has_from (lines_on s M w) y (Contains-get_or (lines_on s M w) at.0 at.1 at.2) in
-      subst (λ (v : ℕ). IsTrue (has_node M v)) (line_there M s w y on) (node_there m s y (line_known M s w y on))
+      subst (λ (v : ℕ). IsTrue (has_node M v)) (line_in M s w y on).1 (node_there m s y (line_in M s w y on).0)
     where
       node_there : IsMap M → (s : Side) (y : ℕ) → IsTrue (has_line M y) → IsTrue (has_node M (node_on s (leg M y)))
       node_there m Outgoing y h = m.starts y h

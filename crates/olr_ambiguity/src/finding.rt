@@ -4,7 +4,7 @@ ghost use Rattle.std.specs.List.{All};
 ghost use Rattle.olr_spec.specs.Map.{has_line};
 ghost use Rattle.olr_spec.specs.Reference.{Reference};
 ghost use Rattle.olr_spec.specs.Receiver.{last_number};
-ghost use Rattle.olr_spec.specs.Ambiguity.{Other_node, obstacles, obstacles_at, side_at};
+ghost use Rattle.olr_spec.specs.Ambiguity.{obstacles, obstacles_at, side_at};
 ghost use Rattle.olr_answers.specs.Ambiguities.{found_of};
 ghost use Rattle.olr_ambiguity.specs.Causes.{applies, named};
 ghost use Rattle.olr_ambiguity.specs.Grids.{AreNodes, HasAllRivals, HasRivals, IsGrid};
@@ -57,20 +57,6 @@ fn push_lines<M: MapRead>(
     Ok(())
 }
 
-/// Appends these nodes.
-fn push_nodes(found: &mut Vec<Found>, lrp: usize, nodes: &[NodeId]) -> Result<(), AllocError>
-    ensures { OnOk result (list_map found_of found.new.items ≡ list_map found_of found.old.items
-        ++ list_map (λ v. (lrp, Other_node v)) nodes.now) }
-{
-    for node in nodes {
-        found.push(Found {
-            lrp,
-            obstacle: Obstacle::OtherNode(*node),
-        })?;
-    }
-    Ok(())
-}
-
 /// Which lines are candidates at LRP k of so many.
 pub(crate) fn side_at(k: usize, count: usize) -> Side
     requires { k < count }
@@ -101,7 +87,12 @@ fn push_at<M: MapRead>(
     push_lines(found, map, own, lrp, lines, Cause::Twin)?;
     push_lines(found, map, own, lrp, lines, Cause::Unclear)?;
     let nodes = rivals(alloc, map, grid, own)?;
-    push_nodes(found, lrp, nodes.as_slice())?;
+    for node in nodes.as_slice() {
+        found.push(Found {
+            lrp,
+            obstacle: Obstacle::OtherNode(*node),
+        })?;
+    }
     Ok(())
 }
 

@@ -3,7 +3,7 @@ ghost use Rattle.std.specs.Prelude.{◌≡◌, ◌≤◌, ◌<◌, ◌*◌, ◌^
 ghost use Rattle.std.specs.List.Sorted.{IsNonDecreasingBy};
 ghost use Rattle.olr_spec.specs.Ambiguity.{all_nodes};
 ghost use Rattle.olr_spec.specs.Map.{has_node};
-ghost use Rattle.olr_ambiguity.specs.Grids.{IsGrid, IsGridOf, IsPlacing, Starts, cell_at, cell_of, cells_from, last_cell, lowest_lat, lowest_lon};
+ghost use Rattle.olr_ambiguity.specs.Grids.{IsGrid, IsGridOf, IsPlacing, Starts, cell_at, cell_of, cells_from, last_cell};
 
 use crate::own_line::coord_of;
 use olr_coords::Coord;
@@ -39,7 +39,7 @@ pub struct Grid {
 }
 
 /// The number of cells from `low` up to `z`: 0 if it is below, and at most the last.
-fn cells_from(low: i128, z: i128) -> u64
+pub(crate) fn cells_from(low: i128, z: i128) -> u64
     requires low { nat_abs low ≤ 10 ^ 14 }
     requires z { nat_abs z ≤ 10 ^ 38 }
     ensures value { result ≡ cells_from low z }
@@ -49,24 +49,6 @@ fn cells_from(low: i128, z: i128) -> u64
         Ok(above) => (above / CELL).min(u128::from(LAST_CELL)) as u64,
         Err(_) => 0,
     }
-}
-
-/// The row of a latitude.
-pub(crate) fn row_of(latitude: i128) -> u64
-    requires { nat_abs latitude ≤ 10 ^ 38 }
-    ensures value { result ≡ cells_from lowest_lat latitude }
-    ensures few { result ≤ last_cell }
-{
-    cells_from(LOWEST_LAT, latitude)
-}
-
-/// The column of a longitude.
-pub(crate) fn column_of(longitude: i128) -> u64
-    requires { nat_abs longitude ≤ 10 ^ 38 }
-    ensures value { result ≡ cells_from lowest_lon longitude }
-    ensures few { result ≤ last_cell }
-{
-    cells_from(LOWEST_LON, longitude)
 }
 
 /// The first and the last of the cells within `reach` of `z`, at most 10^31, counted from `low`.
@@ -95,8 +77,8 @@ fn cell_of(place: Coord) -> u64
     ensures { result ≡ cell_of place }
 {
     cell_at(
-        row_of(i128::from(place.lat())),
-        column_of(i128::from(place.lon())),
+        cells_from(LOWEST_LAT, i128::from(place.lat())),
+        cells_from(LOWEST_LON, i128::from(place.lon())),
     )
 }
 

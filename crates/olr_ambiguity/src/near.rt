@@ -8,7 +8,7 @@ ghost use Rattle.olr_ambiguity.specs.Grids.{AreWindows, is_in};
 
 use crate::decoded::place_at;
 use crate::finding::side_at;
-use crate::grid::{LAST_CELL, column_of, row_of};
+use crate::grid::{LAST_CELL, LOWEST_LAT, LOWEST_LON, cells_from};
 use crate::own_line::coordinate_on;
 use crate::rivals::{Window, window_of};
 use olr_binary::Reference;
@@ -40,11 +40,11 @@ pub(crate) fn windows<M: MapRead>(
 fn is_in(window: Window, place: Coord) -> bool
     ensures { result ≡ is_in window place }
 {
-    let row = row_of(i128::from(place.lat()));
+    let row = cells_from(LOWEST_LAT, i128::from(place.lat()));
     if row < window.rows.0 || window.rows.1 < row {
         return false;
     }
-    let column = column_of(i128::from(place.lon()));
+    let column = cells_from(LOWEST_LON, i128::from(place.lon()));
     window.columns.0 <= column && column <= window.columns.1
 }
 

@@ -1,5 +1,5 @@
 //! Other nodes near the decoded coordinate of an LRP.
-ghost use Rattle.std.specs.Prelude.{◌≡◌, ◌+◌, ◌*◌, ◌^◌, ◌<◌, ◌≤◌, ℕ, not, filter, IfOk, OnOk, IsTrue};
+ghost use Rattle.std.specs.Prelude.{◌≡◌, ◌+◌, ◌*◌, ◌^◌, ◌≤◌, not, filter, IfOk, OnOk, IsTrue};
 ghost use Rattle.std.specs.List.{All, list_any};
 ghost use Rattle.olr_spec.specs.Map.{coord_at, has_line, has_node};
 ghost use Rattle.olr_spec.specs.Recovery.{lat_apart, lon_apart};
@@ -33,17 +33,6 @@ fn reach_of(place: DecodedPlace, here: Coord) -> u128
     lon_apart(place, here) + lat_apart(place, here) + SLACK
 }
 
-/// How far in longitude, in units, a node may be for a cosine in millionths, greater than 0.
-#[tactic(auto, using(crate::proofs::Windows::most_of))]
-fn widened(reach: u128, cosine: u128) -> u128
-    requires reach { reach ≤ 5 * 10 ^ 31 }
-    requires some { 0 < cosine }
-    ensures enough { (x : ℕ) → cosine * x ≤ 1000000 * reach → x ≤ result }
-    ensures small { result ≤ 5 * 10 ^ 37 }
-{
-    ONE * reach / cosine
-}
-
 /// The part of the grid in which each node is that isn't farther than the own one by more than the slack.
 pub(crate) fn window_of(place: DecodedPlace, here: Coord) -> Window
     requires { IsPlaced place }
@@ -58,7 +47,7 @@ pub(crate) fn window_of(place: DecodedPlace, here: Coord) -> Window
             columns: (0, LAST_CELL),
         };
     }
-    let columns = cells_around(LOWEST_LON, place.lon, widened(reach, cosine));
+    let columns = cells_around(LOWEST_LON, place.lon, ONE * reach / cosine);
     Window { rows, columns }
 }
 

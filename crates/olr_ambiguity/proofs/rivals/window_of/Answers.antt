@@ -1,6 +1,7 @@
-use Rattle.olr_ambiguity.proofs.Common.{◌≡◌, ◌∙◌, ◌+◌, ◌*◌, ◌≤◌, ◌-ℤ◌, ℕ, nat_abs, ap, arith, subst, sym, lon_apart, lat_apart}
+use Rattle.olr_ambiguity.proofs.Common.{◌≡◌, ◌∙◌, ◌+◌, ◌*◌, ◌≤◌, ◌-ℤ◌, ◌/◌, ℕ, ℤ, nat_abs, ap, arith, subst, sym, lon_apart, lat_apart}
 use Rattle.olr_ambiguity.proofs.Common.{cosine_up_to, usual_slack, lowest_lon, place_of}
-use Rattle.olr_ambiguity.proofs.Windows.{lat_within, near_by_cosine, cells_few, held_small}
+use Rattle.std.proofs.Math.Nat.{div-le_self}
+use Rattle.olr_ambiguity.proofs.Windows.{lat_within, most_of, near_by_cosine, cells_few, held_small}
 use Rattle.olr_ambiguity.proofs.rivals.window_of.Goals as goal
 
 pub returns-then-cosine-eq0 : goal.returns-then-cosine-eq0
@@ -11,6 +12,10 @@ returns-then-cosine-eq0 c =
       columns = λ d near. (omega arith, cells_few lowest_lon d.lon);
       few = (c.cells_around-rows.ensures.few.1, omega arith, omega arith);
     }
+
+pub cells_around-columns-requires-clause-reach : goal.cells_around-columns-requires-clause-reach
+cells_around-columns-requires-clause-reach c =
+    omega (arith, div-le_self (1000000 * c.reach_of-reach.result) c.cosine_up_to-cosine.result, c.reach_of-reach.ensures.small)
 
 pub returns : goal.returns
 returns c =
@@ -24,10 +29,10 @@ returns c =
       rows = λ d near. c.cells_around-rows.ensures.around d.lat
           (lat_within p c.args.here d near _ _ (held_small c.args.place.lat c.requires.lat) far);
       columns = λ d near.
-          let lon = ap (λ z. nat_abs (z -ℤ d.lon)) (held_small c.args.place.lon c.requires.lon) in
           let wide =
-          c.widened.ensures.enough (lon_apart p d) (subst (λ (n : ℕ). cosine * lon_apart p d ≤ 1000000 * n) (sym far)
-          (near_by_cosine p c.args.here d near cosine by)) in
-          c.cells_around-columns.ensures.around d.lon (omega (arith, lon, wide));
+          most_of cosine (lon_apart p d) (1000000 * c.reach_of-reach.result) (omega arith) (subst (λ (n : ℕ). cosine * lon_apart p d ≤ 1000000 * n)
+          (sym far) (near_by_cosine p c.args.here d near cosine by)) in
+          c.cells_around-columns.ensures.around d.lon
+          (subst (λ (z : ℤ). nat_abs (z -ℤ d.lon) ≤ 1000000 * c.reach_of-reach.result / cosine) (sym (held_small c.args.place.lon c.requires.lon)) wide);
       few = (c.cells_around-rows.ensures.few.1, c.cells_around-columns.ensures.few.0, c.cells_around-columns.ensures.few.1);
     }
