@@ -24,7 +24,7 @@ in_range es first end i n j s f few more e h low high =
 
 -- a grid of other nodes, each of which it has
 pub grid_more : (M : Map) (F G : ℕ → Type 0) (es : List Placed) → IsGridOf M F es → ((v : ℕ) → G v → F v) → IsGridOf M G es
-grid_more M F G es g more = grind (arith, more, g.placing.whole)
+grid_more M F G es g more = grind (arith, more, g.whole)
 
 -- ---- rows of a window
 
@@ -57,10 +57,10 @@ pub whole_window : (M : Map) (rival : ℕ → Bool) (es : List Placed) (w : Wind
     ((v : ℕ) → IsTrue (rival v) → IsFalse (is_farther usual_slack p c (coord_at M v))) →
     (v : ℕ) → IsTrue (rival v) → Contains found v
 whole_window M rival es w p c row found g win h past near v is =
-    let e = (g.placing.whole v is).0 in
-    let there = (g.placing.whole v is).1 in
-    let same : e.node ≡ v = (g.placing.whole v is).2 in
-    let right = g.placing.right e there in
+    let e = (g.whole v is).0 in
+    let there = (g.whole v is).1 in
+    let same : e.node ≡ v = (g.whole v is).2 in
+    let right = g.right e there in
     let is_e : IsTrue (rival e.node) = ap rival same ∙ is in
     let close : IsFalse (is_farther usual_slack p c e.place) =
     ap (is_farther usual_slack p c) right.1 ∙ near e.node is_e in

@@ -5,10 +5,10 @@ use Rattle.olr_ambiguity.proofs.Common.{Bool, length-take-le, Contains-get_or, o
 use Rattle.olr_ambiguity.proofs.Common.{true, filter, length, get_or, IsTrue, eq-eqb, ne_eqb, is_some, side_at, in_from, Placed}
 use Rattle.olr_ambiguity.proofs.Common.{false, IsStrictlyIncreasing, Contains-push_cases, Any-from_list_any, is_outdone_for_all}
 use Rattle.olr_ambiguity.proofs.Common.{Contains, arith, has_line, has_node, coord_at, list_any, Outgoing, all_nodes, has_there}
-use Rattle.olr_ambiguity.proofs.Common.{and_parts, both_ways, take_more, Reference, Other_node, has-filter, exactly_in}
-use Rattle.olr_ambiguity.proofs.Common.{cases_Bool, map-append, append-nil, is_farther, usual_slack, Same_sector, exactly_out}
+use Rattle.olr_ambiguity.proofs.Common.{and_parts, both_ways, take_more, Reference, has-filter, exactly_in}
+use Rattle.olr_ambiguity.proofs.Common.{cases_Bool, map-append, append-nil, is_farther, usual_slack, exactly_out}
 use Rattle.olr_ambiguity.proofs.Common.{or_left, node_on, Incoming, is_rival, lines_on, Obstacle, has_here, has_from, AreAdded}
-use Rattle.olr_ambiguity.proofs.Common.{coordinate_on, append_assoc, decoded_coord, Other_bearing, obstacles_at, has-all_nodes}
+use Rattle.olr_ambiguity.proofs.Common.{coordinate_on, append_assoc, decoded_coord, obstacles_at, has-all_nodes}
 use Rattle.std.proofs.lemmas.List.Kept.{IsStrictlyIncreasing-filter}
 
 pub none_any : (p : ℕ → Bool) (xs : List ℕ) → ((x : ℕ) → has xs x ≡ true → p x ≡ false) → list_any p xs ≡ false
@@ -100,18 +100,10 @@ all_found M p found up sound whole =
 abbrev pub numbered : ℕ → List Obstacle → List (ℕ × Obstacle)
 numbered k os = map {A = Obstacle} {B = ℕ × Obstacle} (λ o. (k, o)) os
 
-abbrev pub each : ℕ → (ℕ → Obstacle) → List ℕ → List (ℕ × Obstacle)
-each k f xs = map {A = ℕ} {B = ℕ × Obstacle} (λ x. (k, f x)) xs
-
-tag : (k : ℕ) (f : ℕ → Obstacle) (xs : List ℕ) → numbered k (map f xs) ≡ each k f xs
-tag k f [] = refl
-tag k f (x ∷ xs) = ap (λ (os : List (ℕ × Obstacle)). (k, f x) ∷ os) (tag k f xs)
-
-pub joined_at : (k : ℕ) (start one two three : List (ℕ × Obstacle)) (ts us rs : List ℕ) →
-    one ≡ start ++ each k (λ y. Same_sector y) ts → two ≡ one ++ each k (λ y. Other_bearing y) us →
-    three ≡ two ++ each k (λ v. Other_node v) rs → three ≡ start
-    ++ numbered k (map (λ y. Same_sector y) ts ++ map (λ y. Other_bearing y) us ++ map (λ v. Other_node v) rs)
-joined_at k start one two three ts us rs a b c = grind (arith, a, b, c, map-append, tag, append_assoc)
+pub joined_at : (k : ℕ) (start one two three : List (ℕ × Obstacle)) (os ps qs : List Obstacle) →
+    one ≡ start ++ numbered k os → two ≡ one ++ numbered k ps → three ≡ two ++ numbered k qs →
+    three ≡ start ++ numbered k (os ++ ps ++ qs)
+joined_at k start one two three os ps qs a b c = grind (arith, a, b, c, map-append, append_assoc)
 
 abbrev at : Map → Reference → ℕ → ℕ → List (ℕ × Obstacle)
 at M r k x = numbered k (obstacles_at M (side_at r k) (decoded_coord r k) x)

@@ -2,8 +2,7 @@
 --     cells_from low most z      the number of cells between two coordinates: 0 if z is below, and at most `most`
 --     cell_of c      the number of a coordinate's cell, row by row
 --     ArePlaced M es      each is a node of the map, with its coordinate and its cell
---     IsPlacing M F es      among them each of the nodes F
---     IsGridOf M F es, IsGrid M es      the same, in ascending order of cells; of all nodes
+--     IsGridOf M F es, IsGrid M es      among them each of the nodes F, in ascending order of cells; of all nodes
 --     HasRivals M s p x es, HasAllRivals M r xs es      a grid with each rival of line x at an LRP that is decoded as p; of
 --         the lines xs at all LRPs of a reference
 --     Starts es first i      where the cells from the first on start
@@ -58,12 +57,9 @@ abbrev pub ArePlaced : Map → List Placed → Type 0
 ArePlaced M es = (e : Placed) → Contains es e →
     IsTrue (has_node M e.node) × (e.place ≡ coord_at M e.node) × (e.cell ≡ cell_of e.place)
 
-pub record IsPlacing (M : Map) (F : ℕ → Type 0) (es : List Placed) : Type 0 where
+pub record IsGridOf (M : Map) (F : ℕ → Type 0) (es : List Placed) : Type 0 where
   pub right : ArePlaced M es
   pub whole : (v : ℕ) → F v → (e : Placed) × Contains es e × (e.node ≡ v)
-
-pub record IsGridOf (M : Map) (F : ℕ → Type 0) (es : List Placed) : Type 0 where
-  pub placing : IsPlacing M F es
   pub sorted : IsNonDecreasingBy (λ e. e.cell) es
 
 abbrev pub IsGrid : Map → List Placed → Type 0

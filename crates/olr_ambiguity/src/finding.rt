@@ -42,8 +42,8 @@ fn push_lines<M: MapRead>(
 ) -> Result<(), AllocError>
     requires own { IsOwnLine (M.map map.now) own.now }
     requires known { All (λ y. IsTrue (has_line (M.map map.now) y)) lines.now }
-    ensures { OnOk result (list_map found_of found.new.items ≡ list_map found_of found.old.items ++ list_map (λ y. (lrp, named cause y))
-        (filter (applies cause (M.map map.now) (side_of own.now.side) own.now.id) lines.now)) }
+    ensures { OnOk result (list_map found_of found.new.items ≡ list_map found_of found.old.items ++ list_map (λ o. (lrp, o))
+        (list_map (named cause) (filter (applies cause (M.map map.now) (side_of own.now.side) own.now.id) lines.now))) }
 {
     for line in lines {
         let (applies, obstacle) = match cause {

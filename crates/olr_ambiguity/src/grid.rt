@@ -3,7 +3,7 @@ ghost use Rattle.std.specs.Prelude.{◌≡◌, ◌≤◌, ◌<◌, ◌*◌, ◌^
 ghost use Rattle.std.specs.List.Sorted.{IsNonDecreasingBy};
 ghost use Rattle.olr_spec.specs.Ambiguity.{all_nodes};
 ghost use Rattle.olr_spec.specs.Map.{has_node};
-ghost use Rattle.olr_ambiguity.specs.Grids.{IsGrid, IsGridOf, IsPlacing, Starts, cell_at, cell_of, cells_from, last_cell};
+ghost use Rattle.olr_ambiguity.specs.Grids.{IsGrid, IsGridOf, Starts, cell_at, cell_of, cells_from, last_cell};
 
 use crate::own_line::coord_of;
 use olr_coords::Coord;
@@ -82,23 +82,6 @@ fn cell_of(place: Coord) -> u64
     )
 }
 
-/// These nodes with their cells, in this order.
-fn with_cells<M: MapRead>(alloc: Global, map: &M, ids: &[NodeId]) -> Result<Vec<Placed>, AllocError>
-    requires { All (λ v. IsTrue (has_node (M.map map.now) v)) ids.now }
-    ensures { IfOk result (λ v. IsPlacing (M.map map.now) (Contains ids.now) v.items) }
-{
-    let mut nodes = Vec::with_capacity(alloc, ids.len())?;
-    for id in ids {
-        let place = coord_of(map, *id);
-        nodes.push(Placed {
-            cell: cell_of(place),
-            node: *id,
-            place,
-        })?;
-    }
-    Ok(nodes)
-}
-
 /// The position of the first node whose cell is at least `first`.
 fn start_of(nodes: &[Placed], first: u64) -> usize
     requires { IsNonDecreasingBy (λ e. e.cell) nodes.now }
@@ -122,7 +105,15 @@ impl Grid {
         requires { All (λ v. IsTrue (has_node (M.map map.now) v)) ids.now }
         ensures { IfOk result (λ grid. IsGridOf (M.map map.now) (Contains ids.now) grid.nodes.items) }
     {
-        let mut nodes = with_cells(alloc, map, ids)?;
+        let mut nodes = Vec::with_capacity(alloc, ids.len())?;
+        for id in ids {
+            let place = coord_of(map, *id);
+            nodes.push(Placed {
+                cell: cell_of(place),
+                node: *id,
+                place,
+            })?;
+        }
         nodes.sort_unstable_by_key(|node| node.cell);
         Ok(Grid { nodes })
     }

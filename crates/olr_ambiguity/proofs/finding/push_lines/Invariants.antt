@@ -5,5 +5,5 @@ use Rattle.olr_ambiguity.proofs.finding.push_lines.Given as goal
 -- those of the lines so far
 abbrev pub invariant-loop-line : goal.invariant-loop-line
 invariant-loop-line g l =
-    map found_of l.found.items ≡ map found_of l.initial.found.items ++ map (λ y. (l.lrp, named l.cause y))
-    (filter (applies l.cause (g.M.MapRead.map l.map) (side_of l.own.side) l.own.id) (take l.line-index l.lines))
+    map found_of l.found.items ≡ map found_of l.initial.found.items ++ map (λ o. (l.lrp, o)) (map (named l.cause)
+    (filter (applies l.cause (g.M.MapRead.map l.map) (side_of l.own.side) l.own.id) (take l.line-index l.lines)))

@@ -1,5 +1,5 @@
 use Rattle.olr_ambiguity.proofs.Common.{◌≡◌, ℕ, ◌<◌, get_or, Contains, Placed, ArePlaced}
-use Rattle.olr_ambiguity.proofs.grid.with_cells.Given as goal
+use Rattle.olr_ambiguity.proofs.grid.Grid.of.Given as goal
 
 -- the nodes so far
 abbrev pub invariant-loop-id : goal.invariant-loop-id
