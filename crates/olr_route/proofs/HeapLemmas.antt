@@ -1,7 +1,7 @@
 -- The entries of the queue before and after a push and a pop.
-use Rattle.olr_route.proofs.Common.{◌≡◌, ℕ, ◌<◌, ◌≤◌, ◌⊎◌, [], ◌∷◌, sym, ap, ◌∙◌, inl, inr, ◌/◌, ◌%◌, ◌^◌, Some}
-use Rattle.olr_route.proofs.Common.{List, Contains, subst, arith, refl, queue_key, IsUpperBound, false, lt_by_cmp, nat_eq_equiv}
-use Rattle.olr_route.proofs.Common.{IsPermutation, Contains-permutation, Contains-one, Contains-here, IsPermutation-sym, ne_eqb}
+use Rattle.olr_route.proofs.Common.{◌≡◌, ℕ, ◌<◌, ◌≤◌, ◌⊎◌, [], ◌∷◌, sym, ap, ◌∙◌, inl, inr, ◌/◌, ◌%◌, ◌^◌, Some, List, Contains}
+use Rattle.olr_route.proofs.Common.{subst, arith, refl, queue_key, IsUpperBound, false, lt_by_cmp, nat_eq_equiv, IsPermutation}
+use Rattle.olr_route.proofs.Common.{Contains-permutation, Contains-one, Contains-here, IsPermutation-sym, ne_eqb}
 use Rattle.olr_route.proofs.Common.{Contains-append_cases, Contains-append_right, IsDistinct-IsPermutation, All-contains_itself}
 use Rattle.std.proofs.lemmas.Map.Keys.{ge_from_not_lt, IsDistinct-cons, IsDistinct-head, IsDistinct-tail}
 use Rattle.std.specs.Prelude.{None, Ok, Err, Option, Result, IfSome, IfNone, OnOk, OnErr}

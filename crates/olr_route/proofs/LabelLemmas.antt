@@ -84,13 +84,8 @@ pub near_of : (M : Map) (slot : ℕ → ℕ) (s : ℕ) (x : Labels) → AreLabel
     LeastWithin M s (limit_of x) v (front ++ y ∷ []) → LiesWithin M Along ((s, 0) ∷ []) (limit_of x) v
 near_of M slot s x a v y front l =
     let m = a.sound in
-    grind (
-      arith,
-      near_leads M slot Along ((s, 0) ∷ []) x.search a.search v,
-      route_leads M s,
-      last_step M s v y front,
-      route_start M m s (start M y) front,
-    )
+    let near = near_leads _ _ _ _ _ a.search v in
+    grind (arith, near, route_leads M s, last_step M s v y front, route_start M m s (start M y) front)
 
 -- the label of a node
 pub label_of : (M : Map) (slot : ℕ → ℕ) (s : ℕ) (x : Labels) → AreLabels M slot s x → (v : ℕ) →

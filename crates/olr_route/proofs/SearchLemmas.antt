@@ -5,7 +5,7 @@ use Rattle.olr_route.proofs.Common.{cases_lt, get_or-set_same, get_or-set_other,
 use Rattle.olr_route.proofs.Common.{Contains-one, Leads, IsDistance, label_in, NotesOnce, AreApart, label_of, frontier_len}
 use Rattle.olr_route.proofs.Common.{IsQueued, IsRelaxed, Moves, IsLabelled, IsSearch, LiesWithin, GREATEST_LIMIT, Frontier}
 use Rattle.olr_route.proofs.Common.{Direction, Dijkstra, Contains-get_or, sum_by-set, queue_len, IsEmpty, IsAlike, NotedOnce}
-use Rattle.olr_route.proofs.Common.{CoversSlots, IsReached, all_pairs_push, cases_Bool, false≢true, has_from, in_from, has}
+use Rattle.olr_route.proofs.Common.{CoversSlots, all_pairs_push, cases_Bool, false≢true, has_from, in_from, has}
 use Rattle.olr_route.proofs.WayLemmas.{leads_node, ends_there}
 
 -- ---- one label is lowered
@@ -154,8 +154,8 @@ module _ (M : Map) (slot : ℕ → ℕ) (direction : Direction) (from : List (�
         let is = label_is v near.0 known near.1 near.2 in
         labelled_listed s.frontier (slot v) (omega arith)
 
-    pub listed_reached : (p : ℕ) → Contains s.frontier.reached.items p → (v : ℕ) × IsReached M direction from v
-        × (slot v ≡ p)
+    pub listed_reached : (p : ℕ) → Contains s.frontier.reached.items p →
+        (v : ℕ) × ((d : ℕ) × Leads M direction from v d × (d ≤ GREATEST_LIMIT)) × (slot v ≡ p)
     listed_reached p c =
         let l = h.under_way.labelled in
         let small = l.listed p c in

@@ -5,7 +5,6 @@
 --     HasEnds M      each line's ends are on the map, and its length is positive
 --     IsBegunAt M slot from labels p      the label at p is no less than one with which the search begins there
 --     LiesWithin M direction from limit v      v has a distance of at most the limit
---     IsReached M direction from v      a route of at most the greatest limit leads to v
 --     Counts M direction from limit n      n nodes have a distance of at most the limit
 --     IsOnlyPredecessor M slot f x v length      no line but x leads to v within the length
 --     CutAt M slot direction P f v d      each line from v, at the distance d, leads to a label of at most d plus its
@@ -109,9 +108,6 @@ IsOnlyPredecessor M slot f x v length =
 
 abbrev pub LiesWithin : Map → Direction → List (ℕ × ℕ) → ℕ → ℕ → Type 0
 LiesWithin M direction from limit v = (d : ℕ) × IsDistance M direction from v d × (d ≤ limit)
-
-abbrev pub IsReached : Map → Direction → List (ℕ × ℕ) → ℕ → Type 0
-IsReached M direction from v = (d : ℕ) × Leads M direction from v d × (d ≤ GREATEST_LIMIT)
 
 pub record Counts (M : Map) (direction : Direction) (from : List (ℕ × ℕ)) (limit n : ℕ) : Type 0 where
   pub nodes : List ℕ

@@ -11,7 +11,7 @@ ghost use Rattle.olr_spec.specs.Routes.{UniqueShortest, dm_of};
 ghost use Rattle.olr_route.specs.Distances.{IsDistance, Leads};
 ghost use Rattle.olr_route.specs.Frontiers.{label_of};
 ghost use Rattle.olr_route.specs.Lengths.{AreFit, IsSearchedAs, MayCount};
-ghost use Rattle.olr_route.specs.Searches.{IsSearch, LiesWithin, IsReached, Counts, StaysWithin};
+ghost use Rattle.olr_route.specs.Searches.{IsSearch, LiesWithin, Counts, StaysWithin};
 ghost use Rattle.olr_route.specs.Searches.{IsOnlyPredecessor, limit_of};
 ghost use Rattle.olr_route.specs.Bounds.{AreBounds, AreLengths, IsUnder, label_at};
 ghost use Rattle.olr_route.specs.declared.distances.Direction.TheVariants.{Along};
@@ -20,7 +20,7 @@ use crate::bounds::Anywhere;
 use crate::frontier::{Frontier, GREATEST_LIMIT};
 use crate::lengths::{AsOnMap, Lengths};
 use crate::resolved::ResolvedLine;
-use crate::steps::{settle, start};
+use crate::steps::{label_node, settle};
 use olr_model::{LineEnd, LineId, MapRead, NodeId};
 use std::alloc::{AllocError, Global};
 
@@ -78,7 +78,9 @@ impl Dijkstra {
         self.frontier.make_room(map.slot_count())?;
         for begin in from {
             let (node, length) = *begin;
-            start(map, direction, node, length, &mut self.frontier)?;
+            if let Some(slot) = map.slot_of(node) {
+                label_node(map, direction, &Anywhere, slot, length, &mut self.frontier)?;
+            }
         }
         let settled = settle(map, direction, 0, &Anywhere, &AsOnMap, &mut self.frontier)?;
         self.settled = settled;
@@ -205,10 +207,8 @@ impl Dijkstra {
             → IsSearch (M.map map.now) (M.node_slot map.now) direction from self.now
             → ((result ≡ Some d) ↔ (IsDistance (M.map map.now) direction from node d × (d ≤ limit_of self.now))) }
     {
-        match map.slot_of(node) {
-            None => None,
-            Some(slot) => self.dist_at(slot),
-        }
+        let slot = map.slot_of(node)?;
+        self.dist_at(slot)
     }
 
     /// The distance, as in `dist`, of the node in this slot of the map.
@@ -246,7 +246,7 @@ impl Dijkstra {
             → IsSearch M node_slot direction from self.now → IsDistinct ◌==◌ result.now }
         ensures reached { (M : Map) (node_slot : ℕ → ℕ) (direction : _) (from : List (ℕ × ℕ)) (p : ℕ)
             → IsSearch M node_slot direction from self.now → Contains result.now p
-            → (v : ℕ) × IsReached M direction from v × (node_slot v ≡ p) }
+            → (v : ℕ) × ((d : ℕ) × Leads M direction from v d × (d ≤ GREATEST_LIMIT)) × (node_slot v ≡ p) }
         ensures exactly { (M : Map) (node_slot : ℕ → ℕ) (direction : _) (from : List (ℕ × ℕ)) (v : ℕ)
             → IsSearch M node_slot direction from self.now → limit_of self.now ≡ GREATEST_LIMIT
             → IsTrue (has_node M v) → Contains result.now (node_slot v)

@@ -1,22 +1,22 @@
-//! The steps of a search that can be continued: the nodes where it begins, the lines from a node, and all queued nodes up
-//! to a length.
-ghost use Rattle.std.specs.Prelude.{◌≡◌, ◌≤◌, ◌<◌, ◌+◌, ◌⊎◌, ℕ, List, Contains, OnOk, IfOk, IsTrue, max};
+//! The steps of a search that can be continued: a node's label, the lines from a node, and all queued nodes up to a
+//! length.
+ghost use Rattle.std.specs.Prelude.{◌≡◌, ◌≤◌, ◌<◌, ◌+◌, ◌⊎◌, ℕ, List, OnOk, IfOk, IsTrue, max};
 ghost use Rattle.olr_spec.specs.Map.{Map, has_node};
 ghost use Rattle.olr_route.specs.Distances.{Leads, ends_at, lines_at};
 ghost use Rattle.olr_route.specs.Frontiers.{Moves, IsQueued, IsCounted, label_of, frontier_len};
-ghost use Rattle.olr_route.specs.Searches.{CoversSlots, IsLabelled, IsUnderWay, CutAt, IsCut, StaysWithin, IsBegunAt};
+ghost use Rattle.olr_route.specs.Searches.{CoversSlots, IsLabelled, IsUnderWay, CutAt, IsCut, StaysWithin};
 ghost use Rattle.olr_route.specs.Lengths.{AreFit, IsSeenAs, IsSearchedAs};
 
-use crate::bounds::{Admits, Anywhere};
+use crate::bounds::Admits;
 use crate::distances::Direction;
 use crate::frontier::{Frontier, GREATEST_LIMIT};
 use crate::lengths::Lengths;
-use olr_model::{LineEnd, MapRead, NodeId, NodeLines};
+use olr_model::{LineEnd, MapRead, NodeLines};
 use std::alloc::AllocError;
 
 /// Lowers a node's label to a length in decimetres. No effect if the label is no greater, or the node may not have this
 /// length as its label.
-fn label_node<M: MapRead, A: Admits>(
+pub fn label_node<M: MapRead, A: Admits>(
     map: &M,
     direction: Direction,
     admits: &A,
@@ -42,33 +42,6 @@ fn label_node<M: MapRead, A: Admits>(
     } else {
         Ok(())
     }
-}
-
-/// Lowers a node's label to a length in decimetres. No effect if the label is no greater, or the node is not on the
-/// map.
-pub fn start<M: MapRead>(
-    map: &M,
-    direction: Direction,
-    node: NodeId,
-    length: u32,
-    frontier: &mut Frontier,
-) -> Result<(), AllocError>
-    requires { CoversSlots (M.map map.now) (M.node_slot map.now) frontier.old }
-    ensures moves { OnOk result (Moves frontier.old frontier.new) }
-    ensures labelled { OnOk result ((way : _) (from : List (ℕ × ℕ)) → Contains from (node, length)
-        → IsLabelled (M.map map.now) (M.node_slot map.now) way from frontier.old
-        → IsLabelled (M.map map.now) (M.node_slot map.now) way from frontier.new) }
-    ensures begun { OnOk result (IsTrue (has_node (M.map map.now) node) →
-        label_of frontier.new (M.node_slot map.now node) ≤ length) }
-    ensures only { OnOk result ((from : List (ℕ × ℕ)) (p : ℕ) → Contains from (node, length)
-        → (label_of frontier.new p ≡ label_of frontier.old p)
-        ⊎ IsBegunAt (M.map map.now) (M.node_slot map.now) from (label_of frontier.new) p) }
-{
-    let Some(slot) = map.slot_of(node) else {
-        return Ok(());
-    };
-    label_node(map, direction, &Anywhere, slot, length, frontier)?;
-    Ok(())
 }
 
 /// The lines that are entered in this direction at the node in this slot, with their far ends.

@@ -27,11 +27,7 @@ counts g c =
     let e = entered g c in
     let is = get_or_default_zero c.lines_from.result.lines.now c.loop-index.index c.index-lines-index.result e.within in
     let line : c.index-lines-index.result ≡ get_or c.lines_from.result.lines.now c.loop-index.index 0 = c.index-lines-index.is ∙ is in
-    c.counted-length.ensures
-    ∙ coe 0 1 (i. g.L.Lengths.counts c.args.lengths.now c.index-lines-index.result
-    (get_or c.lines_from.result.ends.now c.loop-index.index no_end).len
-    ≡ g.L.Lengths.counts c.args.lengths.now (line i) (e.len i)) (λ _. g.L.Lengths.counts c.args.lengths.now
-    c.index-lines-index.result (get_or c.lines_from.result.ends.now c.loop-index.index no_end).len)
+    c.counted-length.ensures ∙ (λ i. g.L.Lengths.counts c.args.lengths.now (line i) (e.len i))
 
 fits : (g : Over) (c : After-counted-length g) → (0 < c.counted-length.result) × (c.counted-length.result ≤ 2000000)
 fits g c =

@@ -34,11 +34,9 @@ overflow_add-settled g c =
     let o = c.in-Some.ensures in
     let b = c.requires.begun in
     let k = c.loop-next.invariant.counted b.2 b.3 b.4 b.7 in
-    let fits =
-    counted_fits c.pop_within.new.self (b.2 + c.loop-next.settled + 1) c.in-Some.next.0 c.in-Some.next.0
-    (omega (arith, o.popped.within))
-    (counted_more c.loop-next.frontier c.pop_within.new.self o.alike o.fewer _ c.in-Some.next o.popped
-    (omega (arith, alike_labels _ _ o.alike c.in-Some.next.1)) (b.2 + c.loop-next.settled) k.0 k.1 k.2) in
+    let is = alike_labels _ _ o.alike c.in-Some.next.1 in
+    let more = counted_more _ _ o.alike o.fewer _ _ o.popped (omega arith) _ _ _ k.2 in
+    let fits = counted_fits _ _ c.in-Some.next.0 _ (omega (arith, o.popped.within)) more in
     omega arith
 
 -- what is followed counts as it did at first
@@ -82,10 +80,7 @@ loop-next-preserved-in-Continue-1 g c =
       counted = λ n near next h.
           let k = c.loop-next.invariant.counted n near next h in
           let le = k.2.ahead c.in-Some.next.0 c.in-Some.next.1 o.popped.there in
-          let now =
-          e.counted (n + c.loop-next.settled + 1)
-          (counted_more c.loop-next.frontier c.pop_within.new.self o.alike o.fewer _ c.in-Some.next o.popped
-          (omega arith) (n + c.loop-next.settled) k.0 k.1 k.2) in (
+          let now = e.counted _ (counted_more _ _ o.alike o.fewer _ _ o.popped (omega arith) _ _ _ k.2) in (
             c.in-Some.next.0,
             c.in-Some.next.0,
             subst (λ (m : ℕ). IsCounted c.follow.new.frontier m c.in-Some.next.0 c.in-Some.next.0) (omega arith) now,
@@ -140,8 +135,7 @@ pub returns-clause-counted : goal.returns-clause-counted
 returns-clause-counted g c = λ n near next h.
     let e = c.in_default.ensures in
     let k = c.loop-next.invariant.counted n near next h in
-    let now =
-    counted_same c.loop-next.frontier c.pop_within.new.self e.alike e.fewer (λ q w. e.same _ q w) _ k.0 k.1 k.2 in
+    let now = counted_same _ _ e.alike e.fewer (λ q w. e.same _ q w) _ _ _ k.2 in
     counted_up c.pop_within.new.self _ k.0 k.1 _ _ (omega (arith, k.3)) (omega (arith, h.ordered))
     (λ d p w. let far = e.far d p w in let le = now.ahead d p w in omega (arith, k.4)) now
 

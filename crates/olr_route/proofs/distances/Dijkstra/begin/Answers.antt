@@ -1,11 +1,12 @@
-use Rattle.olr_route.proofs.Common.{◌≡◌, ◌≤◌, ℕ, IsTrue, get_or, refl, sym, subst, ◌∙◌, inl, inr, arith, below_more}
-use Rattle.olr_route.proofs.Common.{get_or_default, has_node, label_of, IsQueued, IsUnderWay}
+use Rattle.olr_route.proofs.Common.{◌≡◌, ◌≤◌, ℕ, IsTrue, get_or, refl, sym, ap, subst, ◌∙◌, inl, inr, arith, below_more}
+use Rattle.olr_route.proofs.Common.{get_or_default, has_node, label_of, IsQueued, IsUnderWay, Frontier, Contains}
 use Rattle.olr_route.proofs.SearchLemmas.{empty_labelled}
 use Rattle.olr_route.proofs.SettledLemmas.{counted_none, counted_as}
 use Rattle.olr_route.proofs.CutLemmas.{settled_up_to, begun_still, near_on}
 use Rattle.olr_route.proofs.MarkLemmas.{plain}
+use Rattle.olr_route.proofs.WayLemmas.{leads_first}
 use Rattle.olr_route.proofs.distances.Dijkstra.begin.Given.{Over}
-use Rattle.olr_route.proofs.distances.Dijkstra.begin.Goals.{After-loop-begin}
+use Rattle.olr_route.proofs.distances.Dijkstra.begin.Goals.{After-loop-begin, in-Some+in_ok-label_node, in_default}
 use Rattle.olr_route.proofs.distances.Dijkstra.begin.Goals as goal
 
 pub loop-begin-init : goal.loop-begin-init
@@ -25,30 +26,53 @@ loop-begin-preserved g c =
     let M = g.M.MapRead.map c.args.map.now in
     let slot = g.M.MapRead.node_slot c.args.map.now in
     let inv = c.loop-begin.invariant in
-    let e = c.in_ok-start.ensures in
     let items = c.args.from.now in
     let item = c.begin-item.result in
     let n = c.loop-begin.begin-index in
-    let Begun : ℕ × ℕ → Type 0 = λ x. IsTrue (has_node M x.0) → label_of c.start.new.frontier (slot x.0) ≤ x.1 in
-    record {
-      labelled =
-          e.labelled c.args.direction items (n, c.loop-begin-test.true, sym c.begin-item.is) inv.labelled;
-      begun = below_more (λ j. Begun (get_or items j (0, 0))) n
-          (λ j low known. let was = inv.begun j low known in let le = e.moves.better (slot (get_or items j (0, 0)).0) in
-          omega arith)
-          (subst Begun (c.begin-item.is ∙ get_or_default items n item (0, 0) c.loop-begin-test.true) e.begun);
-      front = λ p small. elim (e.moves.fresh p) [
-        | inl same ↦ subst (λ (n : ℕ). IsQueued c.start.new.frontier n p) (sym same)
-            (e.moves.kept (label_of c.loop-begin.self.frontier p) p (inv.front p (omega arith)))
-        | inr q ↦ q
-      ];
-      near = λ p small. elim (e.only items p (n, c.loop-begin-test.true, sym c.begin-item.is)) [
-        | inr b ↦ b
-        | inl same ↦ begun_still (λ v there. there) same (inv.near p (omega arith))
-      ];
-      way = inv.way;
-      limit = inv.limit;
-    }
+    let at = c.begin-item.is ∙ get_or_default items n item (0, 0) c.loop-begin-test.true in
+    let Begun : Frontier → ℕ × ℕ → Type 0 = λ f x. IsTrue (has_node M x.0) → label_of f (slot x.0) ≤ x.1 in
+    elim c.match-slot_of.branch [
+      | in_default w ↦ rw w.self-is (record {
+        labelled = inv.labelled;
+        begun = below_more (λ j. Begun c.loop-begin.self.frontier (get_or items j (0, 0))) n inv.begun
+            (subst (Begun c.loop-begin.self.frontier) at (λ known. absurd (w.in_default.ensures known)));
+        front = inv.front;
+        near = inv.near;
+        way = inv.way;
+        limit = inv.limit;
+      })
+      | in-Some+in_ok-label_node w ↦
+          let h = w.label_node.new.frontier in
+          let e = w.in_ok-label_node.ensures in
+          let there = w.in-Some.ensures in
+          let listed : Contains items item = (n, c.loop-begin-test.true, sym c.begin-item.is) in
+          rw w.self-is (record {
+            labelled = e.labelled M slot c.args.direction items item.0 there.0 (sym there.1)
+                (leads_first M c.args.direction items item.0 item.1 listed there.0) inv.labelled;
+            begun = below_more (λ j. Begun h (get_or items j (0, 0))) n
+                (λ j low known. let was = inv.begun j low known in let le = e.moves.better (slot (get_or items j (0, 0)).0) in
+                omega arith)
+                (subst (Begun h) at (λ known. let low = e.low tt in omega (arith, ap (label_of h) there.1)));
+            front = λ p small. elim (e.moves.fresh p) [
+              | inl same ↦ subst (λ (n : ℕ). IsQueued h n p) (sym same)
+                  (e.moves.kept (label_of c.loop-begin.self.frontier p) p (inv.front p (omega arith)))
+              | inr q ↦ q
+            ];
+            near = λ p small. elim (e.only p) [
+              | inl same ↦ begun_still (λ v known. known) same (inv.near p (omega arith))
+              | inr new ↦ record {
+                source = item.0;
+                begun = item.1;
+                listed = listed;
+                there = there.0;
+                at = sym (new.1 ∙ there.1);
+                least = omega (arith, new.0);
+              }
+            ];
+            way = inv.way;
+            limit = inv.limit;
+          })
+    ]
 
 -- the search is under way when the loop has ended
 under_way : (g : Over) (c : After-loop-begin g) →
