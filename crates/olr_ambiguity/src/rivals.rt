@@ -1,10 +1,9 @@
 //! Other nodes near the decoded coordinate of an LRP.
-ghost use Rattle.std.specs.Prelude.{◌≡◌, ◌+◌, ◌*◌, ◌^◌, ◌≤◌, not, filter, IfOk, OnOk, IsTrue};
+ghost use Rattle.std.specs.Prelude.{◌≡◌, not, filter, IfOk, OnOk, IsTrue};
 ghost use Rattle.std.specs.List.{All, list_any};
 ghost use Rattle.olr_spec.specs.Map.{coord_at, has_line, has_node};
-ghost use Rattle.olr_spec.specs.Recovery.{lat_apart, lon_apart};
 ghost use Rattle.olr_spec.specs.Reference.{leg};
-ghost use Rattle.olr_spec.specs.Ambiguity.{all_nodes, is_outdone_for_all, is_rival, usual_slack};
+ghost use Rattle.olr_spec.specs.Ambiguity.{all_nodes, is_outdone_for_all, is_rival};
 ghost use Rattle.olr_ambiguity.specs.Grids.{AreAdded, ArePlaced, HasRivals, IsWindow};
 ghost use Rattle.olr_ambiguity.specs.OwnLines.{IsOwnLine, side_of};
 ghost use Rattle.olr_ambiguity.specs.Places.{IsPlaced, place_of};
@@ -24,21 +23,13 @@ pub(crate) struct Window {
     pub columns: (u64, u64),
 }
 
-/// How far a node may be from the decoded coordinate, in units: the own node's distance along both axes, and the slack.
-fn reach_of(place: DecodedPlace, here: Coord) -> u128
-    requires { IsPlaced place }
-    ensures value { result ≡ lon_apart (place_of place) here + lat_apart (place_of place) here + usual_slack }
-    ensures small { result ≤ 5 * 10 ^ 31 }
-{
-    lon_apart(place, here) + lat_apart(place, here) + SLACK
-}
-
 /// The part of the grid in which each node is that isn't farther than the own one by more than the slack.
 pub(crate) fn window_of(place: DecodedPlace, here: Coord) -> Window
     requires { IsPlaced place }
     ensures { IsWindow (place_of place) here result }
 {
-    let reach = reach_of(place, here);
+    // The own node's distance along both axes, and the slack, in units; in longitude farther, by the least cosine.
+    let reach = lon_apart(place, here) + lat_apart(place, here) + SLACK;
     let cosine = cosine_up_to(place.lat.unsigned_abs() + reach);
     let rows = cells_around(LOWEST_LAT, place.lat, reach);
     if cosine == 0 {

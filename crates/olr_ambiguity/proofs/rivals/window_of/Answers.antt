@@ -8,19 +8,20 @@ pub returns-then-cosine-eq0 : goal.returns-then-cosine-eq0
 returns-then-cosine-eq0 c =
     record {
       rows = λ d near. c.cells_around-rows.ensures.around d.lat
-          (lat_within (place_of c.args.place) c.args.here d near _ _ (held_small c.args.place.lat c.requires.lat) c.reach_of-reach.ensures.value);
+          (lat_within (place_of c.args.place) c.args.here d near _ _ (held_small c.args.place.lat c.requires.lat) (omega arith));
       columns = λ d near. (omega arith, cells_few lowest_lon d.lon);
       few = (c.cells_around-rows.ensures.few.1, omega arith, omega arith);
     }
 
 pub cells_around-columns-requires-clause-reach : goal.cells_around-columns-requires-clause-reach
 cells_around-columns-requires-clause-reach c =
-    omega (arith, div-le_self (1000000 * c.reach_of-reach.result) c.cosine_up_to-cosine.result, c.reach_of-reach.ensures.small)
+    omega (arith, div-le_self (1000000 * (c.lon_apart.result + c.lat_apart.result + usual_slack)) c.cosine_up_to-cosine.result)
 
 pub returns : goal.returns
 returns c =
     let p = place_of c.args.place in
-    let far = c.reach_of-reach.ensures.value in
+    let reach = c.lon_apart.result + c.lat_apart.result + usual_slack in
+    let far : reach ≡ lon_apart p c.args.here + lat_apart p c.args.here + usual_slack = omega arith in
     let cosine = c.cosine_up_to-cosine.result in
     let steep : c.unsigned_abs.result ≡ nat_abs c.args.place.lat = c.unsigned_abs.ensures.value ∙ ap nat_abs (held_small c.args.place.lat c.requires.lat) in
     let by : cosine ≡ cosine_up_to (nat_abs p.1 + (lon_apart p c.args.here + lat_apart p c.args.here + usual_slack)) =
@@ -30,9 +31,9 @@ returns c =
           (lat_within p c.args.here d near _ _ (held_small c.args.place.lat c.requires.lat) far);
       columns = λ d near.
           let wide =
-          most_of cosine (lon_apart p d) (1000000 * c.reach_of-reach.result) (omega arith) (subst (λ (n : ℕ). cosine * lon_apart p d ≤ 1000000 * n)
+          most_of cosine (lon_apart p d) (1000000 * reach) (omega arith) (subst (λ (n : ℕ). cosine * lon_apart p d ≤ 1000000 * n)
           (sym far) (near_by_cosine p c.args.here d near cosine by)) in
           c.cells_around-columns.ensures.around d.lon
-          (subst (λ (z : ℤ). nat_abs (z -ℤ d.lon) ≤ 1000000 * c.reach_of-reach.result / cosine) (sym (held_small c.args.place.lon c.requires.lon)) wide);
+          (subst (λ (z : ℤ). nat_abs (z -ℤ d.lon) ≤ 1000000 * reach / cosine) (sym (held_small c.args.place.lon c.requires.lon)) wide);
       few = (c.cells_around-rows.ensures.few.1, c.cells_around-columns.ensures.few.0, c.cells_around-columns.ensures.few.1);
     }
