@@ -88,10 +88,8 @@ fn push_at<M: MapRead>(
     push_lines(found, map, own, lrp, lines, Cause::Unclear)?;
     let nodes = rivals(alloc, map, grid, own)?;
     for node in nodes.as_slice() {
-        found.push(Found {
-            lrp,
-            obstacle: Obstacle::OtherNode(*node),
-        })?;
+        let obstacle = Obstacle::OtherNode(*node);
+        found.push(Found { lrp, obstacle })?;
     }
     Ok(())
 }

@@ -76,10 +76,9 @@ pub(crate) fn cell_at(row: u64, column: u64) -> u64
 fn cell_of(place: Coord) -> u64
     ensures { result ≡ cell_of place }
 {
-    cell_at(
-        cells_from(LOWEST_LAT, i128::from(place.lat())),
-        cells_from(LOWEST_LON, i128::from(place.lon())),
-    )
+    let row = cells_from(LOWEST_LAT, i128::from(place.lat()));
+    let column = cells_from(LOWEST_LON, i128::from(place.lon()));
+    cell_at(row, column)
 }
 
 /// The position of the first node whose cell is at least `first`.

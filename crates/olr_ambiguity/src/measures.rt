@@ -58,12 +58,8 @@ fn least_cosine(place: DecodedPlace, coord: Coord) -> u128
     ensures value { result ≡ least_cosine (place_of place) coord }
     ensures small { result ≤ 980000 }
 {
-    cosine_up_to(
-        place
-            .lat
-            .unsigned_abs()
-            .max(u128::from(coord.lat().unsigned_abs())),
-    )
+    let latitude = u128::from(coord.lat().unsigned_abs());
+    cosine_up_to(place.lat.unsigned_abs().max(latitude))
 }
 
 /// Whether a node at `other` is farther from a decoded coordinate than one at `own`, by more than `more` units, for every

@@ -149,15 +149,14 @@ pub(crate) fn own_line<M: MapRead>(map: &M, place: DecodedPlace, side: Side, id:
     ensures same { (result.id ≡ id) × (result.side ≡ side) × (result.place ≡ place) }
 {
     let line = line_of(map, id);
-    let (frc, fow) = (line.frc, line.fow);
     OwnLine {
         place,
         side,
         id,
         node: node_on(map, side, id),
         here: coordinate_on(map, side, id),
-        frc,
-        fow,
+        frc: line.frc,
+        fow: line.fow,
         sector: sector_on(map, side, id),
     }
 }
@@ -191,8 +190,7 @@ fn is_aside<M: MapRead>(map: &M, own: &OwnLine, id: LineId) -> bool
     ensures { result ≡ is_beyond (sector_on (side_of own.now.side) (leg (M.map map.now) own.now.id))
         (direction_on (side_of own.now.side) (leg (M.map map.now) id)) }
 {
-    let direction = direction_on(map, own.side, id);
-    is_beyond(own.sector, direction)
+    is_beyond(own.sector, direction_on(map, own.side, id))
 }
 
 /// Whether a line is another one at the own line's node that is no twin, and whose direction isn't outside of the
@@ -203,8 +201,7 @@ pub(crate) fn is_unclear<M: MapRead>(map: &M, own: &OwnLine, id: LineId) -> bool
     ensures { result ≡ is_unclear (M.map map.now) (side_of own.now.side) own.now.id id }
 {
     if id == own.id {
-        let direction = direction_on(map, own.side, id);
-        return !is_direction(direction);
+        return !is_direction(direction_on(map, own.side, id));
     }
     !are_twins(map, own, id) && !is_aside(map, own, id)
 }
@@ -216,9 +213,7 @@ pub(crate) fn is_outdone<M: MapRead>(map: &M, own: &OwnLine, id: LineId) -> bool
     ensures { result ≡ is_outdone_for_all (side_of own.now.side) (place_of own.now.place)
         (leg (M.map map.now) own.now.id) (leg (M.map map.now) id) }
 {
-    let place = own.place;
-    let here = own.here;
     let there = coordinate_on(map, own.side, id);
-    is_farther(SLACK, place, here, there)
-        || is_farther(0, place, here, there) && is_aside(map, own, id)
+    is_farther(SLACK, own.place, own.here, there)
+        || is_farther(0, own.place, own.here, there) && is_aside(map, own, id)
 }

@@ -64,9 +64,7 @@ fn is_rival<M: MapRead>(map: &M, own: &OwnLine, node: NodeId, place: Coord) -> b
     requires place { place ≡ coord_at (M.map map.now) node }
     ensures { result ≡ is_rival (M.map map.now) (side_of own.now.side) (place_of own.now.place) own.now.id node }
 {
-    let decoded = own.place;
-    let here = own.here;
-    if node == own.node || is_farther(SLACK, decoded, here, place) {
+    if node == own.node || is_farther(SLACK, own.place, own.here, place) {
         return false;
     }
     has_rival(map, own, lines_on(map, own.side, node))
@@ -105,9 +103,7 @@ pub(crate) fn rivals<M: MapRead>(
         own.now.id) (all_nodes (M.map map.now))) }
 {
     let mut found = Footprint::new(alloc);
-    let place = own.place;
-    let here = own.here;
-    let window = window_of(place, here);
+    let window = window_of(own.place, own.here);
     let (first, last) = window.columns;
     for row in window.rows.0..window.rows.1 + 1 {
         let nodes = grid.within(cell_at(row, first), cell_at(row, last) + 1);
