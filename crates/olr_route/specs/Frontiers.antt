@@ -4,7 +4,6 @@
 --     IsQueued f d p      slot p is queued, at length d
 --     IsEmpty f      no labels, and nothing is queued
 --     IsAlike f g      the tables and the slots with labels are the same
---     IsKept f g      labels, slots with labels and queue are the same; there may be more room
 --     IsRelaxed f g p d      the label in slot p was lowered to d, unless it was no greater
 --     Moves f g      no label increased, and where one is new its slot is queued
 --     to_do f      what is left to do: it decreases with each label that is lowered and each entry that is removed
@@ -37,11 +36,6 @@ pub record IsAlike (f g : Frontier) : Type 0 where
   pub table : g.table.items ≡ f.table.items
   pub reached : g.reached.items ≡ f.reached.items
   pub len : frontier_len g ≡ frontier_len f
-
-pub record IsKept (f g : Frontier) : Type 0 where
-  pub labels : (p : ℕ) → label_of g p ≡ label_of f p
-  pub reached : g.reached.items ≡ f.reached.items
-  pub queue : g.queue ≡ f.queue
 
 -- the slot is recorded if it had no label
 abbrev pub NotedOnce : Frontier → Frontier → ℕ → Type 0

@@ -324,19 +324,12 @@ impl Dijkstra {
             (end (M.map map.now) line.id) (route ++ line.id ∷ [])) }
     {
         let length = self.frontier.label(line.to_slot);
-        if !is_sum(self.frontier.label(line.from_slot), line.len, length) {
+        if self.frontier.label(line.from_slot).saturating_add(line.len) != length {
             return false;
         }
         let entering = map.in_lines_at(line.to_slot);
         self.is_only_predecessor(line.id, entering.lines, entering.ends, length)
     }
-}
-
-/// Whether two lengths add up to a third one.
-fn is_sum(first: u32, second: u32, whole: u32) -> bool
-    ensures { IsTrue result ↔ (first + second ≡ whole) }
-{
-    second <= whole && first == whole - second
 }
 
 /// A search from some nodes, each with a start value, settled to a limit. All in decimetres.

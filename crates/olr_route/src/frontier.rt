@@ -46,7 +46,7 @@ impl Frontier {
     ghost use Rattle.std.specs.List.{filter};
     ghost use Rattle.olr_spec.specs.Map.{has_node};
     ghost use Rattle.olr_route.specs.Notes.{AreFilled, AreNodesIn};
-    ghost use Rattle.olr_route.specs.Frontiers.{label_of, frontier_len, IsAlike, IsKept, IsRelaxed, IsEmpty, IsQueued};
+    ghost use Rattle.olr_route.specs.Frontiers.{label_of, frontier_len, IsAlike, IsRelaxed, IsEmpty, IsQueued};
 
     /// No labels. Does not allocate.
     pub fn new(alloc: Global) -> Frontier
@@ -134,7 +134,9 @@ impl Frontier {
     pub fn make_room(&mut self, count: usize) -> Result<(), AllocError>
         ensures room { OnOk result (count ≤ frontier_len self.new) }
         ensures empty { IsEmpty self.old → IsEmpty self.new }
-        ensures kept { IsKept self.old self.new }
+        ensures labels { (p : ℕ) → label_of self.new p ≡ label_of self.old p }
+        ensures reached { self.new.reached.items ≡ self.old.reached.items }
+        ensures queue { self.new.queue ≡ self.old.queue }
     {
         if self.table.len() < count {
             self.table.resize(count, UNREACHED)?;

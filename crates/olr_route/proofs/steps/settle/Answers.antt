@@ -1,4 +1,4 @@
-use Rattle.olr_route.proofs.Common.{◌≡◌, ◌+◌, ℕ, refl, sym, ap, subst, ◌∙◌, inl, inr, arith, label_of, IsCounted, IsQueued}
+use Rattle.olr_route.proofs.Common.{◌≡◌, ℕ, refl, sym, ap, subst, ◌∙◌, inl, inr, arith, label_of, IsCounted, IsQueued}
 use Rattle.olr_route.proofs.Common.{IsTrue, Map, IsSearchedAs, IsSeenAs, ◌≤◌}
 use Rattle.olr_route.proofs.SettledLemmas.{counted_same, counted_more, counted_up, counted_fits}
 use Rattle.olr_route.proofs.steps.settle.Given.{Over}

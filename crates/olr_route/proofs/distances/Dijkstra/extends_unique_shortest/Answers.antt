@@ -5,11 +5,11 @@ use Rattle.olr_model.specs.Ends.{ends_in}
 use Rattle.olr_route.proofs.CountingLemmas.{reported_as}
 use Rattle.olr_route.proofs.WayLemmas.{as_many}
 use Rattle.olr_route.proofs.distances.Dijkstra.extends_unique_shortest.Given.{Over}
-use Rattle.olr_route.proofs.distances.Dijkstra.extends_unique_shortest.Goals.{After-is_sum, After-in_lines_at-entering}
+use Rattle.olr_route.proofs.distances.Dijkstra.extends_unique_shortest.Goals.{After-saturating_add, After-in_lines_at-entering}
 use Rattle.olr_route.proofs.distances.Dijkstra.extends_unique_shortest.Goals as goal
 
 -- the result, by what is read
-read : (g : Over) (c : After-is_sum g) (m : Margin) (s b : ℕ) (route : List ℕ) →
+read : (g : Over) (c : After-saturating_add g) (m : Margin) (s b : ℕ) (route : List ℕ) →
     let M = g.M.MapRead.map c.args.map.now in
     let x = c.args.line.id in
     let N = counted m M (route ++ x ∷ []) in
@@ -51,25 +51,27 @@ is_only_predecessor-requires g c =
     as_many (g.M.MapRead.map c.args.map.now) (g.M.MapRead.node_slot c.args.map.now) Against
     (end (g.M.MapRead.map c.args.map.now) c.args.line.id) _ _ e.0 e.1 in omega arith
 
-pub returns-then-not-is_sum : goal.returns-then-not-is_sum
-returns-then-not-is_sum g c = λ m s b route h len unique short. (
+pub returns-then-saturating_add-length : goal.returns-then-saturating_add-length
+returns-then-saturating_add-length g c = λ m s b route h len unique short. (
   λ e. absurd (false≢true e),
   λ whole.
-      let sum = (read g (goal.at.returns-then-not-is_sum g c).After-is_sum m s b route h len unique short).1 whole in
-      absurd (false≢true (sym c.if-not-is_sum.true ∙ c.is_sum.ensures.1 (ap (λ n. c.label.result + n) (ap (λ (r : ResolvedLine). r.len) c.line.view_is) ∙ sum.0))),
+      let sum = (read g (goal.at.returns-then-saturating_add-length g c).After-saturating_add m s b route h len unique short).1 whole in
+      let low = h.under_way.labelled.low c.line.inside.to_slot in
+      let same = ap (λ (r : ResolvedLine). r.len) c.line.view_is in
+      absurd (c.if-saturating_add-length.true (omega (arith, sum.0))),
 )
 
 pub returns : goal.returns
 returns g c = λ m s b route h len unique short.
     let M = g.M.MapRead.map c.args.map.now in
-    let k = read g (goal.at.returns g c).After-is_sum m s b route h len unique short in
+    let k = read g (goal.at.returns g c).After-saturating_add m s b route h len unique short in
     let e = entering g (goal.at.returns g c).After-in_lines_at-entering in
-    let len = ap (λ (r : ResolvedLine). r.len) c.line.view_is in
+    let same = ap (λ (r : ResolvedLine). r.len) c.line.view_is in
     let only =
     subst (λ (x : ℕ). IsTrue c.is_only_predecessor.result
     ↔ IsOnlyPredecessor M (g.M.MapRead.node_slot c.args.map.now) c.args.self.now.frontier x (end M c.args.line.id)
     c.label-length.result) (ap (λ (r : ResolvedLine). r.id) c.line.view_is)
     (c.is_only_predecessor.ensures M (g.M.MapRead.node_slot c.args.map.now) (end M c.args.line.id) e.0 e.1) in (
-      λ yes. k.0 (ap (λ n. c.label.result + n) (sym len) ∙ c.is_sum.ensures.0 c.if-not-is_sum.false, only.0 yes),
+      λ yes. k.0 (let low = h.under_way.labelled.low c.line.inside.to_slot in omega (arith, same), only.0 yes),
       λ whole. only.1 (k.1 whole).1,
     )
