@@ -3,8 +3,7 @@
 --     cell_of c      the number of a coordinate's cell, row by row
 --     ArePlaced M es      each is a node of the map, with its coordinate and its cell
 --     IsGridOf M F es, IsGrid M es      among them each of the nodes F, in ascending order of cells; of all nodes
---     HasRivals M s p x es, HasAllRivals M r xs es      a grid with each rival of line x at an LRP that is decoded as p; of
---         the lines xs at all LRPs of a reference
+--     HasRivals M s p x es      a grid with each rival of line x at an LRP that is decoded as p
 --     Starts es first i      where the cells from the first on start
 --     AreAdded rival es old new      those of these nodes that are rivals were added
 --     IsWindow p c w      each node that isn't farther from p than one at c, by more than the slack, is in these rows and columns
@@ -67,10 +66,6 @@ IsGrid M es = IsGridOf M (λ v. IsTrue (has_node M v)) es
 
 abbrev pub HasRivals : Map → Side → ℤ × ℤ → ℕ → List Placed → Type 0
 HasRivals M s p x es = IsGridOf M (λ v. IsTrue (is_rival M s p x v)) es
-
-abbrev pub HasAllRivals : Map → Reference → List ℕ → List Placed → Type 0
-HasAllRivals M r xs es =
-    (k x : ℕ) → slice_get xs k ≡ Some x → HasRivals M (side_at r k) (decoded_coord r k) x es
 
 -- the position of the first element in the cell `first` or a later one
 abbrev pub Starts : List Placed → ℕ → ℕ → Type 0

@@ -1,13 +1,13 @@
 //! The ambiguities of a string.
-ghost use Rattle.std.specs.Prelude.{◌≡◌, ◌<◌, ◌++◌, ◌+◌, map as list_map, filter, length, IfOk, OnOk, IsTrue};
+ghost use Rattle.std.specs.Prelude.{◌≡◌, ◌<◌, ◌++◌, ◌+◌, ℕ, Some, map as list_map, filter, length, slice_get, IfOk, OnOk, IsTrue};
 ghost use Rattle.std.specs.List.{All};
 ghost use Rattle.olr_spec.specs.Map.{has_line};
 ghost use Rattle.olr_spec.specs.Reference.{Reference};
-ghost use Rattle.olr_spec.specs.Receiver.{last_number};
+ghost use Rattle.olr_spec.specs.Receiver.{decoded_coord, last_number};
 ghost use Rattle.olr_spec.specs.Ambiguity.{obstacles, obstacles_at, side_at};
 ghost use Rattle.olr_answers.specs.Ambiguities.{found_of};
 ghost use Rattle.olr_ambiguity.specs.Causes.{applies, named};
-ghost use Rattle.olr_ambiguity.specs.Grids.{AreNodes, HasAllRivals, HasRivals, IsGrid};
+ghost use Rattle.olr_ambiguity.specs.Grids.{AreNodes, HasRivals, IsGrid};
 ghost use Rattle.olr_ambiguity.specs.OwnLines.{IsOwnLine, side_of};
 ghost use Rattle.olr_ambiguity.specs.Places.{place_of};
 
@@ -102,7 +102,8 @@ fn obstacles_by<M: MapRead>(
     reference: &PublishedReference,
     own: &[LineId],
 ) -> Result<Vec<Found>, AllocError>
-    requires grid { HasAllRivals (M.map map.now) reference.now own.now grid.now.nodes.items }
+    requires grid { (k x : ℕ) → slice_get own.now k ≡ Some x
+        → HasRivals (M.map map.now) (side_at reference.now k) (decoded_coord reference.now k) x grid.now.nodes.items }
     requires own { All (λ x. IsTrue (has_line (M.map map.now) x)) own.now }
     requires count { length own.now ≡ last_number reference.now + 1 }
     ensures { IfOk result (λ found. list_map found_of found.items ≡ obstacles (M.map map.now) reference.now own.now) }

@@ -106,12 +106,10 @@ impl Grid {
     {
         let mut nodes = Vec::with_capacity(alloc, ids.len())?;
         for id in ids {
-            let place = coord_of(map, *id);
-            nodes.push(Placed {
-                cell: cell_of(place),
-                node: *id,
-                place,
-            })?;
+            let node = *id;
+            let place = coord_of(map, node);
+            let cell = cell_of(place);
+            nodes.push(Placed { cell, node, place })?;
         }
         nodes.sort_unstable_by_key(|node| node.cell);
         Ok(Grid { nodes })

@@ -15,12 +15,12 @@ loop-id-preserved g c =
     let v = c.id-item.result in
     let old = c.loop-id.nodes.items in
     let new = c.push.new.self.items in
-    let e : Placed = record { cell = c.cell_of.result; node = v; place = c.coord_of-place.result } in
+    let e : Placed = record { cell = c.cell_of-cell.result; node = v; place = c.coord_of-place.result } in
     let pushed : new ≡ old ++ e ∷ [] = c.in_ok-push.ensures.items in
     let is_node = subst (λ (n : ℕ). IsTrue (has_node M n)) (sym c.id-item.is) (c.requires c.loop-id.id-index v c.loop-id-test.true) in
     let inv = c.loop-id.invariant in
     let right_e : IsTrue (has_node M e.node) × (e.place ≡ coord_at M e.node) × (e.cell ≡ cell_of e.place) =
-    (is_node, c.coord_of-place.ensures, c.cell_of.ensures) in
+    (is_node, c.coord_of-place.ensures, c.cell_of-cell.ensures) in
     record {
       right = λ f h. let cases = Contains-push_cases old e f (subst (λ (es : List Placed). Contains es f) pushed h) in grind (arith, cases, inv.right f, right_e);
       whole = λ k lt. elim (cases_lt k c.loop-id.id-index) [
