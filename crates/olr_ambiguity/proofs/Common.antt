@@ -1,6 +1,6 @@
 -- The names that most proofs of olr_ambiguity cite, passed on from one place. Declares nothing.
 pub use Rattle.olr_ambiguity.specs.Grids.{AreAdded, AreNodes, ArePlaced, AreWindows, IsGridOf, IsWindow, Starts, cell_at}
-pub use Rattle.olr_ambiguity.specs.Grids.{cell_of, cell_size, cells_from, is_in, last_cell, lowest_lat, lowest_lon, part_above}
+pub use Rattle.olr_ambiguity.specs.Grids.{cell_of, cells_from, is_in, lowest_lat, part_above}
 pub use Rattle.olr_ambiguity.specs.OwnLines.{side_of}
 pub use Rattle.olr_ambiguity.specs.Places.{place_of}
 pub use Rattle.olr_ambiguity.specs.declared.grid.Placed.{Placed}
@@ -12,7 +12,7 @@ pub use Rattle.olr_spec.proofs.Common.{Option, Reference, Side, Some, [], and_fr
 pub use Rattle.olr_spec.proofs.Common.{arith, both_ways, cases_Bool, cases_lt, coord_at, coordinate_on, drop, eq-eqb, eqb-true}
 pub use Rattle.olr_spec.proofs.Common.{false, filter, get_or, get_or-drop, get_or-take, get_or_default, has, has_line, has_node}
 pub use Rattle.olr_spec.proofs.Common.{inl, inr, ints, is_some, le-leb, leg, length, length-drop, length-take-le, list_any_at}
-pub use Rattle.olr_spec.proofs.Common.{ltb-false, ltb-true, map, map-append, max, min, mul-le, nat_abs, nat_lt, ne_eqb, negsuc}
+pub use Rattle.olr_spec.proofs.Common.{ltb-false, ltb-true, map, map-append, max, mul-le, nat_abs, nat_lt, ne_eqb, negsuc}
 pub use Rattle.olr_spec.proofs.Common.{no_coord, node_on, not, or_cases, or_left, or_parts, pos, refl, slice_get, start, subst}
 pub use Rattle.olr_spec.proofs.Common.{suc, sym, take, take_more, to_z, to_z-of_z, true, unwrap_or, w128, ℕ, ℤ, ◌&&◌, ◌*◌, ◌++◌}
 pub use Rattle.olr_spec.proofs.Common.{◌+ℤ◌, ◌+◌, ◌-ℤ◌, ◌-◌, ◌/◌, ◌<◌, ◌==◌, ◌^◌, ◌↔◌, ◌∙◌, ◌∷◌, ◌≡◌, ◌≢◌, ◌≤ℤ◌, ◌≤◌, ◌⊎◌}
@@ -22,11 +22,11 @@ pub use Rattle.olr_spec.proofs.OrderLemmas.{all_nodes_ascend, exactly_in, exactl
 pub use Rattle.olr_spec.proofs.SameNumbers.{has_from, in_from, same_ascending}
 pub use Rattle.olr_spec.specs.Ambiguity.{Obstacle, Other_bearing, Other_node, Same_sector, all_nodes, cosine_up_to, is_farther}
 pub use Rattle.olr_spec.specs.Ambiguity.{is_outdone_for_all, is_rival, least_cosine, lines_on, obstacles_at, obstacles_from}
-pub use Rattle.olr_spec.specs.Ambiguity.{side_at, thousandths_up, usual_slack}
+pub use Rattle.olr_spec.specs.Ambiguity.{side_at, thousandths_up, usual_slack, is_twin_of, is_unclear}
 pub use Rattle.olr_spec.specs.Receiver.{Incoming, Outgoing, decoded_coord}
 pub use Rattle.olr_spec.specs.Recovery.{lat_apart, lon_apart}
 pub use Rattle.std.proofs.Common.{rules}
-pub use Rattle.std.proofs.Math.Nat.{div-mul-le_self, le-div_iff_mul-le, min-le_right, mul-le-mul_left, mul-le-mul_right}
+pub use Rattle.std.proofs.Math.Nat.{div-mul-le_self, le-div_iff_mul-le, mul-le-mul_left, div-le_self}
 pub use Rattle.std.proofs.lemmas.List.Elements.{Contains-append_left, Contains-get_or, Contains-push, Contains-push_cases}
 pub use Rattle.std.proofs.lemmas.List.Folds.{Any-from_list_any, list_any_more}
 pub use Rattle.std.proofs.lemmas.Option.{get_or_from_slice_get, slice_get-get_or, slice_get_read, slice_get_within}

@@ -1,14 +1,14 @@
 -- Tests of a list's elements, one after another, and what is found by them.
 use Rattle.olr_ambiguity.proofs.Common.{◌≡◌, ◌≢◌, suc, ◌+◌, ◌<◌, ◌&&◌, ◌==◌, List, ◌++◌, take, subst, refl, IsMap, start, Side}
-use Rattle.olr_ambiguity.proofs.Common.{ℕ, ◌⊎◌, inl, inr, not, [], ◌∷◌, sym, ap, ◌∙◌, ◌↔◌, has, Map, leg, ℤ, All, map}
-use Rattle.olr_ambiguity.proofs.Common.{Bool, length-take-le, Contains-get_or, obstacles_from, all_nodes_ascend, same_ascending}
-use Rattle.olr_ambiguity.proofs.Common.{true, filter, length, get_or, IsTrue, eq-eqb, ne_eqb, is_some, side_at, in_from, Placed}
+use Rattle.olr_ambiguity.proofs.Common.{ℕ, ◌⊎◌, inl, inr, not, [], ◌∷◌, sym, ap, ◌∙◌, ◌↔◌, has, Map, leg, ℤ, All, map, Bool}
+use Rattle.olr_ambiguity.proofs.Common.{length-take-le, Contains-get_or, obstacles_from, all_nodes_ascend, same_ascending, true}
+use Rattle.olr_ambiguity.proofs.Common.{filter, length, get_or, IsTrue, eq-eqb, ne_eqb, is_some, side_at, in_from, Placed}
 use Rattle.olr_ambiguity.proofs.Common.{false, IsStrictlyIncreasing, Contains-push_cases, Any-from_list_any, is_outdone_for_all}
 use Rattle.olr_ambiguity.proofs.Common.{Contains, arith, has_line, has_node, coord_at, list_any, Outgoing, all_nodes, has_there}
-use Rattle.olr_ambiguity.proofs.Common.{and_parts, both_ways, take_more, Reference, has-filter, exactly_in}
-use Rattle.olr_ambiguity.proofs.Common.{cases_Bool, map-append, append-nil, is_farther, usual_slack, exactly_out}
-use Rattle.olr_ambiguity.proofs.Common.{or_left, node_on, Incoming, is_rival, lines_on, Obstacle, has_here, has_from, AreAdded}
-use Rattle.olr_ambiguity.proofs.Common.{coordinate_on, append_assoc, decoded_coord, obstacles_at, has-all_nodes}
+use Rattle.olr_ambiguity.proofs.Common.{and_parts, both_ways, take_more, Reference, has-filter, exactly_in, cases_Bool}
+use Rattle.olr_ambiguity.proofs.Common.{map-append, append-nil, is_farther, usual_slack, exactly_out, or_left, node_on}
+use Rattle.olr_ambiguity.proofs.Common.{Incoming, is_rival, lines_on, Obstacle, has_here, has_from, AreAdded, coordinate_on}
+use Rattle.olr_ambiguity.proofs.Common.{append_assoc, decoded_coord, obstacles_at, has-all_nodes}
 use Rattle.std.proofs.lemmas.List.Kept.{IsStrictlyIncreasing-filter}
 
 pub none_any : (p : ℕ → Bool) (xs : List ℕ) → ((x : ℕ) → has xs x ≡ true → p x ≡ false) → list_any p xs ≡ false

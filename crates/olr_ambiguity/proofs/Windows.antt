@@ -1,9 +1,9 @@
 -- Each node that isn't farther by more than the slack is in the window.
 use Rattle.olr_ambiguity.proofs.Common.{◌≡◌, ℕ, ◌+◌, ◌-◌, ◌*◌, ◌/◌, ◌<◌, ◌≤◌, ℤ, pos, negsuc, ◌+ℤ◌, ◌-ℤ◌, ◌≤ℤ◌, nat_abs, nat_lt}
-use Rattle.olr_ambiguity.proofs.Common.{min, max, false, IsFalse, arith, ints, ◌∙◌, ap, ltb-false, or_parts, mul-le, Coord}
-use Rattle.olr_ambiguity.proofs.Common.{w128, to_z, to_z-of_z, ◌^◌, held, div-mul-le_self, le-div_iff_mul-le, mul-le-mul_left}
-use Rattle.olr_ambiguity.proofs.Common.{mul-le-mul_right, min-le_right, lon_apart, lat_apart, thousandths_up, cosine_up_to}
-use Rattle.olr_ambiguity.proofs.Common.{least_cosine, is_farther, usual_slack, cell_size, last_cell, part_above, cells_from}
+use Rattle.olr_ambiguity.proofs.Common.{max, false, IsFalse, arith, ints, ◌∙◌, ap, ltb-false, or_parts, mul-le, Coord, w128}
+use Rattle.olr_ambiguity.proofs.Common.{to_z, to_z-of_z, ◌^◌, held, div-mul-le_self, le-div_iff_mul-le, mul-le-mul_left}
+use Rattle.olr_ambiguity.proofs.Common.{lon_apart, lat_apart, thousandths_up, cosine_up_to, least_cosine, is_farther}
+use Rattle.olr_ambiguity.proofs.Common.{usual_slack, part_above, cells_from}
 
 -- ---- cells
 
@@ -13,14 +13,8 @@ above_more (pos y) (negsuc z) h = omega (arith, ints, h)
 above_more (negsuc y) (pos z) h = omega arith
 above_more (negsuc y) (negsuc z) h = omega arith
 
-div_more : (a b : ℕ) → a ≤ b → min (a / cell_size) last_cell ≤ min (b / cell_size) last_cell
-div_more a b h = omega (arith, h)
-
 cells_more : (low y z : ℤ) → y ≤ℤ z → cells_from low y ≤ cells_from low z
-cells_more low y z h = div_more (part_above (y -ℤ low)) (part_above (z -ℤ low)) (above_more (y -ℤ low) (z -ℤ low) (omega (arith, ints, h)))
-
-pub cells_few : (low z : ℤ) → cells_from low z ≤ last_cell
-cells_few low z = min-le_right (part_above (z -ℤ low) / cell_size) last_cell
+cells_more low y z h = let up = above_more (y -ℤ low) (z -ℤ low) (omega (arith, ints, h)) in omega (arith, up)
 
 -- those within n of a coordinate
 pub cells_within : (low z d : ℤ) (n a b : ℕ) → nat_abs (z -ℤ d) ≤ n → a ≡ cells_from low (z -ℤ pos n) →
@@ -31,9 +25,6 @@ cells_within low z d n a b h e f =
     (omega (arith, e, cells_more low (z -ℤ pos n) d down), omega (arith, f, cells_more low d (z +ℤ pos n) up))
 
 -- ---- cosines
-
-pub most_of : (c x n : ℕ) → 0 < c → c * x ≤ n → x ≤ n / c
-most_of c x n some h = (le-div_iff_mul-le some).1 (let turned : x * c ≤ n = grind (arith, h) in turned)
 
 quotient_less : (n d m e : ℕ) → 0 < d → m ≤ n → d ≤ e → m / e ≤ n / d
 quotient_less n d m e some less more =
@@ -75,12 +66,12 @@ module _ (p : ℤ × ℤ) (c d : Coord) (near : IsFalse (is_farther usual_slack 
       let low : nat_abs d.lat ≤ nat_abs p.1 + lat_apart p d = omega (arith, ints) in
       omega (arith, low, near_lat)
 
-  pub near_by_cosine : (q : ℕ) → q ≡ cosine_up_to (nat_abs p.1 + reach) → q * lon_apart p d ≤ 1000000 * reach
-  near_by_cosine q is =
+  pub near_by_cosine : (q : ℕ) → 0 < q → q ≡ cosine_up_to (nat_abs p.1 + reach) → lon_apart p d ≤ 1000000 * reach / q
+  near_by_cosine q some is =
       let less = cosine_less (max (nat_abs p.1) (nat_abs d.lat)) (nat_abs p.1 + reach) steepest in
       let least : q ≤ least_cosine p d = omega (arith, is, less) in
-      let all : q * lon_apart p d ≤ least_cosine p d * lon_apart p d = mul-le-mul_right (lon_apart p d) least in
-      omega (arith, all, near_lon)
+      let all : lon_apart p d * q ≤ lon_apart p d * least_cosine p d = mul-le-mul_left (lon_apart p d) least in
+      (le-div_iff_mul-le some).1 (grind (arith, all, near_lon))
 
 -- ---- numbers of 128 bits
 

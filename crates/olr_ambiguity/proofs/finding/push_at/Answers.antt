@@ -1,6 +1,5 @@
 use Rattle.olr_ambiguity.proofs.Common.{◌≡◌, ◌∙◌, List, ℕ, ap, filter, map, leg, node_on, ◌++◌, Other_bearing, Other_node}
-use Rattle.olr_ambiguity.proofs.Common.{Same_sector, lines_on, found_of, side_of}
-use Rattle.olr_spec.specs.Ambiguity.{is_twin_of, is_unclear}
+use Rattle.olr_ambiguity.proofs.Common.{Same_sector, lines_on, found_of, side_of, is_twin_of, is_unclear}
 use Rattle.std.proofs.lemmas.List.{take_all}
 use Rattle.olr_ambiguity.proofs.Lists.{joined_at, numbered}
 use Rattle.olr_ambiguity.proofs.finding.push_at.Goals as goal

@@ -1,7 +1,6 @@
-use Rattle.olr_ambiguity.proofs.Common.{◌≡◌, ◌∙◌, ◌+◌, ◌*◌, ◌≤◌, ◌-ℤ◌, ◌/◌, ℕ, ℤ, nat_abs, ap, arith, subst, sym, lon_apart, lat_apart}
-use Rattle.olr_ambiguity.proofs.Common.{cosine_up_to, usual_slack, lowest_lon, place_of}
-use Rattle.std.proofs.Math.Nat.{div-le_self}
-use Rattle.olr_ambiguity.proofs.Windows.{lat_within, most_of, near_by_cosine, cells_few, held_small}
+use Rattle.olr_ambiguity.proofs.Common.{◌≡◌, ◌∙◌, ◌+◌, ◌*◌, ◌≤◌, ◌-ℤ◌, ◌/◌, ℕ, ℤ, nat_abs, ap, arith, subst, sym, lon_apart}
+use Rattle.olr_ambiguity.proofs.Common.{lat_apart, cosine_up_to, usual_slack, place_of, div-le_self}
+use Rattle.olr_ambiguity.proofs.Windows.{lat_within, near_by_cosine, held_small}
 use Rattle.olr_ambiguity.proofs.rivals.window_of.Goals as goal
 
 pub returns-then-cosine-eq0 : goal.returns-then-cosine-eq0
@@ -9,7 +8,7 @@ returns-then-cosine-eq0 c =
     record {
       rows = λ d near. c.cells_around-rows.ensures.around d.lat
           (lat_within (place_of c.args.place) c.args.here d near _ _ (held_small c.args.place.lat c.requires.lat) (omega arith));
-      columns = λ d near. (omega arith, cells_few lowest_lon d.lon);
+      columns = λ d near. (omega arith, omega arith);
       few = (c.cells_around-rows.ensures.few.1, omega arith, omega arith);
     }
 
@@ -31,8 +30,7 @@ returns c =
           (lat_within p c.args.here d near _ _ (held_small c.args.place.lat c.requires.lat) far);
       columns = λ d near.
           let wide =
-          most_of cosine (lon_apart p d) (1000000 * reach) (omega arith) (subst (λ (n : ℕ). cosine * lon_apart p d ≤ 1000000 * n)
-          (sym far) (near_by_cosine p c.args.here d near cosine by)) in
+          subst (λ (n : ℕ). lon_apart p d ≤ 1000000 * n / cosine) (sym far) (near_by_cosine p c.args.here d near cosine (omega arith) by) in
           c.cells_around-columns.ensures.around d.lon
           (subst (λ (z : ℤ). nat_abs (z -ℤ d.lon) ≤ 1000000 * reach / cosine) (sym (held_small c.args.place.lon c.requires.lon)) wide);
       few = (c.cells_around-rows.ensures.few.1, c.cells_around-columns.ensures.few.0, c.cells_around-columns.ensures.few.1);
