@@ -8,8 +8,8 @@ pub use Rattle.olr_route.specs.Lengths.{AreFit, IsOver, IsSearchedAs, IsSeenAs, 
 pub use Rattle.olr_route.specs.Notes.{AreAllReached, AreApart, AreFilled, AreNodesIn, NotesOnce, label_in}
 pub use Rattle.olr_route.specs.Queues.{queue_key, queue_len, IsPopped, LowLabels, Queued}
 pub use Rattle.olr_route.specs.ResolvedLines.{IsResolved, ResolvedLine, record_of}
-pub use Rattle.olr_route.specs.Searches.{Counts, IsCut, IsSearch, LiesWithin, HasEnds, IsBegunAt, LabelsNear}
-pub use Rattle.olr_route.specs.Searches.{CoversSlots, CutAt, IsLabelled, FromWithin, IsOnlyPredecessor, IsUnderWay, StaysWithin}
+pub use Rattle.olr_route.specs.Searches.{Counts, IsCut, IsSearch, LiesWithin, HasEnds, IsBegunAt, LabelsNear, CoversSlots}
+pub use Rattle.olr_route.specs.Searches.{CutAt, IsLabelled, FromWithin, IsOnlyPredecessor, IsUnderWay, StaysWithin}
 pub use Rattle.olr_route.specs.declared.distances.Dijkstra.{Dijkstra}
 pub use Rattle.olr_route.specs.declared.distances.Direction.TheVariants.{Against, Along}
 pub use Rattle.olr_route.specs.declared.distances.Direction.{Direction}

@@ -40,7 +40,7 @@ module _ (M : Map) (slot : ℕ → ℕ) (direction : Direction) (from : List (�
       let test : ℕ → Bool = λ q. nat_le (label_of s.frontier q) s.limit in
       let both = has-filter test reached p in
       let small = h.small in (
-        λ c. leb-true (label_of s.frontier p) s.limit (and_parts (test p) (has reached p) (sym both ∙ has_from near_slots p c)).0,
+        λ c. leb-true _ _ (and_parts (test p) (has reached p) (sym both ∙ has_from near_slots p c)).0,
         λ le.
             let listed = has_from reached p (labelled_listed s.frontier p (omega arith)) in
             in_from near_slots p (both ∙ and_from (test p) (has reached p) (le-leb (label_of s.frontier p) s.limit le) listed),
@@ -54,7 +54,8 @@ module _ (M : Map) (slot : ℕ → ℕ) (direction : Direction) (from : List (�
   module _ (near after : List ℕ) (a : AreNodesIn M slot near_slots near) (moved : IsPermutation near after) where
     pub moved_distinct : IsDistinct ◌==◌ after
     moved_distinct =
-        IsDistinct-IsPermutation eqb nat_eq_equiv.symm near after moved (nodes_distinct M slot near_slots near a near_slots_apart)
+        IsDistinct-IsPermutation eqb nat_eq_equiv.symm near after moved
+        (nodes_distinct M slot near_slots near a near_slots_apart)
 
     pub moved_exactly : (v : ℕ) → Contains after v ↔ LiesWithin M direction from s.limit v
     moved_exactly v =

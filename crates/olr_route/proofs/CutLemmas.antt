@@ -170,6 +170,6 @@ settled_on_to M slot direction from s t limit h way u small far better is within
       near = near_on M slot direction from s.limit limit t.limit (label_of s.frontier) (label_of t.frontier)
           (omega arith) (omega arith) better within h.near;
       counted =
-          counted_up t.frontier t.settled (max s.limit limit) (max (s.limit + 1) (limit + 1)) t.limit (t.limit + 1)
-          (omega arith) (omega arith) (λ e p w. let le = counted.ahead e p w in omega arith) counted;
+          counted_up t.frontier t.settled (max s.limit limit) (max (s.limit + 1) (limit + 1)) t.settled t.limit (t.limit + 1)
+          refl (omega arith) (omega arith) (λ e p w. let le = counted.ahead e p w in omega arith) counted;
     }

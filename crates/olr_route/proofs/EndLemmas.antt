@@ -2,10 +2,9 @@
 use Rattle.olr_route.proofs.Common.{◌≡◌, ◌↔◌, ℕ, ◌+◌, ◌<◌, ◌≤◌, List, [], ◌∷◌, ◌++◌, Option, Some, None, IsTrue, arith, sym}
 use Rattle.olr_route.proofs.Common.{refl, ap, subst, length, get_or, cases_lt, none-some, Map, has_node, start, dm, lines_in}
 use Rattle.olr_route.proofs.Common.{IsRoute, dm_of, Least, Leads, IsDistance, Along, EndsRoute, IsLast, IsStrictlyIncreasing}
-use Rattle.olr_route.proofs.Common.{eqb, eqb-true, eq-eqb, Against, Contains-one, ascend_in}
+use Rattle.olr_route.proofs.Common.{eqb, eqb-true, eq-eqb, Against, Contains-one, ascend_in, Contains-here}
 use Rattle.std.specs.Option.{option_eq}
 use Rattle.olr_spec.proofs.AscendingLists.{ascends}
-use Rattle.olr_route.proofs.NoteLemmas.{first_one}
 use Rattle.olr_route.proofs.RouteEnds.{last_step, dm_of-line}
 use Rattle.olr_route.proofs.ReadLemmas.{found_at}
 use Rattle.olr_route.proofs.WayLemmas.{leads_on}
@@ -25,7 +24,7 @@ module _ (M : Map) (s : ℕ) where
   pub route_leads : IsTrue (has_node M s) → (v : ℕ) (xs : List ℕ) → IsRoute M s v xs →
       Leads M Along ((s, 0) ∷ []) v (dm_of M xs)
   route_leads there v xs w =
-      record { source = s; begun = 0; lines = xs; listed = first_one (s, 0); there = there; way = w; long = omega arith }
+      record { source = s; begun = 0; lines = xs; listed = Contains-here (s, 0) []; there = there; way = w; long = omega arith }
 
   pub distance_le : (v d : ℕ) (xs : List ℕ) → IsDistance M Along ((s, 0) ∷ []) v d → IsRoute M s v xs → d ≤ dm_of M xs
   distance_le v d xs k w = k.least (dm_of M xs) (route_leads (source_there v d k.leads) v xs w)

@@ -1,12 +1,10 @@
 -- The table of labels and the list of the slots with labels, as either changes.
-use Rattle.olr_route.proofs.Common.{◌≡◌, ◌≢◌, ℕ, ◌<◌, ◌≤◌, List, [], ◌∷◌, ◌++◌, Contains, length, get_or, refl, sym, ap, ◌∙◌}
-use Rattle.olr_route.proofs.Common.{subst, inl, inr, arith, cases_eq, get_or-set_same, get_or-set_other, Contains-append_cases}
-use Rattle.olr_route.proofs.Common.{Contains-append_right, set, Contains-one, UNREACHED, label_in, AreAllReached, NotesOnce}
-use Rattle.olr_route.proofs.Common.{get_or_past, get_or_read_under, Contains-append_left, ◌⊎◌, LowLabels, Queued, queue_len}
+use Rattle.olr_route.proofs.Common.{Contains-here, ◌≡◌, ◌≢◌, ℕ, ◌<◌, ◌≤◌, List, [], ◌∷◌, ◌++◌, Contains, length, get_or}
+use Rattle.olr_route.proofs.Common.{sym, ap, ◌∙◌, subst, inl, inr, arith, cases_eq, get_or-set_same, get_or-set_other}
+use Rattle.olr_route.proofs.Common.{Contains-append_cases, Contains-append_right, set, Contains-one, UNREACHED, label_in}
+use Rattle.olr_route.proofs.Common.{AreAllReached, NotesOnce, get_or_past, get_or_read_under, Contains-append_left, ◌⊎◌}
+use Rattle.olr_route.proofs.Common.{LowLabels, Queued, queue_len}
 use Rattle.olr_route.specs.declared.queue.Queue.{Queue}
-
-pub first_one : {X : Type 0} → (x : X) → Contains (x ∷ []) x
-first_one x = (0, omega arith, refl)
 
 -- a label that is read from the table, of length n
 pub read_label : (table : List ℕ) (p n x : ℕ) → x ≡ get_or table p x → p < n → n ≡ length table → x ≡ label_in table p
@@ -25,7 +23,7 @@ not_there : (table : List ℕ) (old new : List ℕ) (r : ℕ) (label p : ℕ) �
     ((x : ℕ) → Contains new x → x ≢ p) → p ≡ r → label ≡ UNREACHED → ⊥
 not_there table old new r label p (inl h) none is no_label = absurd (omega arith)
 not_there table old new r label p (inr h) none is no_label =
-    none r (subst (λ (xs : List ℕ). Contains xs r) (sym h.0) (Contains-append_right old (r ∷ []) r (first_one r)))
+    none r (subst (λ (xs : List ℕ). Contains xs r) (sym h.0) (Contains-append_right old (r ∷ []) r (Contains-here r [])))
     (sym is)
 
 -- a label is written in a slot of the list

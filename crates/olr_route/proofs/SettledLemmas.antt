@@ -57,15 +57,10 @@ counted_put f g p d k n near next lt le =
     counted_on f g n near next (put_le f g p d k) (put_moves f g p d k).fresh (λ q. k.kept (label_of f q) q)
     (λ e q w. elim (k.added e q w) [ inl old ↦ inl old | inr at ↦ inr (omega (arith, at.0), omega (arith, at.0)) ])
 
--- farther limits, up to what is queued
-pub counted_up : (f : Frontier) (n near next far then : ℕ) → near ≤ far → far ≤ then →
-    ((e p : ℕ) → IsQueued f e p → then ≤ e) → IsCounted f n near next → IsCounted f n far then
-counted_up f n near next far then more ordered ahead c = grind (arith, c.low)
-
--- by other numbers that are the same
-pub counted_as : (f : Frontier) (n near next m far then : ℕ) → n ≡ m → near ≡ far → next ≡ then →
-    IsCounted f n near next → IsCounted f m far then
-counted_as f n near next m far then many low high c = coe 0 1 (i. IsCounted f (many i) (low i) (high i)) c
+-- by the same number, up to farther limits, as far as to what is queued
+pub counted_up : (f : Frontier) (n near next m far then : ℕ) → n ≡ m → near ≤ far → far ≤ then →
+    ((e p : ℕ) → IsQueued f e p → then ≤ e) → IsCounted f n near next → IsCounted f m far then
+counted_up f n near next m far then same more ordered ahead c = grind (arith, c.low)
 
 module _ (f g : Frontier) (alike : IsAlike f g) (fewer : (e q : ℕ) → IsQueued g e q → IsQueued f e q) where
   -- what is removed from the queue is no label

@@ -1,8 +1,7 @@
 -- Whether a line extends a unique shortest path, by distances only.
 use Rattle.olr_route.proofs.Common.{◌≡◌, ℕ, ◌+◌, ◌≤◌, List, [], ◌∷◌, ◌++◌, IsTrue, ap, inl, inr, arith, cases_lt, Map, has_node}
 use Rattle.olr_route.proofs.Common.{has_line, start, end, dm, IsRoute, dm_of, UniqueShortest, Contains-one, refl, ◌↔◌, label_of}
-use Rattle.olr_route.proofs.Common.{IsSearch, GREATEST_LIMIT, Along, Dijkstra, IsOnlyPredecessor}
-use Rattle.olr_route.proofs.NoteLemmas.{first_one}
+use Rattle.olr_route.proofs.Common.{IsSearch, GREATEST_LIMIT, Along, Dijkstra, IsOnlyPredecessor, Contains-here}
 use Rattle.olr_route.proofs.SearchLemmas.{followed}
 use Rattle.olr_route.proofs.WayLemmas.{way_start}
 use Rattle.olr_route.proofs.RouteEnds.{dm_of-line, unique_on, unique_alone}
@@ -14,7 +13,7 @@ module _ (M : Map) (slot : ℕ → ℕ) (s b : ℕ) (q : Dijkstra) (h : IsSearch
   way_le v xs known w le =
       let there = way_start M h.under_way.labelled.sound s v xs w known in
       h.settled v (b + dm_of M xs) known le
-      (record { source = s; begun = b; lines = xs; listed = first_one (s, b); there = there; way = w; long = refl })
+      (record { source = s; begun = b; lines = xs; listed = Contains-here (s, b) []; there = there; way = w; long = refl })
 
   pub label_way : (v : ℕ) → IsTrue (has_node M v) → label_of q.frontier (slot v) ≤ GREATEST_LIMIT → (xs : List ℕ)
       × IsRoute M s v xs × (b + dm_of M xs ≡ label_of q.frontier (slot v))

@@ -1,5 +1,5 @@
-use Rattle.olr_route.proofs.Common.{◌≡◌, ℕ, refl, sym, ap, subst, ◌∙◌, inl, inr, arith, label_of, IsCounted, IsQueued}
-use Rattle.olr_route.proofs.Common.{IsTrue, Map, IsSearchedAs, IsSeenAs, ◌≤◌}
+use Rattle.olr_route.proofs.Common.{◌≡◌, ℕ, refl, sym, ap, subst, ◌∙◌, inl, inr, arith, label_of, IsCounted, IsQueued, IsTrue}
+use Rattle.olr_route.proofs.Common.{Map, IsSearchedAs, IsSeenAs, ◌≤◌}
 use Rattle.olr_route.proofs.SettledLemmas.{counted_same, counted_more, counted_up, counted_fits}
 use Rattle.olr_route.proofs.steps.settle.Given.{Over}
 use Rattle.olr_route.proofs.CutLemmas.{cut_begun, cut_same, cut_more, stays_then, stays_more}
@@ -65,7 +65,8 @@ loop-next-preserved-in-Continue-1 g c =
     record {
       cut = λ N from n near next h s u.
           let told = seen g c N n near next h s in
-          cut_more _ _ _ _ _ c.loop-next.frontier c.pop_within.new.self c.follow.new.frontier c.in-Some.next.0 c.in-Some.next.1 o.alike o.popped.others (omega arith) (omega (arith, o.popped.within)) e.moves
+          cut_more _ _ _ _ _ c.loop-next.frontier c.pop_within.new.self c.follow.new.frontier c.in-Some.next.0
+          c.in-Some.next.1 o.alike o.popped.others (omega arith) (omega (arith, o.popped.within)) e.moves
           (λ v ways. e.labelled N v ways told) (λ v. e.closed N v told) (c.loop-next.invariant.cut N from n near next h s u);
       better = λ q.
           let a = e.moves.better q in
@@ -136,7 +137,7 @@ returns-clause-counted g c = λ n near next h.
     let e = c.in_default.ensures in
     let k = c.loop-next.invariant.counted n near next h in
     let now = counted_same _ _ e.alike e.fewer (λ q w. e.same _ q w) _ _ _ k.2 in
-    counted_up c.pop_within.new.self _ k.0 k.1 _ _ (omega (arith, k.3)) (omega (arith, h.ordered))
+    counted_up c.pop_within.new.self _ k.0 k.1 _ _ _ refl (omega (arith, k.3)) (omega (arith, h.ordered))
     (λ d p w. let far = e.far d p w in let le = now.ahead d p w in omega (arith, k.4)) now
 
 pub returns-clause-near : goal.returns-clause-near

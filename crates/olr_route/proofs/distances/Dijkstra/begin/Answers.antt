@@ -1,7 +1,7 @@
 use Rattle.olr_route.proofs.Common.{◌≡◌, ◌≤◌, ℕ, IsTrue, get_or, refl, sym, ap, subst, ◌∙◌, inl, inr, arith, below_more}
 use Rattle.olr_route.proofs.Common.{get_or_default, has_node, label_of, IsQueued, IsUnderWay, Frontier, Contains}
 use Rattle.olr_route.proofs.SearchLemmas.{empty_labelled}
-use Rattle.olr_route.proofs.SettledLemmas.{counted_none, counted_as}
+use Rattle.olr_route.proofs.SettledLemmas.{counted_none, counted_up}
 use Rattle.olr_route.proofs.CutLemmas.{settled_up_to, begun_still, near_on}
 use Rattle.olr_route.proofs.MarkLemmas.{plain}
 use Rattle.olr_route.proofs.WayLemmas.{leads_first}
@@ -126,6 +126,7 @@ returns-clause-search g c =
           (label_of c.settle.new.frontier) (omega arith) (omega arith) e.better (e.near M 0 0 0 none as_is)
           (λ p small. inl (c.loop-begin.invariant.near p small));
       counted =
-          counted_as c.settle.new.frontier _ _ _ _ _ _ (omega arith) (omega arith) (omega arith)
-          (e.counted 0 0 0 none);
+          let now = e.counted 0 0 0 none in
+          counted_up c.settle.new.frontier _ _ _ _ _ _ (omega arith) (omega arith) (omega arith)
+          (λ d p w. let le = now.ahead d p w in omega arith) now;
     }

@@ -55,7 +55,8 @@ pub returns-then-saturating_add-length : goal.returns-then-saturating_add-length
 returns-then-saturating_add-length g c = λ m s b route h len unique short. (
   λ e. absurd (false≢true e),
   λ whole.
-      let sum = (read g (goal.at.returns-then-saturating_add-length g c).After-saturating_add m s b route h len unique short).1 whole in
+      let at = (goal.at.returns-then-saturating_add-length g c).After-saturating_add in
+      let sum = (read g at m s b route h len unique short).1 whole in
       let low = h.under_way.labelled.low c.line.inside.to_slot in
       let same = ap (λ (r : ResolvedLine). r.len) c.line.view_is in
       absurd (c.if-saturating_add-length.true (omega (arith, sum.0))),

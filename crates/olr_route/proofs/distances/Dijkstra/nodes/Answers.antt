@@ -6,9 +6,11 @@ pub returns-clause-ascending : goal.returns-clause-ascending
 returns-clause-ascending g c = λ direction from h.
     let s = c.args.self.now in
     IsStrictlyIncreasing-from_distinct _ (IsNonDecreasingBy-from_sort (λ n. n) _ c.sort_unstable.ensures.sorted)
-    (moved_distinct _ _ direction from s h _ _ (c.in_ok-nodes.ensures (filled _ _ direction from s h)) c.sort_unstable.ensures.permutation)
+    (moved_distinct _ _ direction from s h _ _ (c.in_ok-nodes.ensures (filled _ _ direction from s h))
+    c.sort_unstable.ensures.permutation)
 
 pub returns-clause-nodes : goal.returns-clause-nodes
 returns-clause-nodes g c = λ direction from v h.
     let s = c.args.self.now in
-    moved_exactly _ _ direction from s h _ _ (c.in_ok-nodes.ensures (filled _ _ direction from s h)) c.sort_unstable.ensures.permutation v
+    moved_exactly _ _ direction from s h _ _ (c.in_ok-nodes.ensures (filled _ _ direction from s h))
+    c.sort_unstable.ensures.permutation v
