@@ -67,8 +67,9 @@ module _ (M : Map) (s : Side) (p : ℤ × ℤ) (x w : ℕ) where
 
 -- ---- the rivals that were added
 
-pub added_more : (rival : ℕ → Bool) (es : List Placed) (k : ℕ) (e : Placed) (old mid new : List ℕ) → k < length es → get_or es k e ≡ e →
-    AreAdded rival (take k es) old mid → ((n : ℕ) → Contains new n ↔ (Contains mid n ⊎ ((n ≡ e.node) × IsTrue (rival e.node)))) →
+pub added_more : (rival : ℕ → Bool) (es : List Placed) (k : ℕ) (e : Placed) (old mid new : List ℕ) → k < length es →
+    get_or es k e ≡ e → AreAdded rival (take k es) old mid →
+    ((n : ℕ) → Contains new n ↔ (Contains mid n ⊎ ((n ≡ e.node) × IsTrue (rival e.node)))) →
     AreAdded rival (take (k + 1) es) old new
 added_more rival es k e old mid new lt at h more =
     let next : take (k + 1) es ≡ take k es ++ e ∷ [] = take_more es k e lt ∙ ap (λ (f : Placed). take k es ++ f ∷ []) at in

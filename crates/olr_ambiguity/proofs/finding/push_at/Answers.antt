@@ -17,7 +17,9 @@ returns g c =
     let one = map found_of c.push_lines.new.found.items in
     let two = map found_of c.push_lines-2.new.found.items in
     joined_at k start one two (map found_of c.loop-node.found.items) _ _ _
-    (c.in_ok-push_lines.ensures ∙ ap (λ (ys : List ℕ). start ++ numbered k (map (λ y. Same_sector y) (filter (is_twin_of M s o.id) ys))) lines_are)
-    (c.in_ok-push_lines-2.ensures ∙ ap (λ (ys : List ℕ). one ++ numbered k (map (λ y. Other_bearing y) (filter (is_unclear M s o.id) ys))) lines_are)
+    (c.in_ok-push_lines.ensures
+    ∙ ap (λ (ys : List ℕ). start ++ numbered k (map (λ y. Same_sector y) (filter (is_twin_of M s o.id) ys))) lines_are)
+    (c.in_ok-push_lines-2.ensures
+    ∙ ap (λ (ys : List ℕ). one ++ numbered k (map (λ y. Other_bearing y) (filter (is_unclear M s o.id) ys))) lines_are)
     (c.loop-node.invariant ∙ ap (λ (vs : List ℕ). two ++ numbered k (map (λ v. Other_node v) vs))
     (take_all c.loop-node.node-index c.as_slice-node-items.result.now c.loop-node-test.false ∙ nodes_are))

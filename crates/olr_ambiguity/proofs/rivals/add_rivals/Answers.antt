@@ -13,10 +13,10 @@ loop-near-preserved g c =
     elim c.if-is_rival.branch [
       | then-is_rival+in_ok-note w ↦
           subst (λ (f : List ℕ). AreAdded rival (take (k + 1) es) c.args.found.now f) (sym w.found-is)
-          (added_more rival es k c.near-item.result c.args.found.now c.loop-near.found _ c.loop-near-test.true (sym c.near-item.is)
-          c.loop-near.invariant (λ v. grind (arith, w.in_ok-note.ensures.ok v, w.if-is_rival.ensures)))
+          (added_more rival es k c.near-item.result c.args.found.now c.loop-near.found _ c.loop-near-test.true
+          (sym c.near-item.is) c.loop-near.invariant (λ v. grind (arith, w.in_ok-note.ensures.ok v, w.if-is_rival.ensures)))
       | else-is_rival w ↦
           subst (λ (f : List ℕ). AreAdded rival (take (k + 1) es) c.args.found.now f) (sym w.found-is)
-          (added_more rival es k c.near-item.result c.args.found.now c.loop-near.found _ c.loop-near-test.true (sym c.near-item.is)
-          c.loop-near.invariant (λ v. grind (arith, both_ways, w.if-is_rival.ensures)))
+          (added_more rival es k c.near-item.result c.args.found.now c.loop-near.found _ c.loop-near-test.true
+          (sym c.near-item.is) c.loop-near.invariant (λ v. grind (arith, both_ways, w.if-is_rival.ensures)))
     ]

@@ -9,9 +9,10 @@ loop-row-preserved g c =
     let M = g.M.MapRead.map c.args.map.now in
     let o = c.args.own.now in
     let w = c.window_of-window.result in
-    rows_more (is_rival M (side_of o.side) (place_of o.place) o.id) c.args.grid.now.nodes.items c.within-nodes.result.now w.rows.0
-    w.columns.0 w.columns.1 c.loop-row.row c.loop-row.found c.add_rivals.new.found c.loop-row.invariant c.in_ok-add_rivals.ensures
-    (λ e h low high. c.within-nodes.ensures.all e h (omega (arith, c.cell_at.ensures, low)) (omega (arith, c.cell_at-in-loop-row.ensures, high)))
+    rows_more (is_rival M (side_of o.side) (place_of o.place) o.id) c.args.grid.now.nodes.items c.within-nodes.result.now
+    w.rows.0 w.columns.0 w.columns.1 c.loop-row.row c.loop-row.found c.add_rivals.new.found c.loop-row.invariant
+    c.in_ok-add_rivals.ensures (λ e h low high. c.within-nodes.ensures.all e h (omega (arith, c.cell_at.ensures, low))
+    (omega (arith, c.cell_at-in-loop-row.ensures, high)))
 
 pub returns : goal.returns
 returns g c =

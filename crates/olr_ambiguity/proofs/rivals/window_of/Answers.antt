@@ -1,4 +1,4 @@
-use Rattle.olr_ambiguity.proofs.Common.{◌≡◌, ◌∙◌, ◌+◌, ◌*◌, ◌≤◌, ◌-ℤ◌, ◌/◌, ℕ, ℤ, nat_abs, ap, arith, subst, sym, lon_apart}
+use Rattle.olr_ambiguity.proofs.Common.{◌≡◌, ◌∙◌, ◌+◌, ◌*◌, ◌≤◌, ◌-ℤ◌, ◌/◌, nat_abs, ap, arith, sym, lon_apart}
 use Rattle.olr_ambiguity.proofs.Common.{lat_apart, cosine_up_to, usual_slack, place_of, div-le_self}
 use Rattle.olr_ambiguity.proofs.Windows.{lat_within, near_by_cosine, held_small}
 use Rattle.olr_ambiguity.proofs.rivals.window_of.Goals as goal
@@ -7,7 +7,8 @@ pub returns-then-cosine-eq0 : goal.returns-then-cosine-eq0
 returns-then-cosine-eq0 c =
     record {
       rows = λ d near. c.cells_around-rows.ensures.around d.lat
-          (lat_within (place_of c.args.place) c.args.here d near _ _ (held_small c.args.place.lat c.requires.lat) (omega arith));
+          (lat_within (place_of c.args.place) c.args.here d near _ _ (held_small c.args.place.lat c.requires.lat)
+          (omega arith));
       columns = λ d near. (omega arith, omega arith);
       few = (c.cells_around-rows.ensures.few.1, omega arith, omega arith);
     }
@@ -29,9 +30,9 @@ returns c =
       rows = λ d near. c.cells_around-rows.ensures.around d.lat
           (lat_within p c.args.here d near _ _ (held_small c.args.place.lat c.requires.lat) far);
       columns = λ d near.
-          let wide =
-          subst (λ (n : ℕ). lon_apart p d ≤ 1000000 * n / cosine) (sym far) (near_by_cosine p c.args.here d near cosine (omega arith) by) in
+          let wide = near_by_cosine p c.args.here d near cosine (omega arith) by in
+          let held = held_small c.args.place.lon c.requires.lon in
           c.cells_around-columns.ensures.around d.lon
-          (subst (λ (z : ℤ). nat_abs (z -ℤ d.lon) ≤ 1000000 * reach / cosine) (sym (held_small c.args.place.lon c.requires.lon)) wide);
+          (coe 0 1 (i. nat_abs (sym held i -ℤ d.lon) ≤ 1000000 * sym far i / cosine) wide);
       few = (c.cells_around-rows.ensures.few.1, c.cells_around-columns.ensures.few.0, c.cells_around-columns.ensures.few.1);
     }

@@ -7,7 +7,8 @@ use Rattle.olr_ambiguity.proofs.grid.Grid.of.Goals as goal
 pub coord_of-place-requires : goal.coord_of-place-requires
 coord_of-place-requires g c =
     let M = g.M.MapRead.map c.args.map.now in
-    subst (λ (v : ℕ). IsTrue (has_node M v)) (sym c.id-item.is) (c.requires c.loop-id.id-index c.id-item.result c.loop-id-test.true)
+    subst (λ (v : ℕ). IsTrue (has_node M v)) (sym c.id-item.is)
+    (c.requires c.loop-id.id-index c.id-item.result c.loop-id-test.true)
 
 pub loop-id-preserved : goal.loop-id-preserved
 loop-id-preserved g c =
@@ -17,12 +18,15 @@ loop-id-preserved g c =
     let new = c.push.new.self.items in
     let e : Placed = record { cell = c.cell_of-cell.result; node = v; place = c.coord_of-place.result } in
     let pushed : new ≡ old ++ e ∷ [] = c.in_ok-push.ensures.items in
-    let is_node = subst (λ (n : ℕ). IsTrue (has_node M n)) (sym c.id-item.is) (c.requires c.loop-id.id-index v c.loop-id-test.true) in
+    let is_node =
+    subst (λ (n : ℕ). IsTrue (has_node M n)) (sym c.id-item.is) (c.requires c.loop-id.id-index v c.loop-id-test.true) in
     let inv = c.loop-id.invariant in
     let right_e : IsTrue (has_node M e.node) × (e.place ≡ coord_at M e.node) × (e.cell ≡ cell_of e.place) =
     (is_node, c.coord_of-place.ensures, c.cell_of-cell.ensures) in
     record {
-      right = λ f h. let cases = Contains-push_cases old e f (subst (λ (es : List Placed). Contains es f) pushed h) in grind (arith, cases, inv.right f, right_e);
+      right = λ f h.
+          let cases = Contains-push_cases old e f (subst (λ (es : List Placed). Contains es f) pushed h) in
+          grind (arith, cases, inv.right f, right_e);
       whole = λ k lt. elim (cases_lt k c.loop-id.id-index) [
         | inl before ↦
             let w = inv.whole k before in
