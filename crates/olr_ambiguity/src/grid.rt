@@ -51,7 +51,7 @@ pub(crate) fn cells_from(low: i128, z: i128) -> u64
     }
 }
 
-/// The first and the last of the cells within `reach` of `z`, at most 10^31, counted from `low`.
+/// The first and the last of the cells in which the coordinates within `reach` of `z` are, counted from `low`.
 pub(crate) fn cells_around(low: i128, z: i128, reach: u128) -> (u64, u64)
     requires low { nat_abs low ≤ 10 ^ 14 }
     requires z { nat_abs z ≤ 10 ^ 31 }
