@@ -1,10 +1,9 @@
 -- The ambiguities of the strings of a register's paths, path by path.
-use Rattle.olr_register.proofs.Common.{◌≡◌, ℕ, List, [], ◌∷◌, ◌++◌, map, Some, refl, sym, ap, ◌∙◌, subst, append_assoc}
-use Rattle.olr_register.proofs.Common.{append-nil, slice_get, take, ◌+◌, Map, Margin, Path, Named, Item, Made}
-use Rattle.olr_register.proofs.Common.{AreEncodings, IsEncodingOf, all_named, named_of, option_map, Option, IsMap}
-use Rattle.olr_register.proofs.Common.{is_path, length, take_more_at, AreKnownWith, NamedObstacle, named, obstacles_of}
-use Rattle.olr_register.proofs.Common.{Ambiguity, Ambiguities, answer_of, has_line, Reference, Obstacle, at_position}
-use Rattle.olr_register.proofs.Common.{known_in, slice_get-map, All, IsTrue}
+use Rattle.olr_register.proofs.Common.{◌≡◌, ◌∷◌, map, sym, ap, ◌∙◌, take, ◌+◌, Map, Path, Item, Made, All}
+use Rattle.olr_register.proofs.Common.{ℕ, ◌++◌, Some, refl, subst, Margin, Named, Option, IsMap, is_path, length, named, IsTrue}
+use Rattle.olr_register.proofs.Common.{List, all_named, named_of, Ambiguity, answer_of, has_line, Reference, Obstacle, known_in}
+use Rattle.olr_register.proofs.Common.{[], append_assoc, AreEncodings, IsEncodingOf, take_more_at, NamedObstacle, slice_get-map}
+use Rattle.olr_register.proofs.Common.{append-nil, slice_get, option_map, AreKnownWith, obstacles_of, Ambiguities, at_position}
 use Rattle.olr_answers.specs.declared.answer.Answer.TheVariants.{Points}
 use Rattle.olr_refs.specs.declared.encoding.Encoding.{Encoding}
 use Rattle.olr_refs.specs.Referring.{IsEncoding}

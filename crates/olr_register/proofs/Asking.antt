@@ -1,10 +1,10 @@
 -- What the register shows of its paths.
-use Rattle.olr_register.proofs.Common.{subst, ◌≡◌, ◌≢◌, ℕ, true, false, List, [], ◌∷◌, map, length, Option, Some, None}
-use Rattle.olr_register.proofs.Common.{refl, sym, ap, ◌∙◌, ◌==◌, option_map, option_and_then, MatchOption, IsSomeAnd}
-use Rattle.olr_register.proofs.Common.{result_ok, ne_eqb, length-map, Map, Margin, Answer, EncodesWith, Path, Content}
-use Rattle.olr_register.proofs.Common.{path_named, published_text, Made, Item, IsEncodingOf, AreEncodings, named_of}
-use Rattle.olr_register.proofs.Common.{all_named, made_in, answer_in, content_on, is_some, items, accepted_map, IsStateRight}
-use Rattle.olr_register.proofs.Common.{Published, PublishedText, AreEncoded, HaveEncodings, Inside}
+use Rattle.olr_register.proofs.Common.{subst, ◌≡◌, ◌≢◌, ℕ, true, false, List, [], ◌∷◌, map, length, Option, Some, None, refl}
+use Rattle.olr_register.proofs.Common.{sym, ap, ◌∙◌, ◌==◌, option_map, option_and_then, MatchOption, IsSomeAnd, result_ok}
+use Rattle.olr_register.proofs.Common.{ne_eqb, length-map, Map, Margin, Answer, EncodesWith, Path, Content, path_named}
+use Rattle.olr_register.proofs.Common.{published_text, Made, Item, IsEncodingOf, AreEncodings, named_of, all_named, made_in}
+use Rattle.olr_register.proofs.Common.{answer_in, content_on, is_some, items, accepted_map, IsStateRight, AreEncoded}
+use Rattle.olr_register.proofs.Common.{HaveEncodings, Inside, Published, PublishedText}
 use Rattle.olr_register.proofs.Replies.{made_found}
 
 answer_found : (g : Margin) (M : Map) (p : Option Path) (o : Option Made) →

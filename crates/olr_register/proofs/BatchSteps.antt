@@ -1,22 +1,21 @@
 -- Opening a batch, and one more change in an open batch, in terms of the definitions of commands.
-use Rattle.olr_register.proofs.Common.{◌≡◌, ℕ, suc, arith, Bool, true, false, List, [], ◌∷◌, ◌++◌, length, map, Some}
-use Rattle.olr_register.proofs.Common.{Result, Ok, Err, refl, sym, ap, ◌∙◌, subst, append_assoc, ◌==◌, ◌&&◌, nat_le}
-use Rattle.olr_register.proofs.Common.{append-nil, list_any-append, flat_map-append, has, map_of, map_before, RoadMap}
-use Rattle.olr_register.proofs.Common.{Work, Named, Content, Fault, full, when, Change, with_change, after, Make, step}
-use Rattle.olr_register.proofs.Common.{IsRefusal, takes_memory, may_want, is_reported_first, nodes_of_change}
-use Rattle.olr_register.proofs.Common.{lines_of_change, all_nodes, Margin, command_fault_of, reply_of, Reply}
-use Rattle.olr_register.proofs.Common.{CommandFault, Item, under_batch, RegisterState, IsBatchOf, content_on}
-use Rattle.olr_register.proofs.Common.{content_under, batch_of, held_of, Answered, AreGiven, MayReport, ByContent}
-use Rattle.olr_register.proofs.Common.{Lacks, HoldsChange, Batch, None, Begin, IsContent, ByState, DistanceBounds}
-use Rattle.olr_register.proofs.Common.{AreEncodingsIfAny, Begins, Follows, nodes_of, lines_of, changed_of, follows_self}
-use Rattle.olr_register.proofs.Common.{named_held, AreEditsNoted, IsStateRight, IsHeld, HasBounds, all_named, flat_map}
-use Rattle.olr_register.proofs.Common.{Differences, IsRegister, IsRenewal, eq-eqb, Commit, Batch_full, next, into_batch}
-use Rattle.olr_register.proofs.Common.{Outcome, length_push, next_ok, after_push, content_with, room_of, all_node_puts}
-use Rattle.olr_register.proofs.Common.{all_line_puts, CanMakeAll, made_all, log_changes, entries_of, Renewed}
+use Rattle.olr_register.proofs.Common.{◌≡◌, ℕ, suc, arith, Bool, true, false, List, [], ◌∷◌, ◌++◌, length, map, Some, Result}
+use Rattle.olr_register.proofs.Common.{Ok, Err, refl, sym, ap, ◌∙◌, subst, append_assoc, ◌==◌, ◌&&◌, nat_le, append-nil}
+use Rattle.olr_register.proofs.Common.{list_any-append, flat_map-append, has, map_of, map_before, RoadMap, Work, Named, Content}
+use Rattle.olr_register.proofs.Common.{Fault, full, when, Change, with_change, after, Make, step, takes_memory, may_want}
+use Rattle.olr_register.proofs.Common.{is_reported_first, nodes_of_change, lines_of_change, all_nodes, Margin, command_fault_of}
+use Rattle.olr_register.proofs.Common.{reply_of, Reply, CommandFault, Item, under_batch, content_on, content_under, batch_of}
+use Rattle.olr_register.proofs.Common.{held_of, Answered, AreGiven, MayReport, ByContent, Lacks, HoldsChange, None, Begin}
+use Rattle.olr_register.proofs.Common.{IsContent, ByState, DistanceBounds, AreEncodingsIfAny, Begins, Follows, nodes_of}
+use Rattle.olr_register.proofs.Common.{lines_of, changed_of, follows_self, named_held, AreTouched, IsStateRight, IsHeld}
+use Rattle.olr_register.proofs.Common.{HasBounds, all_named, flat_map, Differences, IsRegister, IsRenewal, eq-eqb, Commit}
+use Rattle.olr_register.proofs.Common.{Batch_full, next, into_batch, length_push, next_ok, after_push, content_with, room_of}
+use Rattle.olr_register.proofs.Common.{all_node_puts, all_line_puts, CanMakeAll, made_all, log_changes, entries_of, Renewed}
+use Rattle.olr_register.proofs.Common.{IsRefusal, RegisterState, IsBatchOf, Batch, Outcome}
 use Rattle.olr_register.proofs.Listed.{named_twice, given_at_first}
 use Rattle.olr_register.proofs.Outcomes.{answered_uncounted, answered_refused, Keeps}
 use Rattle.olr_register.proofs.States.{state, register_of, of_parts, in_states, register_moved}
-use Rattle.olr_register.proofs.Noted.{noted_idle}
+use Rattle.olr_register.proofs.Touched.{touched_idle}
 use Rattle.olr_register.proofs.Renewed.{made_if_any}
 use Rattle.olr_commands.specs.Reply as replies
 use Rattle.olr_register.proofs.Renewed.{remade_made}
@@ -158,9 +157,9 @@ module _ (g : Margin) (roads : RoadMap) (is : List Item) (b : Batch) (bounds : D
           record { nodes = omega arith; lines = omega arith },
     );
     sound = coe 0 1 (i. IsContent (content_on (sym e.margin i) (map_of roads) (sym (e.paths is) i))) h.register.content;
-    noted =
-        coe 0 1 (i. AreEditsNoted (sym same_before i) (map_of roads) (sym e.nodes i) (sym e.lines i)
-        (sym e.changed i)) (noted_idle (map_of roads) [] [] [] refl);
+    edits =
+        coe 0 1 (i. AreTouched (sym same_before i) (map_of roads) (sym e.nodes i) (sym e.lines i)
+        (sym e.changed i)) (touched_idle (map_of roads) [] [] [] refl);
     made =
         coe 0 1 (i. AreEncodingsIfAny (sym e.margin i) (sym same_before i) (sym (e.paths is) i))
         (made_if_any g (map_of roads) is h.register.made);

@@ -1,16 +1,15 @@
 -- The distance bounds that a register stores: with a source where each coverage query of its list begins, and right on its
 -- map once they are settled, if the nodes that edits touched are reopened before.
 use Rattle.olr_register.proofs.Common.{◌≡◌, ℕ, subst, List, [], Ok, inl, Map, Edit, edited, start, map_of, RoadMap}
-use Rattle.olr_register.proofs.Common.{DistanceBounds, Item, HasBounds, IsFalse, nodes_of, IsTrue, has_node, end}
-use Rattle.olr_register.proofs.Common.{none_differs, slot_of, KeepsSlots, AddsNoNode, IsEdit, IsUnderWay, SameBut}
-use Rattle.olr_register.proofs.Common.{edit_under_way, AreBoundsOf, CanRenewUnder, under_overlay, Overlay, NamesDiffer}
-use Rattle.olr_register.proofs.Common.{CanUpdate, arith, IsMap, cases_eq, has_line, Err, Result, IsErrAnd, IsEditMade}
-use Rattle.olr_register.proofs.Common.{ChangeSet, Margin, Renewed}
+use Rattle.olr_register.proofs.Common.{DistanceBounds, Item, HasBounds, IsFalse, nodes_of, IsTrue, has_node, end, none_differs}
+use Rattle.olr_register.proofs.Common.{slot_of, KeepsSlots, AddsNoNode, IsEdit, IsUnderWay, SameBut, edit_under_way}
+use Rattle.olr_register.proofs.Common.{AreBoundsOf, CanRenewUnder, under_overlay, Overlay, NamesDiffer, CanUpdate, arith, IsMap}
+use Rattle.olr_register.proofs.Common.{cases_eq, has_line, Err, Result, IsErrAnd, IsEditMade, ChangeSet, Margin, Renewed}
 use Rattle.olr_spec.proofs.AgreeLemmas.{turned_round}
 use Rattle.olr_renewal.specs.declared.update.MapUpdate.{MapUpdate}
-use Rattle.olr_register.proofs.Listed.{named_to_renew}
 use Rattle.olr_spec.proofs.EditLemmas.{edit_laws, left_other}
 use Rattle.std.specs.declared.alloc.AllocError.{AllocError}
+use Rattle.olr_register.proofs.Listed.{named_to_renew}
 
 -- unknown bounds say nothing
 pub bounded_unknown : {roads : RoadMap} {T : List ℕ} {is : List Item} {bounds : DistanceBounds} → IsFalse bounds.known →

@@ -1,13 +1,13 @@
 -- Changes of a register that is built, before any path is encoded.
-use Rattle.olr_register.proofs.Common.{◌≡◌, ℕ, true, List, [], ◌∷◌, inl, inr, map, length, suc, Ok, Err, Result, refl}
-use Rattle.olr_register.proofs.Common.{sym, ap, ◌∙◌, subst, IsErrAnd, Change, Content, Make, with_change, CommandFault}
-use Rattle.olr_register.proofs.Common.{Item, Map, Margin, MayReport, command_fault_of, content_on, without_answer}
-use Rattle.olr_register.proofs.Common.{ChangeSet, IsContent, IsRenewal, Named, all_named, to_renew, changed_of}
-use Rattle.olr_register.proofs.Common.{length-map, named_of, CountIs, raised_count, Renewed, IsAffected}
-use Rattle.olr_register.proofs.Listed.{named_to_renew}
-use Rattle.olr_register.proofs.Noted.{can_set}
+use Rattle.olr_register.proofs.Common.{◌≡◌, ℕ, true, List, [], ◌∷◌, inl, inr, map, length, suc, Ok, Err, Result, refl, sym, ap}
+use Rattle.olr_register.proofs.Common.{◌∙◌, subst, IsErrAnd, Change, Content, Make, with_change, CommandFault, Item, Map}
+use Rattle.olr_register.proofs.Common.{Margin, MayReport, command_fault_of, content_on, without_answer, ChangeSet, IsContent}
+use Rattle.olr_register.proofs.Common.{IsRenewal, Named, all_named, to_renew, changed_of, length-map, named_of, CountIs}
+use Rattle.olr_register.proofs.Common.{raised_count, Renewed, IsAffected}
 use Rattle.olr_renewal.specs.Changes.{By_name}
 use Rattle.olr_register.specs.Built.{Builds}
+use Rattle.olr_register.proofs.Listed.{named_to_renew}
+use Rattle.olr_register.proofs.Touched.{can_set}
 
 pub built : {old new : Content} {x : Change} → with_change old x ≡ Ok new → Builds old (Make x) (Ok tt) new
 built {old} {new} {x} e = record {

@@ -1,10 +1,10 @@
 -- What a change makes of the content of a map and a list.
-use Rattle.olr_register.proofs.Common.{arith, ◌≡◌, ℕ, Bool, true, false, not, List, [], ◌∷◌, ◌++◌, map, Option, filter}
-use Rattle.olr_register.proofs.Common.{Result, Ok, Err, IsOk, refl, sym, ap, ◌∙◌, Map, Path, is_path, EditPlan, Named}
-use Rattle.olr_register.proofs.Common.{Content, same_name, has_path, Fault, Memory, No_path, when, Add_path, Set_path}
-use Rattle.olr_register.proofs.Common.{Drop_path, with_map, with_change, is_reported_first, Made, Item, set_item}
-use Rattle.olr_register.proofs.Common.{has_name, content_on, Margin, MayReport, Lacks, MatchResult, MapFault}
-use Rattle.olr_register.proofs.Common.{edit_fault_of, Map_fault, Path_exists, Bad_path, map_fault_of}
+use Rattle.olr_register.proofs.Common.{arith, Bool, true, false, not, List, filter, Result, Named, Fault, Memory, Margin, Lacks}
+use Rattle.olr_register.proofs.Common.{◌≡◌, Option, is_path, Content, No_path, with_map, set_item, has_name, MapFault, Bad_path}
+use Rattle.olr_register.proofs.Common.{ℕ, with_change, is_reported_first, MatchResult, edit_fault_of, Path_exists, map_fault_of}
+use Rattle.olr_register.proofs.Common.{[], same_name, has_path, Add_path, Set_path, Drop_path, content_on, MayReport, Map_fault}
+use Rattle.olr_register.proofs.Common.{◌∷◌, ◌++◌, map, Ok, Err, IsOk, refl, sym, ap, ◌∙◌, Map, Path, when, Made, Item}
+use Rattle.olr_map.specs.declared.judging.EditPlan.{EditPlan}
 use Rattle.olr_model.specs.declared.edit.EditFault.{EditFault}
 use Rattle.olr_register.proofs.Listed.{names_add, names_set, names_drop}
 

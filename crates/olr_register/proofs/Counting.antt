@@ -1,9 +1,9 @@
 -- How many paths the changes affect, counted by the stored results; none if there are no changes.
-use Rattle.olr_register.proofs.Common.{Bool, false, IsFalse, to_renew, inl, inr, ◌≡◌, ℕ, true, List, [], ◌∷◌, map}
-use Rattle.olr_register.proofs.Common.{Option, arith, None, refl, sym, ap, ◌∙◌, is_none, list_any, has, Named, Content}
-use Rattle.olr_register.proofs.Common.{Change, Affects, By_name, By_node, By_line, all_nodes, all_lines, gives, Made}
-use Rattle.olr_register.proofs.Common.{Item, Map, Margin, named_of, all_named, held_of, AreGiven, Work, without_answer}
-use Rattle.olr_register.proofs.Common.{raised_count, raised_work, CountIs, IsAffected, NoneFalls}
+use Rattle.olr_register.proofs.Common.{Bool, false, IsFalse, to_renew, inl, inr, ◌≡◌, ℕ, true, List, [], ◌∷◌, map, Option}
+use Rattle.olr_register.proofs.Common.{arith, None, refl, sym, ap, ◌∙◌, is_none, list_any, has, Named, Content, Change, Affects}
+use Rattle.olr_register.proofs.Common.{By_name, By_node, By_line, all_nodes, all_lines, gives, Made, Item, Map, Margin}
+use Rattle.olr_register.proofs.Common.{named_of, all_named, held_of, AreGiven, Work, without_answer, raised_count, raised_work}
+use Rattle.olr_register.proofs.Common.{CountIs, IsAffected, NoneFalls}
 use Rattle.olr_renewal.specs.Changes as made
 
 none_made : (o : Option Made) → is_none o ≡ true → o ≡ None

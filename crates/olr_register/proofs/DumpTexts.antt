@@ -1,16 +1,18 @@
 -- Dumps: which maps records can encode, and the records of nodes, lines and paths.
-use Rattle.olr_register.proofs.Common.{inl, inr, ◌≡◌, ℕ, suc, ◌+◌, ◌<◌, Bool, true, false, List, [], ◌∷◌, ◌++◌, map}
-use Rattle.olr_register.proofs.Common.{length, take, slice_get, Option, Some, None, is_some, refl, sym, ap, ◌∙◌, subst}
-use Rattle.olr_register.proofs.Common.{append_assoc, arith, list_all, concat, flat_map, AllByRecursion, entries}
-use Rattle.olr_register.proofs.Common.{cases_Bool, both_ways, and_parts, append-nil, flat_map-append, Map, IsMap, has}
-use Rattle.olr_register.proofs.Common.{has_node, start, is_recordable_map, record_line, Content, Change, node_change}
-use Rattle.olr_register.proofs.Common.{line_change, path_change, dump_lines, is_recordable_line_at}
-use Rattle.olr_register.proofs.Common.{is_recordable_node_at, zero, get_or, unwrap_or, nat_cmp, FinMap, get}
-use Rattle.olr_register.proofs.Common.{entries_sorted, get-entries, and_from, map-append, concat-append, list_all_at}
-use Rattle.olr_register.proofs.Common.{list_all_more, slice_get-get_or, Line, has_line, coord_at, no_line, no_coord}
-use Rattle.olr_register.proofs.Common.{lines_out, take_more_at, is_recordable_coord, is_recordable_shape}
-use Rattle.olr_register.proofs.Common.{margin_changes}
+use Rattle.olr_register.proofs.Common.{inl, Bool, true, List, ◌++◌, take, Some, None, refl, subst, arith, IsMap, start, Line}
+use Rattle.olr_register.proofs.Common.{inr, ◌≡◌, ◌+◌, ◌<◌, ◌∷◌, map, sym, ap, ◌∙◌, Map, has, get, All}
+use Rattle.olr_register.proofs.Common.{ℕ, append_assoc, record_line, concat-append, list_all_more, take_more_at, margin_changes}
+use Rattle.olr_register.proofs.Common.{false, length, Option, concat, Content, Change, get_or, nat_cmp, FinMap, IsTrue, no_line}
+use Rattle.olr_register.proofs.Common.{[], AllByRecursion, is_recordable_map, entries_sorted, slice_get-get_or}
+use Rattle.olr_register.proofs.Common.{slice_get, list_all, both_ways, and_parts, dump_lines, unwrap_or, map-append, lines_out}
+use Rattle.olr_register.proofs.Common.{is_some, flat_map, entries, has_node, and_from, has_line, coord_at, no_coord, All-cons}
+use Rattle.olr_register.proofs.Common.{All-contains}
+use Rattle.olr_register.proofs.Common.{cases_Bool, node_change, line_change, path_change, get-entries, list_all_at}
+use Rattle.olr_register.proofs.Common.{is_recordable_line_at, is_recordable_node_at, is_recordable_coord, is_recordable_shape}
 use Rattle.std.specs.FinMap.Entries.{find}
+use Rattle.std.proofs.lemmas.List.{flat_map_more}
+use Rattle.std.proofs.lemmas.List.Sums.{AllPass-from_list_all, list_all-from_AllPass}
+use Rattle.olr_spec.proofs.SameNumbers.{in_from}
 use Rattle.olr_spec.specs.Coordinates.{Coord}
 use Rattle.olr_spec.proofs.OrderLemmas.{exactly_out}
 use Rattle.olr_commands.proofs.DumpLemmas.{of_entries}
@@ -37,13 +39,8 @@ module _ {X : Type 0} (q : X → Bool) where
       all_from (entries m)
       (of_entries (λ e. q e.1 ≡ true) (entries m) (entries_sorted m) (λ e is. h e.0 e.1 (get-entries m e.0 ∙ is)))
 
-all_true : (p : ℕ → Bool) (xs : List ℕ) → ((x : ℕ) → p x ≡ true) → list_all p xs ≡ true
-all_true p [] h = refl
-all_true p (x ∷ xs) h = and_from (p x) (list_all p xs) (h x) (all_true p xs h)
-
 one_of_all : (p : ℕ → Bool) (xs : List ℕ) (x : ℕ) → list_all p xs ≡ true → has xs x ≡ true → p x ≡ true
-one_of_all p [] x a h = absurd cc
-one_of_all p (y ∷ ys) x a h = grind (arith, one_of_all p ys x)
+one_of_all p xs x a h = All-contains (λ y. p y ≡ true) xs x (AllPass-from_list_all p xs a) (in_from xs x h)
 
 -- ---- a test of each element, by its index
 
@@ -75,13 +72,11 @@ module _ (M : Map) where
       and_parts (list_all (λ e. is_recordable_coord e.1) (entries M.nodes))
       (list_all (λ e. is_recordable_shape e.1.shape) (entries M.lines)) a
 
-  pub shapes_pass : is_recordable_map M ≡ true → (x : ℕ) (l : Line) → get M.lines x ≡ Some l →
-      is_recordable_shape l.shape ≡ true
-  shapes_pass a x l e = value_passes (λ (k : Line). is_recordable_shape k.shape) M.lines x l (tested a).1 e
+  pub shapes_pass : is_recordable_map M ≡ true → (x : ℕ) → is_recordable_line_at M x ≡ true
+  shapes_pass a x = default_passes (λ (k : Line). is_recordable_shape k.shape) M.lines x no_line refl (tested a).1
 
-  pub coords_pass : is_recordable_map M ≡ true → (v : ℕ) (c : Coord) → get M.nodes v ≡ Some c →
-      is_recordable_coord c ≡ true
-  coords_pass a v c e = value_passes is_recordable_coord M.nodes v c (tested a).0 e
+  pub coords_pass : is_recordable_map M ≡ true → (v : ℕ) → is_recordable_coord (coord_at M v) ≡ true
+  coords_pass a v = default_passes is_recordable_coord M.nodes v no_coord refl (tested a).0
 
   -- a node that records can't encode, or a line that leaves it
   pub not_by_node : (v : ℕ) → is_recordable_node_at M v ≡ false → is_recordable_map M ≡ false
@@ -90,9 +85,7 @@ module _ (M : Map) where
         | inl all ↦
             absurd (both_ways (is_recordable_node_at M v) other
             (and_from (is_recordable_coord (coord_at M v)) (list_all (is_recordable_line_at M) (lines_out M v))
-            (default_passes is_recordable_coord M.nodes v no_coord refl (tested all).0)
-            (all_true (is_recordable_line_at M) (lines_out M v) (λ x.
-            default_passes (λ (l : Line). is_recordable_shape l.shape) M.lines x no_line refl (tested all).1))))
+            (coords_pass all v) (list_all-from_AllPass (is_recordable_line_at M) (lines_out M v) (λ i d lt. shapes_pass all _))))
         | inr none ↦ none
       ]
 
@@ -123,36 +116,30 @@ module _ (M : Map) where
 -- the text with the record of one more
 pub records-at : {A : Type 0} (f : A → List ℕ) (t : List ℕ) (xs : List A) (k : ℕ) (x : A) → slice_get xs k ≡ Some x
     → (t ++ flat_map f (take k xs)) ++ f x ≡ t ++ flat_map f (take (k + 1) xs)
-records-at f t xs k x is =
-    rw (take_more_at xs k x is, flat_map-append f (take k xs) (x ∷ []), append-nil (f x))
-    (append_assoc t (flat_map f (take k xs)) (f x))
+records-at f t xs k x is = rw (take_more_at xs k x is) (flat_map_more f t (take k xs) x)
 
--- the entry of the number at an index
-key_at : {X : Type 0} (m : FinMap nat_cmp X) (es : List (ℕ × X)) (k i : ℕ) →
-    AllByRecursion (λ e. get m e.0 ≡ Some e.1) es → k < length (map {B = ℕ} (λ e. e.0) es) →
-    i ≡ get_or (map (λ e. e.0) es) k i → (x : X) × (slice_get es k ≡ Some (i, x)) × (get m i ≡ Some x)
-key_at m [] k i a lt at = absurd (omega arith)
-key_at {X} m (e ∷ es) zero i a lt at = (e.1, ap (λ (n : ℕ). Some (n, e.1)) (sym at), ap (get m) at ∙ a.0)
-key_at m (e ∷ es) (suc k) i a lt at = key_at m es k i a.1 (omega arith) at
+-- the numbers of the entries, and a text of each with the value that is read there
+module _ {X : Type 0} (m : FinMap nat_cmp X) where
+  there_by : (es : List (ℕ × X)) → AllByRecursion (λ e. get m e.0 ≡ Some e.1) es →
+      All (λ k. IsTrue (is_some (get m k))) (map (λ (e : ℕ × X). e.0) es)
+  there_by [] a = λ k d lt. absurd (omega arith)
+  there_by (e ∷ es) a = All-cons (λ k. IsTrue (is_some (get m k))) e.0 (map (λ (e : ℕ × X). e.0) es)
+      (ap (λ (o : Option X). is_some o) a.0) (there_by es a.1)
 
--- the same, for the value o that is read at the key
-module _ {X : Type 0} (m : FinMap nat_cmp X) (ids : List ℕ) (k id : ℕ) (o : Option X)
-    (is : ids ≡ map (λ e. e.0) (entries m)) (lt : k < length ids) (at : id ≡ get_or ids k id) (read : o ≡ get m id) where
-  pub entry : (x : X) × (slice_get (entries m) k ≡ Some (id, x)) × (get m id ≡ Some x)
-  entry =
-      key_at m (entries m) k id
-      (of_entries (λ e. get m e.0 ≡ Some e.1) (entries m) (entries_sorted m) (λ e there. get-entries m e.0 ∙ there))
-      (rw is at lt) (rw is at at)
+  texts_by : (f : ℕ × X → List ℕ) (d : X) (es : List (ℕ × X)) → AllByRecursion (λ e. get m e.0 ≡ Some e.1) es →
+      flat_map (λ (k : ℕ). f (k, unwrap_or (get m k) d)) (map (λ (e : ℕ × X). e.0) es) ≡ flat_map f es
+  texts_by f d [] a = refl
+  texts_by f d (e ∷ es) a = rw a.0 (ap (λ (r : List ℕ). f e ++ r) (texts_by f d es a.1))
 
-  pub entry_there : o ≡ None → ⊥
-  entry_there none = let never : None ≡ Some entry.0 = sym none ∙ read ∙ entry.2 in absurd cc
+  read : AllByRecursion (λ e. get m e.0 ≡ Some e.1) (entries m)
+  read = of_entries (λ e. get m e.0 ≡ Some e.1) (entries m) (entries_sorted m) (λ e there. get-entries m e.0 ∙ there)
 
-  pub entry_record : (text : ℕ × X → List ℕ) (t : List ℕ) (x : X) → o ≡ Some x
-      → (t ++ flat_map text (take k (entries m))) ++ text (id, x) ≡ t ++ flat_map text (take (k + 1) (entries m))
-  entry_record text t x there =
-      let same : Some x ≡ Some entry.0 = sym there ∙ read ∙ entry.2 in
-      let value : x ≡ entry.0 = cc in
-      rw value (records-at text t (entries m) k (id, entry.0) entry.1)
+  pub keys_there : All (λ k. IsTrue (is_some (get m k))) (map (λ (e : ℕ × X). e.0) (entries m))
+  keys_there = there_by (entries m) read
+
+  pub texts_at : (f : ℕ × X → List ℕ) (d : X) →
+      flat_map (λ (k : ℕ). f (k, unwrap_or (get m k) d)) (map (λ (e : ℕ × X). e.0) (entries m)) ≡ flat_map f (entries m)
+  texts_at f d = texts_by f d (entries m) read
 
 texts_of : {A : Type 0} (g : A → Change) (xs : List A) → concat (map record_line (map g xs)) ≡ flat_map (λ x. record_line (g x)) xs
 texts_of g [] = refl

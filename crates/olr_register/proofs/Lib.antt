@@ -3,7 +3,7 @@ pub mod Ambiguous
 pub mod Asking
 pub mod DumpTexts
 pub mod BatchSteps
-pub mod Noted
+pub mod Touched
 pub mod Bounded
 pub mod Changing
 pub mod Counting

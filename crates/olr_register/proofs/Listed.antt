@@ -1,11 +1,11 @@
 -- Lists of paths after one is added, replaced or dropped: their names, and what is true of each item.
-use Rattle.olr_register.proofs.Common.{inl, ◌⊎◌, ◌≡◌, ℕ, Bool, true, false, cond, not, List, [], ◌∷◌, ◌++◌, map, filter}
-use Rattle.olr_register.proofs.Common.{Option, Some, None, is_some, length, arith, refl, sym, ap, is_none, IfSome}
-use Rattle.olr_register.proofs.Common.{list_any, or-false, or_right, list_any-append, Map, Path, Named, same_name}
-use Rattle.olr_register.proofs.Common.{path_named, not_named, Made, Item, IsEncodingOf, AreEncodings, AreEncodingsIfAny}
-use Rattle.olr_register.proofs.Common.{named_of, all_named, answer_in, Reported, Follows, set_item, named_held, held_of}
-use Rattle.olr_register.proofs.Common.{AreGiven, Add_path, Change, Margin, Set_margin, Set_path, to_renew, gives}
-use Rattle.olr_register.proofs.Common.{without_answer, Answer, map-append, with_path, answer_made}
+use Rattle.olr_register.proofs.Common.{inl, ◌⊎◌, ◌≡◌, ℕ, not, ◌∷◌, map, Some, None, refl, sym, ap, Map, Path, Made, Item}
+use Rattle.olr_register.proofs.Common.{Bool, filter, is_some, is_none, Follows, held_of, AreGiven, Add_path, Set_path, to_renew}
+use Rattle.olr_register.proofs.Common.{true, cond, List, [], ◌++◌, Option, IfSome, Named, Change, Margin, gives, Answer}
+use Rattle.olr_register.proofs.Common.{false, same_name, path_named, not_named, named_held, Set_margin, map-append, answer_made}
+use Rattle.olr_register.proofs.Common.{arith, or-false, or_right, named_of, all_named, answer_in, Reported, set_item, with_path}
+use Rattle.olr_register.proofs.Common.{list_any, list_any-append, IsEncodingOf, AreEncodings, AreEncodingsIfAny, without_answer}
+use Rattle.std.proofs.lemmas.Simd.{map-map}
 use lib.Pointwise.{bytes_decides}
 
 -- ---- names and paths
@@ -24,16 +24,10 @@ names_drop name [] = refl
 names_drop name (i ∷ is) = grind (arith, names_drop name is)
 
 pub named_twice : (is : List Item) → map named_held (map held_of is) ≡ all_named is
-named_twice [] = refl
-named_twice (i ∷ is) = ap (λ (ps : List Named). named_of i ∷ ps) (named_twice is)
+named_twice is = map-map named_held held_of is
 
 pub names_of_all : (is : List Item) → map (λ (p : Named). p.name) (all_named is) ≡ map (λ (i : Item). i.name) is
-names_of_all [] = refl
-names_of_all (i ∷ is) = ap (λ (ns : List (List ℕ)). i.name ∷ ns) (names_of_all is)
-
-pub no_items : (is : List Item) → length (all_named is) ≡ 0 → is ≡ []
-no_items [] none = refl
-no_items (i ∷ is) none = absurd (omega arith)
+names_of_all is = map-map (λ (p : Named). p.name) named_of is
 
 -- ---- what is true of each item
 
@@ -137,8 +131,7 @@ given_at_first g M (i ∷ is) a = (ap is_none a.0.1, given_at_first g M is a.1)
 
 pub named_to_renew : (all : Bool) (is : List Item) → all_named (to_renew all is) ≡ all_named is
 named_to_renew false is = refl
-named_to_renew true [] = refl
-named_to_renew true (i ∷ is) = ap (λ (ps : List Named). named_of i ∷ ps) (named_to_renew true is)
+named_to_renew true is = map-map named_of without_answer is
 
 pub has_to_renew : (all : Bool) (is : List Item) (name : List ℕ) →
     is_some (path_named (all_named (to_renew all is)) name) ≡ is_some (path_named (all_named is) name)

@@ -1,18 +1,16 @@
 -- What a change makes of an open batch, by the changed part.
-use Rattle.olr_register.proofs.Common.{◌≡◌, ℕ, List, [], ◌++◌, map, Ok, Err, refl, sym, ap, ◌∙◌, subst, ◌||◌, or-false}
-use Rattle.olr_register.proofs.Common.{Map, Edit, edited, touched_nodes, touched_lines, has, HasCoord, changes_of}
-use Rattle.olr_register.proofs.Common.{CoverageQuery, map_of, map_before, RoadMap, IsContent, Change, On_map, Make}
-use Rattle.olr_register.proofs.Common.{HasCoords, with_map, with_change, nodes_of_change, lines_of_change}
-use Rattle.olr_register.proofs.Common.{command_fault_of, CommandFault, changes_keep, Item, AreEncodingsIfAny, Follows}
-use Rattle.olr_register.proofs.Common.{Begins, under_overlay, nodes_of, lines_of, changed_of, ChangeSet, Margin}
-use Rattle.olr_register.proofs.Common.{to_renew, content_on, content_under, under_batch, AreEditsNoted, ◌∷◌, Set_margin}
-use Rattle.olr_register.proofs.Common.{follows_without, is_margin, true, held_of, IsHeld, AreGiven, MayReport, Batch}
-use Rattle.olr_register.proofs.Common.{Result, IsErrAnd, or_right, slot_of, KeepsSlots, IsUnderWay, IsTrue, CanUndoAll}
-use Rattle.olr_register.proofs.Common.{Overlay, IsHeldAs, IsMade, Makes, StaysUnderWay, or_left, edit_differs}
-use Rattle.olr_register.proofs.Common.{edit_under_way}
+use Rattle.olr_register.proofs.Common.{◌≡◌, changes_of, map_before, changed_of, content_on, under_batch, Set_margin, KeepsSlots}
+use Rattle.olr_register.proofs.Common.{ℕ, List, ◌++◌, refl, subst, Begins, Margin, IsHeld, Result, IsTrue, IsMade, Makes, Batch}
+use Rattle.olr_register.proofs.Common.{[], with_change, changes_keep, content_under, AreTouched, StaysUnderWay, edit_differs}
+use Rattle.olr_register.proofs.Common.{map, Err, sym, ap, ◌∙◌, ◌||◌, Map, Edit, has, Make, Item, ◌∷◌, true}
+use Rattle.olr_register.proofs.Common.{Ok, edited, map_of, RoadMap, Change, On_map, Follows, held_of, slot_of, Overlay, or_left}
+use Rattle.olr_register.proofs.Common.{or-false, IsContent, HasCoords, ChangeSet, is_margin, MayReport, IsUnderWay, CanUndoAll}
+use Rattle.olr_register.proofs.Common.{touched_nodes, touched_lines, CoverageQuery, CommandFault, under_overlay, edit_under_way}
+use Rattle.olr_register.proofs.Common.{HasCoord, with_map, nodes_of, lines_of, to_renew, AreGiven, IsErrAnd, or_right, IsHeldAs}
+use Rattle.olr_register.proofs.Common.{nodes_of_change, lines_of_change, command_fault_of, AreEncodingsIfAny, follows_without}
 use Rattle.olr_map.specs.declared.undo.UndoLog.{UndoLog}
 use Rattle.olr_register.proofs.Bounded.{is_edit}
-use Rattle.olr_register.proofs.Noted.{begins_none, noted_more, without_if_any}
+use Rattle.olr_register.proofs.Touched.{begins_none, touched_more, without_if_any}
 use Rattle.olr_register.proofs.Listed.{given_all, given_none, named_to_renew}
 
 -- a change that is not made leaves the batch as it was
@@ -40,7 +38,7 @@ without_answer {new = new} {is = is} {b = b} {r = Err g} f failed undo before sa
   held = λ h. record {
     undo = undo h;
     sound = coe 0 1 (i. IsContent (content_on b.margin (sym same i) (sym list i))) h.sound;
-    noted = coe 0 1 (i. AreEditsNoted (sym before i) (sym same i) (sym nodes i) (sym lines i) (sym changed i)) h.noted;
+    edits = coe 0 1 (i. AreTouched (sym before i) (sym same i) (sym nodes i) (sym lines i) (sym changed i)) h.edits;
     made = coe 0 1 (i. AreEncodingsIfAny b.margin (sym before i) (sym list i)) h.made;
     follows = subst (Follows is) (sym list) h.follows;
     begins = λ v on. h.begins v (subst (λ (ks : List Item). Begins ks v) list on);
@@ -81,7 +79,7 @@ module _ (roads : RoadMap) (is : List Item) (b : Batch) (l : Overlay) (x : Chang
     held = λ h. subst (λ (js : List Item). IsHeldAs b.margin roads is js b.log b.touched) (sym same) (record {
       undo = h.undo;
       sound = changes_keep (content_under roads is b) (content_on b.margin (map_of roads) ls) x h.sound placed ok;
-      noted = h.noted;
+      edits = h.edits;
       made = made (map_before roads b.log) h.made;
       follows = follows h.follows;
       begins = λ v on. h.begins v (begins v on);
@@ -120,10 +118,10 @@ module _ (old new : RoadMap) (is : List Item) (b : Batch) (log : UndoLog) (t : C
           undo = undo;
           sound = changes_keep (content_under old is b) (content_on b.margin (map_of new) (under_batch is b))
               (On_map e) h.sound placed content;
-          noted =
-              subst (λ (M : Map). AreEditsNoted M (map_of new) (nodes_of t) (lines_of t) (changed_of t))
-              (sym same_before) (noted_more (map_before old b.log) (map_of old) (map_of new) e (nodes_of b.touched)
-              (lines_of b.touched) (nodes_of t) (lines_of t) (changed_of b.touched) (changed_of t) h.noted done
+          edits =
+              subst (λ (M : Map). AreTouched M (map_of new) (nodes_of t) (lines_of t) (changed_of t))
+              (sym same_before) (touched_more (map_before old b.log) (map_of old) (map_of new) e (nodes_of b.touched)
+              (lines_of b.touched) (nodes_of t) (lines_of t) (changed_of b.touched) (changed_of t) h.edits done
               nodes lines changed);
           made = subst (λ (M : Map). AreEncodingsIfAny b.margin M (under_batch is b)) (sym same_before) h.made;
           follows = h.follows;
@@ -160,7 +158,7 @@ margin_made g most roads is b =
         undo = h.undo;
         sound = changes_keep (content_under roads is b) (content_on g (map_of roads) (to_renew true us)) (Set_margin g) h.sound
             most content;
-        noted = h.noted;
+        edits = h.edits;
         made = without_if_any g (map_before roads b.log) us;
         follows = follows_without is us;
         begins = λ v on. absurd (begins_none us v on);

@@ -1,14 +1,11 @@
 -- What it takes to answer a command: one that is accepted, one that raises no count, and one that is rejected; and which
 -- reference a text encodes, or why it encodes none.
-use Rattle.olr_register.proofs.Common.{◌≡◌, ℕ, true, List, [], Option, Some, None, is_some, Ok, Err, refl, sym, subst}
-use Rattle.olr_register.proofs.Common.{IsFalse, IsErrAnd, Content, Change, Command, State, changes_made, text_fault}
-use Rattle.olr_register.proofs.Common.{IsOutcome, IsRefusal, ByState, may_want, reply_of, command_fault_of, Reply}
-use Rattle.olr_register.proofs.Common.{CommandFault, RegisterState, Represents, Affects, Registered, Answered, encodes}
-use Rattle.olr_register.proofs.Common.{ap, ◌∙◌, result_ok, Result, changes_made_in, unless_fault, Not_a_reference}
-use Rattle.olr_register.proofs.Common.{unconcerned, CountIs, Reference, text_fault_of}
+use Rattle.olr_register.proofs.Common.{◌≡◌, ℕ, true, List, [], Option, Some, None, is_some, Ok, Err, refl, sym, subst, IsFalse}
+use Rattle.olr_register.proofs.Common.{IsErrAnd, Content, Change, Command, State, changes_made, text_fault, IsOutcome, ByState}
+use Rattle.olr_register.proofs.Common.{may_want, reply_of, command_fault_of, Reply, CommandFault, Affects, Registered, Answered}
+use Rattle.olr_register.proofs.Common.{encodes, ap, ◌∙◌, result_ok, Result, changes_made_in, unless_fault, Not_a_reference}
+use Rattle.olr_register.proofs.Common.{unconcerned, CountIs, Reference, text_fault_of, IsRefusal, RegisterState, Represents}
 use Rattle.olr_commands.specs.Reply.{Lacks}
-use Rattle.olr_register.proofs.States.{state, InStates, in_states}
-use Rattle.olr_register.proofs.Counting.{Rise, none_affected, rise_none}
 use Rattle.base64.specs.Engines.{standard}
 use Rattle.base64.specs.GeneralPurpose.{decode_of, decoded_of}
 use Rattle.base64.specs.declared.decode.DecodeError.{DecodeError}
@@ -21,6 +18,8 @@ use Rattle.olr_binary.specs.declared.faults.TextFault.TheVariants.{Bytes, NotBas
 use Rattle.olr_binary.specs.Faults.{IsFaultOf}
 use Rattle.olr_binary.specs.Text.{IsTextOf, text_of}
 use Rattle.olr_binary.proofs.EncodedLemmas.{reference_bytes-bytes}
+use Rattle.olr_register.proofs.States.{state, InStates, in_states}
+use Rattle.olr_register.proofs.Counting.{Rise, none_affected, rise_none}
 use Rattle.olr_commands.specs.State as state
 use Rattle.olr_commands.specs.Reply as returned
 use Rattle.olr_spec.specs.Bytes as spec

@@ -1,12 +1,11 @@
 -- What is reported of a list, and of one path that is added, replaced or dropped, compared with the answers of the paths
 -- on their maps.
-use Rattle.olr_register.proofs.Common.{has_name, arith, inl, inr, ◌≡◌, ℕ, true, false, cond, List, [], ◌∷◌, Option}
-use Rattle.olr_register.proofs.Common.{Some, None, refl, sym, ap, ◌∙◌, subst, option_map, MatchOption, IsSomeAnd, Map}
-use Rattle.olr_register.proofs.Common.{Path, Answer, EncodesWith, Margin, same_name, path_named, IsContent, AllOf}
-use Rattle.olr_register.proofs.Common.{Differences, Made, Item, IsEncodingOf, AreEncodings, all_named, made_in}
-use Rattle.olr_register.proofs.Common.{answer_in, Reported, ◌⊎◌, ◌≢◌, not, ◌++◌, map, filter, is_some, cases_Bool}
-use Rattle.olr_register.proofs.Common.{none_of, entry, content_on, Follows, set_item, follows_self, ◌↔◌, HasAnswer}
-use Rattle.olr_register.proofs.Common.{NamesDiffer, named_path, same_is, answer_made, Entry}
+use Rattle.olr_register.proofs.Common.{has_name, arith, inl, inr, ◌≡◌, ℕ, true, false, cond, List, [], ◌∷◌, Option, Some, None}
+use Rattle.olr_register.proofs.Common.{refl, sym, ap, ◌∙◌, subst, option_map, MatchOption, IsSomeAnd, Map, Path, Answer}
+use Rattle.olr_register.proofs.Common.{EncodesWith, Margin, same_name, path_named, IsContent, AllOf, Differences, Made, Item}
+use Rattle.olr_register.proofs.Common.{IsEncodingOf, AreEncodings, all_named, made_in, answer_in, Reported, ◌⊎◌, ◌≢◌, not, ◌++◌}
+use Rattle.olr_register.proofs.Common.{map, filter, is_some, cases_Bool, none_of, content_on, Follows, set_item, follows_self}
+use Rattle.olr_register.proofs.Common.{◌↔◌, HasAnswer, NamesDiffer, named_path, same_is, answer_made, Entry, entry}
 use Rattle.olr_spec.proofs.AnswerLemmas.{one_answer_with}
 use Rattle.olr_paths.proofs.NamedEntries.{sets_none}
 use Rattle.olr_register.proofs.Listed.{each_add, each_set, each_left, each_encoded, each_follows, follows_untold, still_told}

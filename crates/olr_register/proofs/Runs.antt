@@ -1,8 +1,7 @@
 -- Whole runs.
-use Rattle.olr_register.proofs.Common.{◌≡◌, ◌∙◌, ◌+◌, ℕ, List, [], ◌∷◌, ◌++◌, map, Result, refl, sym, ap, subst}
-use Rattle.olr_register.proofs.Common.{IsContent, State, start_state, SoundOutcome, CommandFault, Represents}
-use Rattle.olr_register.proofs.Common.{Registered, length-append, map_push, run_more, command_of, outcome_of, Applied}
-use Rattle.olr_register.proofs.Common.{nothing_registered}
+use Rattle.olr_register.proofs.Common.{◌≡◌, ◌∙◌, ◌+◌, ℕ, List, [], ◌∷◌, ◌++◌, map, Result, refl, sym, ap, subst, IsContent}
+use Rattle.olr_register.proofs.Common.{State, start_state, SoundOutcome, CommandFault, Registered, length-append, map_push}
+use Rattle.olr_register.proofs.Common.{run_more, command_of, outcome_of, Applied, nothing_registered, Represents}
 use Rattle.olr_commands.specs.History.{Whole}
 use Rattle.olr_commands.specs.declared.command.Command.{Command as Asked}
 use Rattle.olr_commands.specs.declared.reply.Reply.{Reply as Answered}

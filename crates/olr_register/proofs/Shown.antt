@@ -1,9 +1,8 @@
 -- The paths that depend on nodes, in terms of the definitions of commands.
-use Rattle.olr_register.proofs.Common.{sym, inl, inr, ◌≡◌, ℕ, List, [], ◌∷◌, Some, ap, ◌∙◌, Map, Item, AreEncodings}
-use Rattle.olr_register.proofs.Common.{all_named, content_on, ChangeSet, Margin, nodes_of, lines_of, Picks, Made}
-use Rattle.olr_register.proofs.Common.{IsAround, IsAffected, AffectedNames}
+use Rattle.olr_register.proofs.Common.{sym, inl, inr, ◌≡◌, ℕ, List, [], ◌∷◌, Some, ap, ◌∙◌, Map, Item, AreEncodings, all_named}
+use Rattle.olr_register.proofs.Common.{content_on, ChangeSet, Margin, nodes_of, lines_of, Picks, Made, IsAround, IsAffected}
+use Rattle.olr_renewal.specs.Changes.{AffectedNames, By_name, By_node, By_line}
 use Rattle.olr_commands.specs.Dependents.{DependsOn, Dependents, On_node, On_line}
-use Rattle.olr_renewal.specs.Changes.{By_name, By_node, By_line}
 use Rattle.olr_register.proofs.Listed.{names_of_all}
 
 -- they are those that an edit around the nodes would affect

@@ -1,8 +1,8 @@
 -- Commands that are rejected while a batch is open, and questions that are answered if none is.
-use Rattle.olr_register.proofs.Common.{◌≡◌, true, false, List, [], Option, Some, None, is_some, Result, Ok, Err, refl}
-use Rattle.olr_register.proofs.Common.{IsErrAnd, none_of, map_of, Content, Change, Command, step, IsOutcome, IsRefusal}
-use Rattle.olr_register.proofs.Common.{ByState, reply_of, command_fault_of, Reply, CommandFault, items, content_on, sym}
-use Rattle.olr_register.proofs.Common.{Registered, Answered, IsStateRight, RegisterState, changes_made_in, Open, Inside}
+use Rattle.olr_register.proofs.Common.{◌≡◌, true, false, List, [], Option, Some, None, is_some, Result, Ok, Err, refl, IsErrAnd}
+use Rattle.olr_register.proofs.Common.{none_of, map_of, Content, Change, Command, step, IsOutcome, ByState, reply_of}
+use Rattle.olr_register.proofs.Common.{command_fault_of, Reply, CommandFault, items, content_on, sym, Registered, Answered}
+use Rattle.olr_register.proofs.Common.{IsStateRight, changes_made_in, Inside, IsRefusal, RegisterState, Open}
 use Rattle.olr_register.proofs.Outcomes.{answered_refused, answered_uncounted, Keeps}
 use Rattle.olr_register.proofs.States.{state, register_of, of_parts, in_states, right_as}
 

@@ -1,7 +1,7 @@
 -- What a register stores, and what is true of it.
 --     content_on g M is, under_batch is b, content_under roads is b      the content of a margin, a map and a list;  the
 --         list and the content after an open batch
---     AreEditsNoted M N T X C      what is recorded of edits that lead from M to N
+--     AreTouched M N T X C      what edits that lead from M to N touch and change
 --     IsHeld, IsRegister      what is true of an open batch, and of margin, map, list and batch
 --     KeepsMargin g b      the batch has the margin g, unless one of its changes sets another
 --     HasBounds roads T is bounds      each coverage query of the list is a source of the bounds, and once they are settled
@@ -50,20 +50,16 @@ under_batch is b = to_renew b.all (under_overlay is b.overlay)
 abbrev pub content_under : RoadMap → List Item → Batch → Content
 content_under roads is b = content_on b.margin (map_of roads) (under_batch is b)
 
--- with the list ls under its changes
-abbrev pub batch_as : RoadMap → List Item → Margin → ℕ → ChangeSet → states.Batch
-batch_as roads ls margin count touched =
+abbrev pub batch_of : RoadMap → List Item → Batch → states.Batch
+batch_of roads is b =
     record {
       map = map_of roads;
-      paths = map held_of ls;
-      margin = margin;
-      count = count;
-      nodes = nodes_of touched;
-      lines = lines_of touched;
+      paths = map held_of (under_batch is b);
+      margin = b.margin;
+      count = b.count;
+      nodes = nodes_of b.touched;
+      lines = lines_of b.touched;
     }
-
-abbrev pub batch_of : RoadMap → List Item → Batch → states.Batch
-batch_of roads is b = batch_as roads (under_batch is b) b.margin b.count b.touched
 
 -- while a batch is open, this is the map to which its log leads back
 abbrev pub accepted_map : RoadMap → Option Batch → Map
@@ -83,9 +79,9 @@ state_of g roads is batch =
 
 -- ---- invariants
 
--- what is recorded of edits that lead from M to N: there is no other difference, and each changed line begins at a
+-- what edits that lead from M to N touch and change: there is no other difference, and each changed line begins at a
 -- touched node
-pub record AreEditsNoted (M N : Map) (T X : List ℕ) (C : List ChangedLine) : Type 0 where
+pub record AreTouched (M N : Map) (T X : List ℕ) (C : List ChangedLine) : Type 0 where
   pub difference : Difference T X C M N
   pub starts : (c : ChangedLine) → Contains C c → IsTrue (has T c.from)
 
@@ -94,7 +90,7 @@ pub record IsHeldAs (g : Margin) (roads : RoadMap) (before ls : List Item) (log 
   where
     pub undo : CanUndoAll roads log
     pub sound : IsContent (content_on g (map_of roads) ls)
-    pub noted : AreEditsNoted (map_before roads log) (map_of roads) (nodes_of touched) (lines_of touched)
+    pub edits : AreTouched (map_before roads log) (map_of roads) (nodes_of touched) (lines_of touched)
         (changed_of touched)
     pub made : AreEncodingsIfAny g (map_before roads log) ls
     pub follows : Follows before ls

@@ -5,5 +5,5 @@ pub mod Answered
 pub mod BatchChanges
 pub mod CountChanges
 pub mod Recordables
-pub mod EditNotes
+pub mod JudgedEdits
 pub mod Built

@@ -30,8 +30,8 @@ pub struct Batch {
 }
 
 impl Batch {
-    ghost use Rattle.std.specs.Prelude.{◌≡◌, List, nat_le, string_bytes, Ok};
-    ghost use Rattle.olr_commands.specs.State.{On_map, Add_path, Set_path, Drop_path, Set_margin, full, NamesDiffer};
+    ghost use Rattle.std.specs.Prelude.{◌≡◌, List, nat_le, string_bytes};
+    ghost use Rattle.olr_commands.specs.State.{On_map, Add_path, Set_path, Drop_path, full, NamesDiffer};
     ghost use Rattle.olr_map.specs.RoadMaps.{CanUndoAll};
     ghost use Rattle.olr_model.specs.Edits.{edit_of};
     ghost use Rattle.olr_paths.specs.Items.{Item, items, all_named};
@@ -57,8 +57,7 @@ impl Batch {
         };
         self.touched.reserve()?;
         roads.make_into(edit, &plan, &mut self.log)?;
-        self.touched
-            .note(plan.nodes, plan.line, line_changed(&plan));
+        self.touched.add(plan.nodes, plan.line, line_changed(&plan));
         Ok(())
     }
 
@@ -109,16 +108,6 @@ impl Batch {
         Ok(())
     }
 
-    /// Sets the margin. Takes no memory.
-    fn set_margin(&mut self, margin: Margin)
-        ensures { (roads : Roads) (is : List Item) → Makes roads roads is self.old self.new (Set_margin margin) (Ok tt) }
-    {
-        // For the proof alone: the margin is in range.
-        let _routes = margin.routes();
-        self.margin = margin;
-        self.all = true;
-    }
-
     /// Makes a change. After a fault, map and batch are unchanged.
     fn make(
         &mut self,
@@ -136,7 +125,10 @@ impl Batch {
             Change::SetPath(name, parts) => self.set_path(alloc, list, &name, parts),
             Change::DropPath(name) => self.drop_path(alloc, list, &name),
             Change::SetMargin(margin) => {
-                self.set_margin(margin);
+                // For the proof alone: the margin is in range.
+                let _routes = margin.routes();
+                self.margin = margin;
+                self.all = true;
                 Ok(())
             }
         }

@@ -11,7 +11,7 @@ ghost use Rattle.olr_renewal.specs.Reencoded.{AreRenewed};
 ghost use Rattle.olr_spec.specs.Map.{Map};
 ghost use Rattle.olr_spec.specs.Queries.{CoverageQuery as QueryRecord};
 ghost use Rattle.olr_map.specs.declared.road_map.RoadMap.{RoadMap as Roads};
-ghost use Rattle.olr_register.specs.Contents.{AreEditsNoted, HasBounds, CanUpdate};
+ghost use Rattle.olr_register.specs.Contents.{AreTouched, HasBounds, CanUpdate};
 
 use olr_map::{RoadMap, UndoLog};
 use olr_paths::{Overlay, PathList};
@@ -25,7 +25,7 @@ use std::alloc::{AllocError, Global};
 const LEAST: usize = 65_536;
 
 /// Makes the bounds right on the map. If an allocation fails, they are unknown, and searches go as far as they may.
-pub(crate) fn settle_kept(bounds: &mut DistanceBounds, roads: &RoadMap)
+pub(crate) fn make_right(bounds: &mut DistanceBounds, roads: &RoadMap)
     ensures { (is : List Item) → HasBounds roads.now [] is bounds.old
         → AreBoundsOf (map_of roads.now) (slot_of roads.now) bounds.new is }
 {
@@ -33,12 +33,12 @@ pub(crate) fn settle_kept(bounds: &mut DistanceBounds, roads: &RoadMap)
 }
 
 /// The same after edits that touched these nodes.
-fn settle_bounds(bounds: &mut DistanceBounds, roads: &RoadMap, touched: &ChangeSet)
+fn make_right_after(bounds: &mut DistanceBounds, roads: &RoadMap, touched: &ChangeSet)
     ensures { (is : List Item) → HasBounds roads.now (nodes_of touched.now) is bounds.old
         → AreBoundsOf (map_of roads.now) (slot_of roads.now) bounds.new is }
 {
     let _ = bounds.reopen(touched.nodes());
-    settle_kept(bounds, roads);
+    make_right(bounds, roads);
 }
 
 /// Adds coverage queries, whose lines are followed when the bounds are settled. If an allocation fails, the bounds are
@@ -100,23 +100,6 @@ pub(crate) fn renew_bounds(
     bounds_from_scratch(alloc, bounds, paths);
 }
 
-/// Adds sources to the bounds where new coverage queries of the list begin; if the margin was set, from scratch.
-fn bounds_after(
-    update: &MapUpdate<'_, RoadMap>,
-    bounds: &mut DistanceBounds,
-    paths: &PathList,
-    renewed: &Renewed,
-)
-    ensures { (roads : Roads) (T : List ℕ) (is : List Item) → HasBounds roads T is bounds.old
-        → AreNewQueries renewed.now.queries.items is (items paths.now) → HasBounds roads T (items paths.now) bounds.new }
-{
-    if update.sets_margin {
-        bounds_from_scratch(update.alloc, bounds, paths);
-        return;
-    }
-    renew_bounds(update.alloc, bounds, paths, renewed);
-}
-
 /// Encodes the affected paths again after edits that led to the map, with the changes of an overlay, and adds their new
 /// coverage queries to the bounds; if the margin was set, all paths, and the bounds begin from scratch. If an allocation
 /// fails, the list is unchanged, and the bounds are unknown.
@@ -134,10 +117,15 @@ pub(crate) fn renew(
     ensures err { OnErr result (items paths.new ≡ items paths.old) }
     ensures unknown { OnErr result (IsFalse searches.new.bounds.known) }
 {
-    settle_bounds(&mut searches.bounds, update.map, update.touched);
+    make_right_after(&mut searches.bounds, update.map, update.touched);
     match renew_over(paths, update, overlay, searches) {
         Ok(renewed) => {
-            bounds_after(update, &mut searches.bounds, paths, &renewed);
+            let bounds = &mut searches.bounds;
+            if update.sets_margin {
+                bounds_from_scratch(update.alloc, bounds, paths);
+                return Ok(renewed);
+            }
+            renew_bounds(update.alloc, bounds, paths, &renewed);
             Ok(renewed)
         }
         Err(error) => {
@@ -161,7 +149,7 @@ pub(crate) fn preview(
         → HasBounds update.now.map.now (nodes_of update.now.touched.now) is searches.old.bounds
         → HasBounds update.now.map.now T is searches.new.bounds }
 {
-    settle_bounds(&mut searches.bounds, update.map, update.touched);
+    make_right_after(&mut searches.bounds, update.map, update.touched);
     let new_results = renewal_over(paths, update, overlay, searches)?;
     Ok(new_results.into_renewed())
 }
@@ -175,7 +163,7 @@ pub(crate) fn undo_edits(
     touched: &ChangeSet,
 )
     requires undo { CanUndoAll roads.old log }
-    requires noted { AreEditsNoted (map_before roads.old log) (map_of roads.old) (nodes_of touched.now)
+    requires edits { AreTouched (map_before roads.old log) (map_of roads.old) (nodes_of touched.now)
         (lines_of touched.now) (changed_of touched.now) }
     ensures map { map_of roads.new ≡ map_before roads.old log }
     ensures bounded { (is : List Item) → HasBounds roads.old (nodes_of touched.now) is bounds.old

@@ -1,13 +1,12 @@
 //! Dumps: the records that build the register from an empty one.
-ghost use Rattle.std.specs.FinMap.{entries};
 ghost use Rattle.std.specs.List.{list_all, concat};
-ghost use Rattle.std.specs.Prelude.{◌≡◌, ◌++◌, ℕ, map, flat_map, length, true, false, IsTrue, IsFalse, IfOk, OnOk, slice_get, Some};
+ghost use Rattle.std.specs.Prelude.{◌≡◌, ◌++◌, ℕ, map, flat_map, length, All, IsTrue, IsFalse, IfOk, OnOk, slice_get, Some};
 ghost use Rattle.olr_commands.specs.Dump.{node_change, line_change, path_change, margin_changes, dump_lines};
 ghost use Rattle.olr_commands.specs.RecordText.{record_line};
 ghost use Rattle.olr_commands.specs.State.{Named, is_recordable};
 ghost use Rattle.olr_map.specs.RoadMaps.{map_of, slot_of};
 ghost use Rattle.olr_paths.specs.Items.{items, all_named};
-ghost use Rattle.olr_spec.specs.Map.{has_node, coord_at};
+ghost use Rattle.olr_spec.specs.Map.{has_node, has_line, coord_at, line_at};
 ghost use Rattle.olr_spec.specs.Margins.{no_margin};
 ghost use Rattle.olr_commands.specs.Recordable as recordable;
 ghost use Rattle.olr_commands.specs.Dump as spec;
@@ -124,12 +123,12 @@ fn push_margin(text: &mut Vec<u8>, margin: Margin) -> Result<usize, AllocError>
     Ok(1)
 }
 
-/// Appends the records of all nodes, which have these numbers.
+/// Appends the records of these nodes.
 fn push_nodes(text: &mut Vec<u8>, roads: &RoadMap, ids: &[NodeId]) -> Result<(), AllocError>
-    requires ids { ids.now ≡ map (λ e. e.0) (entries (map_of roads.now).nodes) }
+    requires there { All (λ v. IsTrue (has_node (map_of roads.now) v)) ids.now }
     requires recordable { IsTrue (recordable.is_recordable_map (map_of roads.now)) }
     ensures { OnOk result (text.new.items ≡ text.old.items
-        ++ flat_map (λ e. record_line (node_change e)) (entries (map_of roads.now).nodes)) }
+        ++ flat_map (λ v. record_line (node_change (v, coord_at (map_of roads.now) v))) ids.now) }
 {
     for id in ids {
         push_node(text, roads, *id)?;
@@ -137,12 +136,12 @@ fn push_nodes(text: &mut Vec<u8>, roads: &RoadMap, ids: &[NodeId]) -> Result<(),
     Ok(())
 }
 
-/// Appends the records of all lines, which have these numbers.
+/// Appends the records of these lines.
 fn push_lines(text: &mut Vec<u8>, roads: &RoadMap, ids: &[LineId]) -> Result<(), AllocError>
-    requires ids { ids.now ≡ map (λ e. e.0) (entries (map_of roads.now).lines) }
+    requires there { All (λ x. IsTrue (has_line (map_of roads.now) x)) ids.now }
     requires recordable { IsTrue (recordable.is_recordable_map (map_of roads.now)) }
     ensures { OnOk result (text.new.items ≡ text.old.items
-        ++ flat_map (λ e. record_line (line_change e)) (entries (map_of roads.now).lines)) }
+        ++ flat_map (λ x. record_line (line_change (x, line_at (map_of roads.now) x))) ids.now) }
 {
     for id in ids {
         let Some(line) = roads.line(*id) else {

@@ -6,7 +6,7 @@ ghost use Rattle.olr_model.specs.Edits.{edit_of};
 ghost use Rattle.olr_paths.specs.Items.{items};
 ghost use Rattle.olr_renewal.specs.ChangeSets.{change_of};
 ghost use Rattle.olr_spec.specs.Map.{Map, Edit as EditRecord};
-ghost use Rattle.olr_register.specs.EditNotes.{IsNotedOf, CanMakeEdit, IsEditMade};
+ghost use Rattle.olr_register.specs.JudgedEdits.{IsTouchedBy, CanMakeEdit, IsEditMade};
 
 use crate::bounds::renew;
 use crate::register::Register;
@@ -32,20 +32,20 @@ pub fn line_changed(plan: &EditPlan) -> Option<ChangedLine>
     })
 }
 
-/// Records what a judged edit touches, and nothing else.
-fn note_only(touched: &mut ChangeSet, plan: &EditPlan) -> Result<(), AllocError>
+/// What a judged edit touches, and nothing else.
+fn touch_only(touched: &mut ChangeSet, plan: &EditPlan) -> Result<(), AllocError>
     ensures { OnOk result ((M : Map) (slot : ℕ → ℕ) (e : EditRecord) → IsEditPlan M slot e plan.now
-        → IsNotedOf M e touched.new) }
+        → IsTouchedBy M e touched.new) }
 {
     touched.clear();
     touched.reserve()?;
-    touched.note(plan.nodes, plan.line, line_changed(plan));
+    touched.add(plan.nodes, plan.line, line_changed(plan));
     Ok(())
 }
 
 /// An edit that was judged, and what it touches.
 #[derive(Drop)]
-struct NotedEdit<'a> {
+struct JudgedEdit<'a> {
     edit: Edit,
     plan: EditPlan,
     touched: &'a ChangeSet,
@@ -58,19 +58,19 @@ fn make_and_renew(
     roads: &mut RoadMap,
     margin: Margin,
     paths: &mut PathList,
-    noted: NotedEdit<'_>,
+    judged: JudgedEdit<'_>,
     searches: &mut Searches,
 ) -> Result<Renewed, AllocError>
-    requires { CanMakeEdit margin roads.old (edit_of noted.edit) noted.plan noted.touched.now (items paths.old)
+    requires { CanMakeEdit margin roads.old (edit_of judged.edit) judged.plan judged.touched.now (items paths.old)
         searches.old.bounds }
-    ensures { IsEditMade margin roads.old roads.new (edit_of noted.entry.edit) noted.entry.touched.now (items paths.old)
+    ensures { IsEditMade margin roads.old roads.new (edit_of judged.entry.edit) judged.entry.touched.now (items paths.old)
         (items paths.new) searches.new.bounds result }
 {
-    let NotedEdit {
+    let JudgedEdit {
         edit,
         plan,
         touched,
-    } = noted;
+    } = judged;
     if let Some(renewed) = renew_unaffected(paths, alloc, roads, touched, &searches.bounds) {
         roads.make_kept(edit, &plan)?;
         return Ok(renewed);
@@ -132,8 +132,8 @@ impl Register {
             Ok(plan) => plan,
             Err(fault) => return Err(CommandFault::Map(fault)),
         };
-        note_only(&mut self.touched, &plan)?;
-        let noted = NotedEdit {
+        touch_only(&mut self.touched, &plan)?;
+        let judged = JudgedEdit {
             edit,
             plan,
             touched: &self.touched,
@@ -143,7 +143,7 @@ impl Register {
             &mut self.roads,
             self.margin,
             &mut self.paths,
-            noted,
+            judged,
             &mut self.searches,
         )?;
         self.work = self.work.plus(renewed.work);

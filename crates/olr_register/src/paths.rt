@@ -5,7 +5,7 @@ use crate::bounds::renew_bounds;
 use crate::change::{PathParts, path_unless};
 use crate::register::Register;
 use olr_commands::{CommandFault, Reply};
-use olr_renewal::{add, encode, set};
+use olr_renewal::{add, set};
 
 impl Register {
     ghost use Rattle.std.specs.Prelude.{◌≡◌, None, string_bytes};
@@ -22,9 +22,10 @@ impl Register {
     {
         let taken = self.paths.has(&name);
         let path = path_unless(self.alloc, taken, CommandFault::PathExists, parts)?;
+        let (alloc, margin) = (self.alloc, self.margin);
+        let paths = &mut self.paths;
         let query = &mut self.searches.query;
-        let encoded = encode(self.alloc, &self.roads, path, self.margin, query)?;
-        let renewed = add(&mut self.paths, self.alloc, name, encoded)?;
+        let renewed = add(paths, alloc, name, path, &self.roads, margin, query)?;
         renew_bounds(self.alloc, &mut self.searches.bounds, &self.paths, &renewed);
         self.work = self.work.plus(renewed.work);
         Ok(Reply::Paths(renewed.entries))
@@ -38,9 +39,10 @@ impl Register {
     {
         let missing = !self.paths.has(name);
         let path = path_unless(self.alloc, missing, CommandFault::NoPath, parts)?;
+        let (alloc, margin) = (self.alloc, self.margin);
+        let paths = &mut self.paths;
         let query = &mut self.searches.query;
-        let encoded = encode(self.alloc, &self.roads, path, self.margin, query)?;
-        let renewed = set(&mut self.paths, self.alloc, name, encoded)?;
+        let renewed = set(paths, alloc, name, path, &self.roads, margin, query)?;
         renew_bounds(self.alloc, &mut self.searches.bounds, &self.paths, &renewed);
         self.work = self.work.plus(renewed.work);
         Ok(Reply::Paths(renewed.entries))

@@ -2,7 +2,7 @@
 ghost use Rattle.std.specs.FinMap.{get};
 ghost use Rattle.std.specs.List.{concat};
 ghost use Rattle.std.specs.Prelude.{◌≡◌, ◌++◌, map, length, Some, IsTrue, IfOk, OnOk};
-ghost use Rattle.olr_commands.specs.Dump.{node_change, node_changes, end_changes, line_changes};
+ghost use Rattle.olr_commands.specs.Dump.{node_change, end_changes, line_changes};
 ghost use Rattle.olr_commands.specs.RecordText.{record_line};
 ghost use Rattle.olr_map.specs.RoadMaps.{map_of};
 ghost use Rattle.olr_spec.specs.Map.{has_node, coord_at};
@@ -24,18 +24,6 @@ pub(crate) fn push_node(text: &mut Vec<u8>, roads: &RoadMap, id: NodeId) -> Resu
         ≡ text.old.items ++ record_line (node_change (id, coord_at (map_of roads.now) id))) }
 {
     push_node_record(text, id, roads.node(id).unwrap())
-}
-
-/// The record of a node of the map.
-fn node_records(alloc: Global, roads: &RoadMap, id: NodeId) -> Result<Dump, AllocError>
-    requires there { IsTrue (has_node (map_of roads.now) id) }
-    requires recordable { IsTrue (recordable.has_node_record (map_of roads.now) id) }
-    ensures { IfOk result (λ d. (d.count ≡ length (node_changes (map_of roads.now) id))
-        × (d.text.items ≡ concat (map record_line (node_changes (map_of roads.now) id)))) }
-{
-    let mut text = Vec::new(alloc);
-    push_node(&mut text, roads, id)?;
-    Ok(Dump { count: 1, text })
 }
 
 /// Appends the records of two nodes of the map, or of one if both are the same. Returns their number.
@@ -105,7 +93,9 @@ impl Register {
         if !is_recordable_place(&self.roads, id) {
             return Err(CommandFault::NotARecord);
         }
-        Ok(Reply::Records(node_records(self.alloc, &self.roads, id)?))
+        let mut text = Vec::new(self.alloc);
+        push_node(&mut text, &self.roads, id)?;
+        Ok(Reply::Records(Dump { count: 1, text }))
     }
 
     /// The record of a line, as a dump has it, after those of the nodes where it begins and ends; one of these if they are

@@ -1,13 +1,11 @@
 -- The lines around nodes, and lists that are sorted without duplicates.
-use Rattle.olr_renewal.proofs.Common.{inl, inr, ◌≡◌, ℕ, ◌+◌, ◌<◌, true, List, ◌++◌, length, take, get_or, eqb, IsTrue}
-use Rattle.olr_renewal.proofs.Common.{◌||◌, ◌==◌, ◌↔◌, sym, ap, ◌∙◌, eq-eqb, eqb-true, or_left, Map, end, has}
-use Rattle.olr_renewal.proofs.Common.{IsPermutation, IsStrictlyIncreasing, Option, is_some, ◌⊎◌, dedup, IsSorted}
-use Rattle.olr_renewal.proofs.Common.{or_cases, or_right, Line, has_line, start, lines_in, lines_out, no_line}
-use Rattle.olr_renewal.proofs.Common.{IsLineAround, has_from, in_from, unwrap_or}
+use Rattle.olr_renewal.proofs.Common.{inl, inr, ◌≡◌, ℕ, ◌+◌, ◌<◌, true, List, ◌++◌, length, take, get_or, eqb, IsTrue, ◌||◌}
+use Rattle.olr_renewal.proofs.Common.{◌==◌, ◌↔◌, sym, ap, ◌∙◌, eq-eqb, eqb-true, or_left, Map, end, has, IsPermutation}
+use Rattle.olr_renewal.proofs.Common.{IsStrictlyIncreasing, Option, is_some, ◌⊎◌, dedup, IsSorted, or_cases, or_right, Line}
+use Rattle.olr_renewal.proofs.Common.{has_line, start, lines_in, lines_out, no_line, IsLineAround, has_from, in_from, unwrap_or}
+use Rattle.olr_renewal.proofs.Common.{list_any-append, list_any_more, Contains-dedup_nat, Contains-from_dedup}
 use Rattle.std.specs.Ordering.{nat_cmp}
 use Rattle.std.proofs.lemmas.Map.Keys.{IsStrictlyIncreasing-dedup}
-use Rattle.std.proofs.lemmas.List.Folds.{list_any-append, list_any_more}
-use Rattle.std.proofs.lemmas.List.Kept.{Contains-dedup_nat, Contains-from_dedup}
 use Rattle.std.proofs.lemmas.List.Sorted.{Contains-permutation, IsPermutation-sym}
 use Rattle.olr_spec.proofs.OrderLemmas.{exactly_in, exactly_out}
 use Rattle.olr_spec.proofs.RunLemmas.{entering, leaving}

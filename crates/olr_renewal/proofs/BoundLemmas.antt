@@ -1,13 +1,11 @@
 -- What is closed and met, as bounds become less and as maps are edited, and where bounds come from.
-use Rattle.olr_renewal.proofs.Common.{◌≡◌, ℕ, ◌+◌, ◌<◌, ◌≤◌, ◌⊎◌, List, [], ◌∷◌, ◌++◌, Option, Some, None, IsTrue}
-use Rattle.olr_renewal.proofs.Common.{refl, sym, ap, ◌∙◌, ◌↔◌, subst, inl, inr, arith, is_some, min, cases_Bool}
-use Rattle.olr_renewal.proofs.Common.{eqb-true, Map, IsMap, SameLine, has, has_node, start, end, dm, IsRoute, dm_of}
-use Rattle.olr_renewal.proofs.Common.{GREATEST_LIMIT, Near, IsRoute-append, dm_of-append, route_start, AreBounds}
-use Rattle.olr_renewal.proofs.Common.{Against, IsSource, IsRight, label_of, frontier_len, IsQueued, IsAlike, Moves}
-use Rattle.olr_renewal.proofs.Common.{CoversSlots, alike_labels, source_of, bound_at, AreClosed, AreMet, AreRight}
-use Rattle.olr_renewal.proofs.Common.{IsDue, AreUnderWay, IsUnderWay, IsEdit, IsUnbounded, IsLed, AreLed, IsFollowed}
-use Rattle.olr_renewal.proofs.Common.{DistanceBounds}
-use Rattle.std.proofs.lemmas.List.Folds.{list_any-append}
+use Rattle.olr_renewal.proofs.Common.{◌≡◌, ℕ, ◌+◌, ◌<◌, ◌≤◌, ◌⊎◌, List, [], ◌∷◌, ◌++◌, Option, Some, None, IsTrue, refl, sym}
+use Rattle.olr_renewal.proofs.Common.{ap, ◌∙◌, ◌↔◌, subst, inl, inr, arith, is_some, min, cases_Bool, eqb-true, Map, IsMap}
+use Rattle.olr_renewal.proofs.Common.{SameLine, has, has_node, start, end, dm, IsRoute, dm_of, GREATEST_LIMIT, Near}
+use Rattle.olr_renewal.proofs.Common.{IsRoute-append, dm_of-append, route_start, AreBounds, Against, IsSource, IsRight}
+use Rattle.olr_renewal.proofs.Common.{label_of, frontier_len, IsQueued, IsAlike, Moves, CoversSlots, alike_labels, source_of}
+use Rattle.olr_renewal.proofs.Common.{bound_at, AreClosed, AreMet, AreRight, IsDue, AreUnderWay, IsUnderWay, IsEdit}
+use Rattle.olr_renewal.proofs.Common.{IsUnbounded, IsLed, AreLed, IsFollowed, DistanceBounds, list_any-append}
 use Rattle.olr_spec.proofs.AgreeLemmas.{turned_round, by_leaving, same_known, same_start, same_end, same_dm}
 use Rattle.olr_route.specs.declared.frontier.Frontier.{Frontier}
 

@@ -1,21 +1,18 @@
 -- The positions that are found have all affected paths, and the paths between them are unchanged.
-use Rattle.olr_renewal.proofs.Common.{take, all_more}
-use Rattle.olr_renewal.proofs.Common.{All, inl, inr, ◌≡◌, ◌≢◌, ℕ, ◌+◌, ◌<◌, ◌≤◌, ◌==◌, ◌||◌, ◌⊎◌, false, List, []}
-use Rattle.olr_renewal.proofs.Common.{◌∷◌, ◌++◌, length, get_or, slice_get, Option, Some, None, IsTrue, refl, sym, ap}
-use Rattle.olr_renewal.proofs.Common.{◌∙◌, subst, append_assoc, arith, min, cases_Bool, nat_tests, All-contains}
-use Rattle.olr_renewal.proofs.Common.{slice_get_within, Map, IsMap, has, holds, Index, Item, Includes, Finds, Covers}
-use Rattle.olr_renewal.proofs.Common.{FindsChanged, option_map, Rc, has_node, CoverageQuery, GREATEST_LIMIT}
-use Rattle.olr_renewal.proofs.Common.{AreLengths, label_at, Against, made_of, items, QueryTouched, nodes_of, lines_of}
-use Rattle.olr_renewal.proofs.Common.{IsSearchedFor, ChangeSet, AreFar, LackQueries, BeginsIn, Begins, Finder}
-use Rattle.olr_renewal.proofs.Common.{Published, NamedPath, PathList, Path, Changes, RemovesNone, change_at}
-use Rattle.olr_renewal.proofs.Common.{under_change, under_changes, NamesDiffer, same_name, all_named, or_left, ToSkip}
-use Rattle.olr_renewal.proofs.Common.{CoversSearched, AreFound, String, Global, Made, path_ids_of, Dijkstra, Entries}
-use Rattle.olr_renewal.proofs.Common.{First, item_of, items_of, same_flip, in_from, begins_there, changed}
-use Rattle.olr_renewal.proofs.Common.{overlaid_from, first_only}
+use Rattle.olr_renewal.proofs.Common.{take, length, get_or, Option, IsTrue, Covers, or_left, Entries, item_of, in_from, changed}
+use Rattle.olr_renewal.proofs.Common.{all_more, cases_Bool, option_map, AreLengths, ChangeSet, Published, NamedPath, first_only}
+use Rattle.olr_renewal.proofs.Common.{All, append_assoc, All-contains, FindsChanged, QueryTouched, under_changes, overlaid_from}
+use Rattle.olr_renewal.proofs.Common.{inl, inr, ◌≡◌, ◌==◌, ◌||◌, List, ◌++◌, Some, None, refl, Item, items, Path, Made, First}
+use Rattle.olr_renewal.proofs.Common.{◌≢◌, ℕ, ◌+◌, ◌<◌, ◌≤◌, ◌⊎◌, ◌∷◌, sym, ap, ◌∙◌, min, Map, has, Rc}
+use Rattle.olr_renewal.proofs.Common.{false, Includes, has_node, label_at, nodes_of, change_at, same_name, all_named, same_flip}
+use Rattle.olr_renewal.proofs.Common.{[], Against, made_of, lines_of, BeginsIn, PathList, Changes, AreFound, Dijkstra, items_of}
+use Rattle.olr_renewal.proofs.Common.{slice_get, slice_get_within, CoverageQuery, GREATEST_LIMIT, IsSearchedFor, CoversSearched}
+use Rattle.olr_renewal.proofs.Common.{subst, arith, IsMap, holds, Index, Finds, AreFar, Begins, Finder, ToSkip, String, Global}
+use Rattle.olr_renewal.proofs.Common.{nat_tests, LackQueries, RemovesNone, under_change, NamesDiffer, path_ids_of, begins_there}
 use Rattle.std.proofs.Math.Bool.{or-false}
+use Rattle.olr_paths.proofs.NotedPositions.{back, noted_as}
 use Rattle.olr_renewal.proofs.Distances.{near_absent}
 use Rattle.olr_renewal.proofs.SearchedLemmas.{searched_at}
-use Rattle.olr_paths.proofs.NotedPositions.{back, noted_as}
 
 -- ---- lists of numbers
 

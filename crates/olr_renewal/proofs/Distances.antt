@@ -1,8 +1,7 @@
 -- What distances say about touched nodes that are near, and about detours.
-use Rattle.olr_renewal.proofs.Common.{◌≡◌, ℕ, ◌+◌, ◌<◌, ◌≤◌, true, List, [], ◌∷◌, map, IsTrue, ◌↔◌, refl, sym, ap}
-use Rattle.olr_renewal.proofs.Common.{subst, arith, Map, IsMap, has_node, end, has, IsRoute, dm_of, ChangedLine, Near}
-use Rattle.olr_renewal.proofs.Common.{Leads, Along, Against, sources_in, Detour, route_start, has_from, in_from}
-use Rattle.olr_renewal.proofs.Common.{Contains-map, Contains-unmap}
+use Rattle.olr_renewal.proofs.Common.{◌≡◌, ℕ, ◌+◌, ◌<◌, ◌≤◌, true, List, [], ◌∷◌, map, IsTrue, ◌↔◌, refl, sym, ap, subst, arith}
+use Rattle.olr_renewal.proofs.Common.{Map, IsMap, has_node, end, has, IsRoute, dm_of, ChangedLine, Near, Leads, Along, Against}
+use Rattle.olr_renewal.proofs.Common.{sources_in, Detour, route_start, has_from, in_from, Contains-map, Contains-unmap}
 
 -- ---- near nodes
 

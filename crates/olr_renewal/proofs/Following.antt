@@ -1,8 +1,7 @@
 -- A list follows itself, since no name occurs twice.
-use Rattle.olr_renewal.proofs.Common.{if◌then◌else◌, option_map, answer_in, not_named, all_named, named_of, is_some}
-use Rattle.olr_renewal.proofs.Common.{refl, map, without_answer, Follows, Option, Answer, false, List, Made, Item}
-use Rattle.olr_renewal.proofs.Common.{◌∷◌, inr, ◌≡◌, ◌∙◌, inl, ap, [], NamesDiffer, path_named, flipped, made_in}
-use Rattle.olr_renewal.proofs.Common.{Bool}
+use Rattle.olr_renewal.proofs.Common.{if◌then◌else◌, option_map, answer_in, not_named, all_named, named_of, is_some, refl, map}
+use Rattle.olr_renewal.proofs.Common.{without_answer, Follows, Option, Answer, false, List, Made, Item, ◌∷◌, inr, ◌≡◌, ◌∙◌, inl}
+use Rattle.olr_renewal.proofs.Common.{ap, [], NamesDiffer, path_named, flipped, made_in, Bool}
 use lib.Pointwise.{bytes_decides}
 
 abbrev pub answer_made : Option Made → Option Answer

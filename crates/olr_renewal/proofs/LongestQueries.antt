@@ -1,11 +1,10 @@
 -- With a margin a coverage query is at most as long as the farthest one may be.
-use Rattle.olr_renewal.proofs.Common.{CoverageQuery, IsTrue, List, Map, MatchOption, None, Option, Path}
-use Rattle.olr_renewal.proofs.Common.{QueriesOfWith, Some, [], ap, arith, cases_Bool, extended_path, false, inl, inr}
-use Rattle.olr_renewal.proofs.Common.{length, query_from_with, refl, sym, ℕ, ◌+◌, ◌∷◌, ◌<◌, ◌≡◌, ◌≤◌, ◌⊎◌, subst, has}
-use Rattle.olr_renewal.proofs.Common.{Margin, is_margin, and_parts, ◌*◌, ◌==◌, Bool, mul-le-mul_left, Contains}
-use Rattle.olr_renewal.proofs.Common.{if◌then◌else◌, eqb-true, nat_tests, farthest, dm_of-append, path_fault, Refusal}
-use Rattle.olr_renewal.proofs.Common.{has_line, dm, counted, counted_dm, counted_dm_of, QueriesOfExtendedWith}
-use Rattle.olr_renewal.proofs.Common.{query_to_with, IsQueryWith, Needed, dm_of, limit}
+use Rattle.olr_renewal.proofs.Common.{CoverageQuery, IsTrue, List, Map, MatchOption, None, Option, Path, QueriesOfWith, Some}
+use Rattle.olr_renewal.proofs.Common.{[], ap, arith, cases_Bool, extended_path, false, inl, inr, length, query_from_with, refl}
+use Rattle.olr_renewal.proofs.Common.{sym, ℕ, ◌+◌, ◌∷◌, ◌<◌, ◌≡◌, ◌≤◌, ◌⊎◌, subst, has, Margin, is_margin, and_parts, ◌*◌, ◌==◌}
+use Rattle.olr_renewal.proofs.Common.{Bool, mul-le-mul_left, Contains, if◌then◌else◌, eqb-true, nat_tests, farthest}
+use Rattle.olr_renewal.proofs.Common.{dm_of-append, path_fault, Refusal, has_line, dm, counted, counted_dm, counted_dm_of}
+use Rattle.olr_renewal.proofs.Common.{QueriesOfExtendedWith, query_to_with, IsQueryWith, Needed, dm_of, limit}
 use Rattle.olr_spec.proofs.CountedLemmas.{get_counted, counted_zero, counted_other, counted_own}
 use Rattle.olr_spec.proofs.JoinLemmas.{empty_stretch}
 use Rattle.olr_spec.proofs.QueryLemmas.{stretch_parts}

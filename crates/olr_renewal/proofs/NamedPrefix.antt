@@ -1,7 +1,7 @@
 -- The names of the affected paths, as far as a list was passed.
-use Rattle.olr_renewal.proofs.Common.{inl, inr, ◌≡◌, ℕ, ◌+◌, List, [], ◌∷◌, ◌++◌, take, slice_get, Some, refl, sym}
-use Rattle.olr_renewal.proofs.Common.{ap, ◌∙◌, map-append, Map, Margin, IsMap, ChangedLine, Item, IsAffected}
-use Rattle.olr_renewal.proofs.Common.{IsBefore, Picks, ToSkip, ToName, AffectedNames, take_more_at}
+use Rattle.olr_renewal.proofs.Common.{inl, inr, ◌≡◌, ℕ, ◌+◌, List, [], ◌∷◌, ◌++◌, take, slice_get, Some, refl, sym, ap, ◌∙◌}
+use Rattle.olr_renewal.proofs.Common.{map-append, Map, Margin, IsMap, ChangedLine, Item, IsAffected, IsBefore, Picks, ToSkip}
+use Rattle.olr_renewal.proofs.Common.{ToName, AffectedNames, take_more_at, Covers, has, false}
 use Rattle.olr_renewal.proofs.RetainedLemmas.{touched_by, named_affected}
 
 module _ {A : Type 0} (P : A → Type 0) where
@@ -34,3 +34,10 @@ module _ {g : Margin} {N : Map} (n : IsMap N) {T X : List ℕ} {C : List Changed
     picks_taken (IsAffected g N T X) (take p is) h.0 i h.1 (named_affected n q p i at f),
     ap (λ (ns : List (List ℕ)). ns ++ i.name ∷ []) h.2 ∙ sym (map-append (λ (j : Item). j.name) h.0 (i ∷ [])),
   )
+
+-- a path that is no candidate is not named
+pub unnamed : {g : Margin} {N : Map} → IsMap N → {T X : List ℕ} {C : List ChangedLine} {is : List Item} →
+    IsBefore g N N T X C is → (found : List ℕ) → Covers N T X is found → (names : List (List ℕ)) (p : ℕ) (i : Item) →
+    slice_get is p ≡ Some i → has found p ≡ false → AffectedNames g N T X (take p is) names →
+    AffectedNames g N T X (take (p + 1) is) names
+unnamed n q found covers names p i at free = names_left n q p i at names (covers p i at free)

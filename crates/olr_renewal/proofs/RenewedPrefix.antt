@@ -1,18 +1,16 @@
 -- A list, as far as it was renewed: SoFar says it of the first paths, with the count of encodings.
-use Rattle.olr_renewal.proofs.Common.{Answer, ChangedLine, Entry, Follows, IsAffected, IsBefore, IsEncodingOf, IsMap}
-use Rattle.olr_renewal.proofs.Common.{Item, List, Made, Map, Margin, Named, NamedPath, None, Option, Renewal}
-use Rattle.olr_renewal.proofs.Common.{Reported, Some, [], after_renewal, all_named, all_put, answer_in, ap, arith}
-use Rattle.olr_renewal.proofs.Common.{changed_of, entry, entry_of, inl, inr, length, lines_of, map, map-append}
-use Rattle.olr_renewal.proofs.Common.{named_of, nodes_of, option_map, puts_of, refl, slice_get, slice_get_within, sym}
-use Rattle.olr_renewal.proofs.Common.{false, has, take_all, take, ℕ, ◌++◌, ◌+◌, ◌∙◌, ◌∷◌, ◌≡◌, ◌≤◌, ◌⊎◌, Covers}
-use Rattle.olr_renewal.proofs.Common.{CountIs, at_position, IsActionFor, ToSkip, Action, Skip, Retain, Encode}
-use Rattle.olr_renewal.proofs.Common.{ChangeSet, with_made, AreRemade, IsRemade, ReportsIfOther, encodings_of}
-use Rattle.olr_renewal.proofs.Common.{entries_of, IsRenewal, IsStep, WasBefore, made_at, append_assoc, append-nil}
-use Rattle.olr_renewal.proofs.Common.{take_more_at}
+use Rattle.olr_renewal.proofs.Common.{Answer, ChangedLine, Entry, Follows, IsAffected, IsBefore, IsEncodingOf, IsMap, Item}
+use Rattle.olr_renewal.proofs.Common.{List, Made, Map, Margin, Named, NamedPath, None, Option, Renewal, Reported, Some, []}
+use Rattle.olr_renewal.proofs.Common.{after_renewal, all_named, all_put, answer_in, ap, arith, changed_of, entry, entry_of, inl}
+use Rattle.olr_renewal.proofs.Common.{inr, length, lines_of, map, map-append, named_of, nodes_of, option_map, puts_of, refl}
+use Rattle.olr_renewal.proofs.Common.{slice_get, slice_get_within, sym, false, has, take_all, take, ℕ, ◌++◌, ◌+◌, ◌∙◌, ◌∷◌, ◌≡◌}
+use Rattle.olr_renewal.proofs.Common.{◌≤◌, ◌⊎◌, Covers, CountIs, at_position, IsActionFor, ToSkip, Action, Skip, Retain, Encode}
+use Rattle.olr_renewal.proofs.Common.{ChangeSet, with_made, AreRemade, IsRemade, ReportsIfOther, encodings_of, entries_of}
+use Rattle.olr_renewal.proofs.Common.{IsRenewal, IsStep, WasBefore, made_at, append_assoc, append-nil, take_more_at}
 use Rattle.olr_paths.proofs.NotedPositions.{all_put-push, put_behind}
+use Rattle.olr_route.specs.Counts.{no_work, raised_count}
 use Rattle.olr_renewal.proofs.RetainedLemmas.{stays_retained, named_affected, stays_unless, touched_by, affected_by}
 use Rattle.olr_renewal.proofs.Passing.{Walked, walked_all}
-use Rattle.olr_route.specs.Counts.{no_work, raised_count}
 
 AreRemade-push : (g : Margin) (N : Map) (is js : List Item) (i j : Item) → AreRemade g N is js → IsRemade g N i j →
     AreRemade g N (is ++ i ∷ []) (js ++ j ∷ [])
@@ -160,5 +158,4 @@ module _ {g : Margin} {N : Map} (n : IsMap N) (t : ChangeSet) {before is : List 
   -- past the last candidate
   pub all_renewed : ((L : Map) × WasBefore g L N t is) → (k : ℕ) → length found ≤ k → Renewing g N t before is found r k →
       IsRenewal g N t before is (after_renewal r is) r.renewed
-  all_renewed was k end h =
-      whole {t = t} r was (rw (take_all (length is) is (omega arith)) at (walked_all h unaffected end))
+  all_renewed was k end h = whole {t = t} r was (rw (take_all (length is) is (omega arith)) at (walked_all end h))

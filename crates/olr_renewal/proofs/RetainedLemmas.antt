@@ -1,16 +1,14 @@
 -- Results that are right on a map are right on the next one, if no change can affect them.
-use Rattle.olr_renewal.proofs.Common.{AreEncodingsIfAny, AreKnownWith, By_line, By_name, By_node, ChangedLine}
-use Rattle.olr_renewal.proofs.Common.{CoverageQuery, IsAffected, IsBefore, IsEncodingOf, IsMap, IsTrue, Item, List}
-use Rattle.olr_renewal.proofs.Common.{Made, Map, Margin, Option, Path, Some, arith, cases_Bool, false, get_or, has}
-use Rattle.olr_renewal.proofs.Common.{inl, inr, refl, None, is_margin, is_path, min, slice_get, subst, ℕ, All, ◌≡◌}
-use Rattle.olr_renewal.proofs.Common.{◌≤◌, at_position, farthest, AreShort, BeginsIn, ToName, Retains, IsActionFor}
-use Rattle.olr_renewal.proofs.Common.{Action, Skip, Retain, Encode, IsGiven, known_in, Touches, LineTouched}
-use Rattle.olr_renewal.proofs.Common.{QueryTouched, TraversedTouched, known_kept, TraversedOf, IsClear}
-use Rattle.olr_renewal.proofs.Common.{AllByRecursion, Contains, IfSome, true, ◌∷◌, [], Near, GREATEST_LIMIT}
-use Rattle.olr_renewal.proofs.Common.{Contains-get_or}
-use Rattle.olr_renewal.proofs.LongestQueries.{within_farthest, farthest_most}
+use Rattle.olr_renewal.proofs.Common.{AreEncodingsIfAny, AreKnownWith, By_line, By_name, By_node, ChangedLine, CoverageQuery}
+use Rattle.olr_renewal.proofs.Common.{IsAffected, IsBefore, IsEncodingOf, IsMap, IsTrue, Item, List, Made, Map, Margin, Option}
+use Rattle.olr_renewal.proofs.Common.{Path, Some, arith, cases_Bool, false, get_or, has, inl, inr, refl, None, is_margin}
+use Rattle.olr_renewal.proofs.Common.{is_path, min, slice_get, subst, ℕ, All, ◌≡◌, ◌≤◌, at_position, farthest, AreShort}
+use Rattle.olr_renewal.proofs.Common.{BeginsIn, ToName, Retains, IsActionFor, Action, Skip, Retain, Encode, IsGiven, known_in}
+use Rattle.olr_renewal.proofs.Common.{Touches, LineTouched, QueryTouched, TraversedTouched, known_kept, TraversedOf, IsClear}
+use Rattle.olr_renewal.proofs.Common.{AllByRecursion, Contains, IfSome, true, ◌∷◌, [], Near, GREATEST_LIMIT, Contains-get_or}
 use Rattle.olr_spec.proofs.StayLemmas.{untouched_retained_with}
 use Rattle.olr_spec.proofs.TestedLemmas.{foot_affected_with}
+use Rattle.olr_renewal.proofs.LongestQueries.{within_farthest, farthest_most}
 
 -- no coverage query is longer than the greatest limit
 near_wider : {L : Map} {T : List ℕ} {s : ℕ} (d e : ℕ) → d ≤ e → Near L T s d → Near L T s e

@@ -1,8 +1,8 @@
 -- How far the distance bounds let a search go, and of which queries it shows whether they reach a touched node.
-use Rattle.olr_renewal.proofs.Common.{ℕ, ◌≤◌, min, IsTrue, arith, Map, IsMap, has_node, GREATEST_LIMIT, IsUnder}
-use Rattle.olr_renewal.proofs.Common.{Against, IsRight, IsSource, ◌≡◌, List, [], slice_get, Some, label_at, Near}
-use Rattle.olr_renewal.proofs.Common.{CoverageQuery, AreLengths, Item, nodes_of, sources, IsExactAt, IsSearchedFor}
-use Rattle.olr_renewal.proofs.Common.{Begins, BeginsIn, ChangeSet, Dijkstra, begins_there, IsSearch, DistanceBounds}
+use Rattle.olr_renewal.proofs.Common.{ℕ, ◌≤◌, min, IsTrue, arith, Map, IsMap, has_node, GREATEST_LIMIT, IsUnder, Against}
+use Rattle.olr_renewal.proofs.Common.{IsRight, IsSource, ◌≡◌, List, [], slice_get, Some, label_at, Near, CoverageQuery}
+use Rattle.olr_renewal.proofs.Common.{AreLengths, Item, nodes_of, sources, IsExactAt, IsSearchedFor, Begins, BeginsIn}
+use Rattle.olr_renewal.proofs.Common.{ChangeSet, Dijkstra, begins_there, IsSearch, DistanceBounds}
 use Rattle.olr_renewal.proofs.Distances.{near_labelled, near_found}
 
 -- no source is beyond bounds that are right

@@ -6,7 +6,7 @@
 use Rattle.std.specs.Prelude.{◌≡◌, ℕ, ◌+◌, ◌≤◌, ◌||◌, List, [], map, vec_len, vec_capacity, IsTrue, ◌↔◌}
 use Rattle.olr_spec.specs.Map.{Map, has, has_line, start, end}
 use Rattle.olr_spec.specs.Detours.{ChangedLine}
-use Rattle.olr_renewal.specs.declared.change_set.ChangedLine.{ChangedLine as Noted}
+use Rattle.olr_renewal.specs.declared.change_set.ChangedLine.{ChangedLine as Changed}
 use Rattle.olr_renewal.specs.declared.change_set.ChangeSet.{ChangeSet}
 
 abbrev pub nodes_of : ChangeSet → List ℕ
@@ -15,7 +15,7 @@ nodes_of t = t.nodes.items
 abbrev pub lines_of : ChangeSet → List ℕ
 lines_of t = t.lines.items
 
-abbrev pub change_of : Noted → ChangedLine
+abbrev pub change_of : Changed → ChangedLine
 change_of c = record { from = c.from; to = c.to; len = c.len }
 
 abbrev pub changed_of : ChangeSet → List ChangedLine

@@ -1,60 +1,20 @@
 //! Paths that are added or replaced one at a time, and encoded at once.
-ghost use Rattle.std.specs.Prelude.{◌≡◌, [], ◌∷◌, map as list_map, Some, is_some, false, string_bytes, IfOk, OnErr};
+ghost use Rattle.std.specs.Prelude.{◌≡◌, [], ◌∷◌, map as list_map, is_some, false, string_bytes, IfOk, OnErr};
 ghost use Rattle.olr_commands.specs.State.{path_named};
 ghost use Rattle.olr_commands.specs.Reply.{entry};
 ghost use Rattle.olr_commands.specs.Words.{entry_of};
 ghost use Rattle.olr_paths.specs.Items.{items, all_named, made_of};
-ghost use Rattle.olr_renewal.specs.Encoded.{IsEncoded, IsAdded, IsSet, made_in};
+ghost use Rattle.olr_renewal.specs.Encoded.{IsAdded, IsSet};
 
-use crate::encoding::published;
+use crate::encoding::encode;
 use crate::renewal::{Renewed, push_if_changed};
 use olr_commands::Entry;
 use olr_model::MapRead;
 use olr_paths::{NamedPath, PathList, Published};
-use olr_refs::{Margin, Path, encode_again};
+use olr_refs::{Margin, Path};
 use olr_route::{Dijkstra, Work};
 use std::alloc::{AllocError, Global};
 use std::rc::Rc;
-
-/// A path that was encoded from scratch, with what is published of it and the work.
-#[derive(Drop)]
-pub struct Encoded {
-    pub(crate) path: Rc<Path>,
-    pub(crate) published: Rc<Published>,
-    pub(crate) work: Work,
-}
-
-/// Encodes a path from scratch.
-pub fn encode<M: MapRead>(
-    alloc: Global,
-    map: &M,
-    path: Path,
-    margin: Margin,
-    query: &mut Dijkstra,
-) -> Result<Encoded, AllocError>
-    ensures { IfOk result (IsEncoded margin (M.map map.now) path) }
-{
-    let encoding = encode_again(alloc, map, &path, margin, &[], query)?;
-    let (published, work) = published(alloc, encoding)?;
-    let published = Rc::new(alloc, published)?;
-    let path = Rc::new(alloc, path)?;
-    Ok(Encoded {
-        path,
-        published,
-        work,
-    })
-}
-
-/// The path with what is published of it, for a list.
-fn named(encoded: Encoded) -> NamedPath
-    ensures path { result.path ≡ encoded.path }
-    ensures published { result.published ≡ Some encoded.published }
-{
-    NamedPath {
-        path: encoded.path,
-        published: Some(encoded.published),
-    }
-}
 
 /// A list with one entry, that of a path.
 fn only_entry(alloc: Global, name: &str, published: &Published) -> Result<Vec<Entry>, AllocError>
@@ -69,53 +29,66 @@ fn only_entry(alloc: Global, name: &str, published: &Published) -> Result<Vec<En
 fn renewed_alone(
     alloc: Global,
     entries: Vec<Entry>,
-    encoded: &Encoded,
+    published: &Published,
+    work: Work,
 ) -> Result<Renewed, AllocError>
     ensures entries { IfOk result (λ r. r.entries ≡ entries) }
-    ensures work { IfOk result (λ r. r.work ≡ encoded.now.work) }
-    ensures queries { IfOk result (λ r. r.queries.items ≡ (made_in encoded.now).queries) }
+    ensures work { IfOk result (λ r. r.work ≡ work) }
+    ensures queries { IfOk result (λ r. r.queries.items ≡ (made_of published.now).queries) }
 {
-    let queries = Vec::from_slice(alloc, encoded.published.queries())?;
+    let queries = Vec::from_slice(alloc, published.queries())?;
     Ok(Renewed {
         entries,
-        work: encoded.work,
+        work,
         queries,
         wasted_labels: 0,
     })
 }
 
-/// Appends a path that was encoded. Returns the entries of the reply, which names it, the work and its coverage queries. If
-/// an allocation fails, the list is unchanged.
-pub fn add(
+/// Encodes a path from scratch and appends it. Returns the entries of the reply, which names it, the work and its coverage
+/// queries. If an allocation fails, the list is unchanged.
+pub fn add<M: MapRead>(
     list: &mut PathList,
     alloc: Global,
     name: String,
-    encoded: Encoded,
+    path: Path,
+    map: &M,
+    margin: Margin,
+    query: &mut Dijkstra,
 ) -> Result<Renewed, AllocError>
     requires { is_some (path_named (all_named (items list.old)) (string_bytes name)) ≡ false }
-    ensures added { IfOk result (IsAdded (items list.old) (items list.new) (string_bytes name) encoded) }
+    ensures added { IfOk result (IsAdded margin (M.map map.now) (items list.old) (items list.new) (string_bytes name) path) }
     ensures err { OnErr result (items list.new ≡ items list.old) }
 {
-    let entries = only_entry(alloc, name.as_str(), &encoded.published)?;
-    let renewed = renewed_alone(alloc, entries, &encoded)?;
-    list.push(name, named(encoded))?;
+    let (published, work) = encode(alloc, map, &path, margin, &[], query)?;
+    let entries = only_entry(alloc, name.as_str(), &published)?;
+    let renewed = renewed_alone(alloc, entries, &published, work)?;
+    let path = Rc::new(alloc, path)?;
+    let published = Some(published);
+    list.push(name, NamedPath { path, published })?;
     Ok(renewed)
 }
 
-/// Gives a name another path, which was encoded; it keeps its position. Returns the entries of the reply, which has the
+/// Encodes another path for a name from scratch; it keeps its position. Returns the entries of the reply, which has the
 /// name if the answer changed, the work and the path's coverage queries. If an allocation fails, the list is unchanged.
-pub fn set(
+pub fn set<M: MapRead>(
     list: &mut PathList,
     alloc: Global,
     name: &str,
-    encoded: Encoded,
+    path: Path,
+    map: &M,
+    margin: Margin,
+    query: &mut Dijkstra,
 ) -> Result<Renewed, AllocError>
-    ensures set { IfOk result (IsSet (items list.old) (items list.new) name.now encoded) }
+    ensures set { IfOk result (IsSet margin (M.map map.now) (items list.old) (items list.new) name.now path) }
     ensures err { OnErr result (items list.new ≡ items list.old) }
 {
+    let (published, work) = encode(alloc, map, &path, margin, &[], query)?;
     let mut entries = Vec::new(alloc);
-    push_if_changed(alloc, list, name, &encoded.published, &mut entries)?;
-    let renewed = renewed_alone(alloc, entries, &encoded)?;
-    list.replace(name, named(encoded))?;
+    push_if_changed(alloc, list, name, &published, &mut entries)?;
+    let renewed = renewed_alone(alloc, entries, &published, work)?;
+    let path = Rc::new(alloc, path)?;
+    let published = Some(published);
+    list.replace(name, NamedPath { path, published })?;
     Ok(renewed)
 }

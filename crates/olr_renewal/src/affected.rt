@@ -15,7 +15,7 @@ ghost use Rattle.olr_renewal.specs.ChangeSets.{nodes_of, lines_of};
 ghost use Rattle.olr_renewal.specs.AffectedSearches.{sources, IsExactAt};
 ghost use Rattle.olr_renewal.specs.Updates.{CanSearch, Searched, FindsCandidates};
 
-use crate::candidates::{Candidates, positions};
+use crate::candidates::positions;
 use crate::change_set::ChangeSet;
 use crate::distance_bounds::DistanceBounds;
 use crate::sources::begin_at;
@@ -101,23 +101,17 @@ pub(crate) fn find_candidates<M: MapRead>(
     overlaid: OverlaidList<'_>,
     bounds: &DistanceBounds,
     near: &mut Dijkstra,
-) -> Result<Candidates, AllocError>
+) -> Result<Vec<usize>, AllocError>
     requires { CanSearch M.map M.node_slot update.now bounds.now (shown_items overlaid) }
-    ensures { IfOk result (λ c. FindsCandidates M.map M.node_slot update.now near.new (shown_items overlaid.entry)
-        c.positions.items) }
+    ensures { IfOk result (λ found. FindsCandidates M.map M.node_slot update.now near.new (shown_items overlaid.entry)
+        found.items) }
 {
     if overlaid.at(0).is_none() {
-        return Ok(Candidates {
-            positions: Vec::new(update.alloc),
-            labelled: 0,
-        });
+        return Ok(Vec::new(update.alloc));
     }
     search_touched(update, overlaid, bounds, near)?;
     let positions = positions(update, overlaid, near)?;
-    Ok(Candidates {
-        positions,
-        labelled: near.labelled_slots().len(),
-    })
+    Ok(positions)
 }
 
 /// Whether a coverage query reaches a touched node, within its length and the greatest limit.

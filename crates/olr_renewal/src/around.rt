@@ -1,30 +1,11 @@
 //! What edits around some nodes may touch.
 ghost use Rattle.std.specs.Prelude.{◌↔◌, ℕ, IsTrue, IfOk};
-ghost use Rattle.std.specs.List.Sorted.{IsStrictlyIncreasing};
 ghost use Rattle.olr_spec.specs.Map.{has};
 ghost use Rattle.olr_renewal.specs.ChangeSets.{IsLineAround};
 
 use crate::change_set::ChangeSet;
 use olr_model::{LineId, MapRead, NodeId};
 use std::alloc::{AllocError, Global};
-
-/// The nodes in ascending order, each once. Takes no memory.
-fn ascending_nodes(nodes: &mut Vec<NodeId>)
-    ensures ascend { IsStrictlyIncreasing nodes.new.items }
-    ensures same { (v : ℕ) → IsTrue (has nodes.new.items v) ↔ IsTrue (has nodes.old.items v) }
-{
-    nodes.sort_unstable();
-    nodes.dedup();
-}
-
-/// The lines in ascending order, each once. Takes no memory.
-fn ascending_lines(lines: &mut Vec<LineId>)
-    ensures ascend { IsStrictlyIncreasing lines.new.items }
-    ensures same { (x : ℕ) → IsTrue (has lines.new.items x) ↔ IsTrue (has lines.old.items x) }
-{
-    lines.sort_unstable();
-    lines.dedup();
-}
 
 /// The lines that begin or end at one of these nodes. A line may be repeated.
 fn lines_at<M: MapRead>(alloc: Global, map: &M, nodes: &[NodeId]) -> Result<Vec<LineId>, AllocError>
@@ -52,9 +33,11 @@ impl ChangeSet {
         ensures { IfOk result (IsAround (M.map map.now) nodes.now) }
     {
         let mut own = Vec::from_slice(alloc, nodes)?;
-        ascending_nodes(&mut own);
+        own.sort_unstable();
+        own.dedup();
         let mut lines = lines_at(alloc, map, &own)?;
-        ascending_lines(&mut lines);
+        lines.sort_unstable();
+        lines.dedup();
         Ok(ChangeSet {
             nodes: own,
             lines,

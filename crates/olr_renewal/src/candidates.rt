@@ -1,16 +1,13 @@
 //! Which paths the edits may affect: found by what they touched, without a pass over all paths.
-ghost use Rattle.std.specs.Prelude.{◌≡◌, ◌<◌, ◌≤◌, ℕ, [], Some, All, Contains, length, get_or, min, IsTrue, IsFalse};
-ghost use Rattle.std.specs.Prelude.{IfOk, OnOk};
+ghost use Rattle.std.specs.Prelude.{◌≡◌, ◌<◌, ◌≤◌, ℕ, [], Some, All, Contains, length, get_or, IsTrue, IsFalse, IfOk, OnOk};
 ghost use Rattle.std.specs.List.Sorted.{IsStrictlyIncreasing};
 ghost use Rattle.olr_spec.specs.Map.{Map, has, has_node};
-ghost use Rattle.olr_spec.specs.Detours.{Near};
-ghost use Rattle.olr_route.specs.declared.frontier.TheConstants.{GREATEST_LIMIT};
 ghost use Rattle.olr_paths.specs.PathIds.{path_ids_of};
 ghost use Rattle.olr_paths.specs.Items.{items};
 ghost use Rattle.olr_paths.specs.Overlaid.{overlay_changes};
 ghost use Rattle.olr_paths.specs.Origins.{Begins};
 ghost use Rattle.olr_paths.specs.Views.{shown_items};
-ghost use Rattle.olr_renewal.specs.Bounds.{IsEdit, IsRight, IsSource, IsUnderWay};
+ghost use Rattle.olr_renewal.specs.Bounds.{IsEdit, IsRight, IsUnderWay};
 ghost use Rattle.olr_renewal.specs.ChangeSets.{nodes_of, lines_of};
 ghost use Rattle.olr_renewal.specs.AffectedSearches.{AreBoundsOf};
 ghost use Rattle.olr_renewal.specs.Candidates.{Includes, Finds, Covers, CoversSearched, FindsChanged};
@@ -23,15 +20,6 @@ use olr_model::MapRead;
 use olr_paths::{Index, Numbered, OverlaidList, PathList};
 use olr_route::Dijkstra;
 use std::alloc::AllocError;
-
-/// The paths that edits may affect, as a search from the touched nodes found them.
-#[derive(Drop)]
-pub(crate) struct Candidates {
-    /// Their positions in the list, in ascending order.
-    pub positions: Vec<usize>,
-    /// How many nodes the search labelled.
-    pub labelled: usize,
-}
 
 /// The position of the path with this id, by binary search.
 fn position_of(path_ids: &[u64], path_id: u64) -> Option<usize>
@@ -81,25 +69,6 @@ fn put_found<T: Numbered>(
     Ok(())
 }
 
-/// Appends the positions of the paths that have an index entry for the node in a slot.
-fn put_found_in<M: MapRead>(
-    map: &M,
-    path_ids: &[u64],
-    index: &Index,
-    slot: u32,
-    found: &mut Vec<usize>,
-) -> Result<(), AllocError>
-    requires { IsStrictlyIncreasing path_ids.now }
-    ensures grows { OnOk result (Includes found.old.items found.new.items) }
-    ensures put { OnOk result ((v : ℕ) → IsTrue (has_node (M.map map.now) v) → M.node_slot map.now v ≡ slot
-        → Finds path_ids.now index.now v found.new.items) }
-{
-    if let Some(node) = map.node_at(slot) {
-        put_positions(path_ids, index.of(node.number()), found)?;
-    }
-    Ok(())
-}
-
 /// Appends the positions of the paths that have an index entry for a node in one of these slots.
 fn put_found_at<M: MapRead>(
     map: &M,
@@ -117,7 +86,10 @@ fn put_found_at<M: MapRead>(
         return Ok(());
     }
     for slot in slots {
-        put_found_in(map, path_ids, index, *slot, found)?;
+        let Some(node) = map.node_at(*slot) else {
+            continue;
+        };
+        put_positions(path_ids, index.of(node.number()), found)?;
     }
     Ok(())
 }
@@ -235,19 +207,6 @@ fn finds_none<T: Numbered>(index: &Index, items: &[T]) -> bool
             .all(|item| index.of(item.index_number()).is_empty())
 }
 
-/// Whether it is known that no coverage query reaches a touched node, so that the edits leave the bounds right. `map`
-/// is the map before the edits.
-fn are_spared<M: MapRead>(map: &M, touched: &ChangeSet, bounds: &DistanceBounds) -> bool
-    ensures unbounded { IsTrue result → (N : Map) (slot : ℕ → ℕ) (s w : ℕ)
-        → IsEdit (nodes_of touched.now) (M.map map.now) (M.node_slot map.now) N slot → IsRight N slot bounds.now
-        → IsSource bounds.now s w → ¬ Near N (nodes_of touched.now) s (min w GREATEST_LIMIT) }
-    ensures right { IsTrue result → (N : Map) (slot : ℕ → ℕ)
-        → IsEdit (nodes_of touched.now) (M.map map.now) (M.node_slot map.now) N slot
-        → IsUnderWay (M.map map.now) (M.node_slot map.now) [] bounds.now → IsRight N slot bounds.now }
-{
-    bounds.is_settled() && bounds.are_unbounded(map, touched.nodes())
-}
-
 /// Whether it is known without a search that edits affect no path of the list: all were encoded, none has a touched
 /// node or line, and no coverage query reaches a touched node. If so, the edits leave the bounds right. `map` is the
 /// map before the edits.
@@ -265,7 +224,11 @@ pub(crate) fn affects_none<M: MapRead>(
         → IsEdit (nodes_of touched.now) (M.map map.now) (M.node_slot map.now) N slot
         → IsUnderWay (M.map map.now) (M.node_slot map.now) [] bounds.now → IsRight N slot bounds.now }
 {
-    if list.held || !list.finder.indexed || !are_spared(map, touched, bounds) {
+    if list.held
+        || !list.finder.indexed
+        || !bounds.is_settled()
+        || !bounds.are_unbounded(map, touched.nodes())
+    {
         return false;
     }
     finds_none(&list.finder.traversed, touched.nodes())

@@ -71,7 +71,7 @@ impl ChangeSet {
     }
 
     /// Adds two nodes, which may be the same, a line, and how a line was changed. Takes no memory.
-    pub fn note(
+    pub fn add(
         &mut self,
         nodes: (NodeId, NodeId),
         line: Option<LineId>,

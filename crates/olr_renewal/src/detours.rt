@@ -9,7 +9,7 @@ ghost use Rattle.olr_paths.specs.Changes.{StayKnown};
 ghost use Rattle.olr_renewal.specs.AffectedSearches.{AreDetours, most_changed};
 ghost use Rattle.olr_renewal.specs.ChangeSets.{changed_of};
 ghost use Rattle.olr_renewal.specs.Updates.{AreReady, AreReadyIfFew};
-ghost use Rattle.olr_renewal.specs.declared.change_set.ChangeSet.{ChangeSet as Noted};
+ghost use Rattle.olr_renewal.specs.declared.change_set.ChangeSet.{ChangeSet as Touched};
 
 use crate::change_set::ChangeSet;
 use crate::sources::begin_at;
@@ -104,7 +104,7 @@ fn settle_both<M: MapRead>(
 /// True only if no detour over the changed lines, from the node in the slot `from` to the node in the slot `to`, is at
 /// most `within` decimetres long.
 fn are_longer(detours: &Detours, from: u32, to: u32, within: u32) -> bool
-    ensures { IsTrue result → (N : Map) (slot : ℕ → ℕ) (t : Noted) (v w : ℕ) → IsMap N → AreDetours N slot t detours.now
+    ensures { IsTrue result → (N : Map) (slot : ℕ → ℕ) (t : Touched) (v w : ℕ) → IsMap N → AreDetours N slot t detours.now
         → IsTrue (has_node N v) → slot v ≡ from → IsTrue (has_node N w) → slot w ≡ to
         → ¬ Detour N (changed_of t) v w within }
 {

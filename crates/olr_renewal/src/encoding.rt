@@ -1,21 +1,28 @@
 //! What is published of an encoding.
 ghost use Rattle.std.specs.Prelude.{◌≡◌, IfOk};
-ghost use Rattle.olr_spec.specs.Map.{Map};
-ghost use Rattle.olr_spec.specs.Margins.{Margin};
-ghost use Rattle.olr_spec.specs.Extension.{Path};
-ghost use Rattle.olr_refs.specs.Referring.{IsEncoding};
+ghost use Rattle.olr_spec.specs.Queries.{AreKnownWith};
 ghost use Rattle.olr_paths.specs.Items.{IsEncodingOf, made_of};
 
+use olr_answers::KnownQuery;
+use olr_model::MapRead;
 use olr_paths::Published;
-use olr_refs::Encoding;
-use olr_route::Work;
+use olr_refs::{Encoding, Margin, Path, encode_again};
+use olr_route::{Dijkstra, Work};
 use std::alloc::{AllocError, Global};
+use std::rc::Rc;
 
-/// What is published of an encoding, and the work.
-pub(crate) fn published(alloc: Global, encoding: Encoding) -> Result<(Published, Work), AllocError>
-    ensures made { IfOk result (λ r. (g : Margin) (M : Map) (P : Path) → IsEncoding g M P encoding
-        → IsEncodingOf g M P (made_of r.0)) }
-    ensures work { IfOk result (λ r. r.1 ≡ encoding.work) }
+/// Encodes a path, without searches for the coverage queries that are known. Returns what is published, and the work.
+pub(crate) fn encode<M: MapRead>(
+    alloc: Global,
+    map: &M,
+    path: &Path,
+    margin: Margin,
+    known: &[KnownQuery],
+    query: &mut Dijkstra,
+) -> Result<(Rc<Published>, Work), AllocError>
+    requires { AreKnownWith margin (M.map map.now) path.now.lines known.now }
+    ensures made { IfOk result (λ r. IsEncodingOf margin (M.map map.now) path.now (made_of r.0.value)) }
+    ensures counted { IfOk result (λ r. r.1.encodings ≡ 1) }
 {
     let Encoding {
         answer,
@@ -24,8 +31,9 @@ pub(crate) fn published(alloc: Global, encoding: Encoding) -> Result<(Published,
         queries,
         known,
         work,
-    } = encoding;
+    } = encode_again(alloc, map, path, margin, known, query)?;
     drop(own);
     let published = Published::new(alloc, answer, traversed, queries, known)?;
+    let published = Rc::new(alloc, published)?;
     Ok((published, work))
 }

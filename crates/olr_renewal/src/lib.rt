@@ -18,7 +18,7 @@ mod searches;
 mod sources;
 mod update;
 
-pub use add_and_set::{Encoded, add, encode, set};
+pub use add_and_set::{add, set};
 pub use change_set::{ChangeSet, ChangedLine};
 pub use detours::Detours;
 pub use distance_bounds::DistanceBounds;

@@ -1,10 +1,9 @@
 //! The names of the paths that edits would affect.
-ghost use Rattle.std.specs.Prelude.{◌≡◌, ◌∷◌, ◌++◌, ◌⊎◌, [], map as list_map, string_bytes, IfOk, OnOk};
+ghost use Rattle.std.specs.Prelude.{◌≡◌, map as list_map, string_bytes, IfOk};
 ghost use Rattle.olr_paths.specs.Items.{items};
-ghost use Rattle.olr_paths.specs.Views.{shown_items, shown_item};
-ghost use Rattle.olr_paths.specs.Origins.{BeginsIn};
+ghost use Rattle.olr_paths.specs.Views.{shown_items};
 ghost use Rattle.olr_renewal.specs.AffectedSearches.{AreBoundsOf};
-ghost use Rattle.olr_renewal.specs.Updates.{Searched, FindsCandidates, Skips, Names};
+ghost use Rattle.olr_renewal.specs.Updates.{FindsCandidates};
 ghost use Rattle.olr_renewal.specs.Reencoded.{IsUnchanged, AreAffectedNames};
 
 use crate::actions::is_affected;
@@ -12,28 +11,9 @@ use crate::affected::find_candidates;
 use crate::searches::Searches;
 use crate::update::MapUpdate;
 use olr_model::MapRead;
-use olr_paths::{OverlaidList, Overlay, PathList, PathView};
+use olr_paths::{OverlaidList, Overlay, PathList};
 use olr_route::Dijkstra;
 use std::alloc::AllocError;
-
-/// Appends the name of a path, if edits would affect it.
-fn push_if_affected<M: MapRead>(
-    update: &MapUpdate<'_, M>,
-    near: &Dijkstra,
-    shown: PathView<'_>,
-    names: &mut Vec<String>,
-) -> Result<(), AllocError>
-    requires { Searched M.map M.node_slot update.now near.now (BeginsIn (shown_item shown).made) }
-    ensures { OnOk result ((Skips M.map update.now (shown_item shown.entry)
-        × (list_map string_bytes names.new.items ≡ list_map string_bytes names.old.items))
-        ⊎ (Names M.map update.now (shown_item shown.entry) × (list_map string_bytes names.new.items
-        ≡ list_map string_bytes names.old.items ++ (shown_item shown.entry).name ∷ []))) }
-{
-    if is_affected(update, near, shown) {
-        names.push(String::from_str(update.alloc, shown.name)?)?;
-    }
-    Ok(())
-}
 
 /// The names of the paths that edits would affect, after the search from what they touch.
 fn names_by<M: MapRead>(
@@ -52,7 +32,10 @@ fn names_by<M: MapRead>(
         let Some(shown) = overlaid.at(*position) else {
             continue;
         };
-        push_if_affected(update, near, shown, &mut names)?;
+        if !is_affected(update, near, shown) {
+            continue;
+        }
+        names.push(String::from_str(update.alloc, shown.name)?)?;
     }
     Ok(names)
 }
@@ -79,5 +62,5 @@ pub fn affected_names<M: MapRead>(
     };
     let near = &mut searches.near;
     let found = find_candidates(update, overlaid, &searches.bounds, near)?;
-    names_by(update, overlaid, near, &found.positions)
+    names_by(update, overlaid, near, &found)
 }

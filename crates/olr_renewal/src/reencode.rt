@@ -153,27 +153,11 @@ pub fn renew_over<M: MapRead>(
     ensures bounds { searches.new.bounds ≡ searches.old.bounds }
 {
     let NewResults { renewal, copy } = renewal_over(list, update, overlay, searches)?;
-    if let Some(copy) = copy {
-        return replace(list, update, copy, renewal);
-    }
-    let renewed = put_results(list, update, overlay, renewal)?;
-    list.index(update.alloc);
-    Ok(renewed)
-}
-
-/// Replaces the list by its copy under changes, of which this is the renewal, and adds the index entries of its paths.
-fn replace<M: MapRead>(
-    list: &mut PathList,
-    update: &MapUpdate<'_, M>,
-    mut copy: PathList,
-    renewal: Renewal,
-) -> Result<Renewed, AllocError>
-    requires names { NamesDiffer (all_named (items copy)) }
-    requires reported { (before : List Item) × Reported before
-        (after_renewal renewal (to_renew_by update.now (items copy))) (entries_of renewal.renewed) }
-    ensures put { IfOk result (λ r. IsPutIn update.now (items copy) renewal (items list.new) r) }
-    ensures err { OnErr result (items list.new ≡ items list.old) }
-{
+    let Some(mut copy) = copy else {
+        let renewed = put_results(list, update, overlay, renewal)?;
+        list.index(update.alloc);
+        return Ok(renewed);
+    };
     let none = Overlay::new(update.alloc);
     let renewed = put_results(&mut copy, update, &none, renewal)?;
     drop(none);

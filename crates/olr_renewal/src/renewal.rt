@@ -9,21 +9,20 @@ ghost use Rattle.olr_renewal.specs.Changes.{Follows};
 ghost use Rattle.olr_renewal.specs.Reencoded.{after_renewal, ReportsIfOther, IsStep, IsGiven, WasBefore};
 ghost use Rattle.olr_renewal.specs.Reencoded.{IsRenewal, IsRenewable, CanRenewOver, IsRenewed};
 ghost use Rattle.olr_renewal.specs.Updates.{AreReadyIfFew, FindsCandidates};
-ghost use Rattle.olr_renewal.specs.declared.change_set.ChangeSet.{ChangeSet as Noted};
+ghost use Rattle.olr_renewal.specs.declared.change_set.ChangeSet.{ChangeSet as Touched};
 
 use crate::actions::{Action, decide};
 use crate::affected::find_candidates;
 use crate::detours::{Detours, begin_detours};
-use crate::encoding::published;
+use crate::encoding::encode;
 use crate::searches::Searches;
 use crate::update::MapUpdate;
 use olr_commands::Entry;
 use olr_model::MapRead;
 use olr_paths::{NamedPath, OverlaidList, PathList, PathView, Published};
-use olr_refs::{CoverageQuery, encode_again};
+use olr_refs::CoverageQuery;
 use olr_route::{Dijkstra, Work};
 use std::alloc::{AllocError, Global};
-use std::rc::Rc;
 
 /// Whether a name had the same answer in an earlier list.
 fn is_same_as_before(before: &PathList, name: &str, published: &Published) -> bool
@@ -117,15 +116,12 @@ impl Renewal {
             Action::Retain => {
                 self.renewed.work = self.renewed.work.plus(Work {
                     encodings: 1,
-                    searches: 0,
-                    settled: 0,
+                    ..Work::none()
                 });
             }
             Action::Encode(known) => {
                 let (alloc, map, margin) = (update.alloc, update.map, update.margin);
-                let encoding = encode_again(alloc, map, shown.path, margin, &known, query)?;
-                let (made, work) = published(alloc, encoding)?;
-                let published = Rc::new(alloc, made)?;
+                let (published, work) = encode(alloc, map, shown.path, margin, &known, query)?;
                 let entries = &mut self.renewed.entries;
                 push_if_changed(alloc, before, shown.name, &published, entries)?;
                 let named = NamedPath {
@@ -176,7 +172,7 @@ fn renewal_of_all<M: MapRead>(
     overlaid: OverlaidList<'_>,
     query: &mut Dijkstra,
 ) -> Result<Renewal, AllocError>
-    ensures { IfOk result (λ r. (L : Map) (t : Noted)
+    ensures { IfOk result (λ r. (L : Map) (t : Touched)
         → WasBefore update.now.margin L (M.map update.now.map.now) t (to_renew true (shown_items overlaid.entry))
         → IsRenewal update.now.margin (M.map update.now.map.now) t (items overlaid.entry.before.now)
         (to_renew true (shown_items overlaid.entry)) (after_renewal r (to_renew true (shown_items overlaid.entry))) r.renewed) }
@@ -206,17 +202,17 @@ fn renewal_of_some<M: MapRead>(
     ensures bounds { searches.new.bounds ≡ searches.old.bounds }
 {
     let found = find_candidates(update, overlaid, &searches.bounds, &mut searches.near)?;
-    begin_detours(update, &found.positions, &mut searches.detours)?;
+    begin_detours(update, &found, &mut searches.detours)?;
     let mut renewal = renewal_by(
         update,
         overlaid,
-        &found.positions,
+        &found,
         &searches.near,
         &mut searches.detours,
         &mut searches.query,
     )?;
-    if renewal.renewed.work.encodings == 0 {
-        renewal.renewed.wasted_labels = found.labelled;
+    if overlaid.len() > 0 && renewal.renewed.work.encodings == 0 {
+        renewal.renewed.wasted_labels = searches.near.labelled_slots().len();
     }
     Ok(renewal)
 }

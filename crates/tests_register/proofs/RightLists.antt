@@ -13,9 +13,9 @@ use Rattle.olr_renewal.specs.AffectedSearches.{AreBoundsOf}
 use Rattle.olr_renewal.specs.Changes.{IsBefore, AreRemade}
 use Rattle.olr_renewal.specs.ChangeSets.{nodes_of, lines_of, changed_of}
 use Rattle.olr_renewal.specs.declared.change_set.ChangeSet.{ChangeSet}
-use Rattle.olr_register.specs.EditNotes.{IsNotedOf}
+use Rattle.olr_register.specs.JudgedEdits.{IsTouchedBy}
 use Rattle.olr_register.proofs.Listed.{names_add, names_drop, each_add, each_left, each_if_any}
-use Rattle.olr_register.proofs.Noted.{noted_edit, is_before}
+use Rattle.olr_register.proofs.Touched.{touched_edit, is_before}
 use Rattle.olr_register.proofs.Renewed.{remade_made, made_if_any}
 use Rattle.tests_register.specs.Lists.{IsRight}
 
@@ -58,10 +58,10 @@ right_renewed M N is js h remade names =
 
 -- what a renewal after an edit requires
 pub right_before : (M N : Map) (e : Edit) (t : ChangeSet) (is : List Item) → IsMap M → edited M e ≡ Ok N →
-    IsNotedOf M e t → IsRight M is → IsBefore no_margin M N (nodes_of t) (lines_of t) (changed_of t) is
+    IsTouchedBy M e t → IsRight M is → IsBefore no_margin M N (nodes_of t) (lines_of t) (changed_of t) is
 right_before M N e t is sound ok noted h =
     is_before no_margin refl M N (nodes_of t) (lines_of t) (changed_of t) is
-    (noted_edit M N e (nodes_of t) (lines_of t) (changed_of t) ok noted.nodes noted.lines noted.changed) sound h.paths
+    (touched_edit M N e (nodes_of t) (lines_of t) (changed_of t) ok noted.nodes noted.lines noted.changed) sound h.paths
     h.made
 
 -- unknown bounds say nothing

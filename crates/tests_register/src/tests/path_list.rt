@@ -14,7 +14,7 @@ use std::process::Abort;
 fn note(rt: &impl Abort, touched: &mut ChangeSet, from: u32, to: u32, number: Option<u32>) {
     let room = touched.reserve();
     assert!(rt; room.is_ok());
-    touched.note((node(from), node(to)), number.map(line), None);
+    touched.add((node(from), node(to)), number.map(line), None);
 }
 
 #[test]
@@ -69,7 +69,7 @@ fn renew(rt: &impl Abort, alloc: Global, list: &mut PathList, map: &mut RoadMap,
     let mut touched = ChangeSet::new(alloc);
     let room = touched.reserve();
     assert!(rt; room.is_ok());
-    touched.note(plan.nodes, plan.line, line_changed(&plan));
+    touched.add(plan.nodes, plan.line, line_changed(&plan));
     let undo = map.make(edit, &plan).expect(rt, "memory");
     map.keep(undo);
     let mut searches = Searches::new(alloc);

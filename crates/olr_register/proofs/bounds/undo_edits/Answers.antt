@@ -16,7 +16,7 @@ returns c = record {
       let new = c.undo_all.new.self in
       let T = nodes_of c.args.touched.now in
       let alike : SameBut T (map_of new) (map_of old) =
-      subst (λ (M : Map). SameBut T M (map_of old)) (sym c.undo_all.ensures.map) c.requires.noted.difference.nodes in
+      subst (λ (M : Map). SameBut T M (map_of old)) (sym c.undo_all.ensures.map) c.requires.edits.difference.nodes in
       let none : dropped_nodes c.args.log ≡ 0 = grind arith in
       let undone = bounds_undone old new (c.undo_all.ensures.slots none) T alike h in
       record {

@@ -17,7 +17,7 @@ returns-in-Some c =
     let done = c.in_ok-make_kept.ensures.done in
     let can = c.requires.renewable (map_of new) done in
     let edit =
-    is_edit old new c.make_kept.ensures.slots (edit_of c.args.noted.edit) done (nodes_of c.args.noted.touched.now)
+    is_edit old new c.make_kept.ensures.slots (edit_of c.args.judged.edit) done (nodes_of c.args.judged.touched.now)
     can.before.difference.nodes in
     let right : AreBoundsOf (map_of new) (slot_of new) c.args.searches.now.bounds (items c.args.paths.now) = record {
       right = c.in-Some.ensures.right refl (map_of new) (slot_of new) edit c.requires.bounded.under_way;
@@ -43,7 +43,7 @@ renew-renewed-requires c =
     rw (c.new-none.ensures (items c.args.paths.now)) (record {
       renewable = (map_of old, can);
       bounded = bounds_edited old new slots
-          (is_edit old new slots (edit_of c.args.noted.edit) done (nodes_of c.args.noted.touched.now) can.before.difference.nodes)
+          (is_edit old new slots (edit_of c.args.judged.edit) done (nodes_of c.args.judged.touched.now) can.before.difference.nodes)
           c.requires.bounded;
     })
 

@@ -1,7 +1,5 @@
-use Rattle.olr_renewal.proofs.Common.{lines_of}
-use Rattle.olr_renewal.proofs.Common.{nodes_of}
-use Rattle.olr_renewal.proofs.Common.{inl, inr, sym, ◌∙◌, ap, option_map, made_of, true≢false, subst, Option, Made}
-use Rattle.olr_renewal.proofs.Common.{BeginsIn, IsSearchedFor}
+use Rattle.olr_renewal.proofs.Common.{inl, inr, sym, ◌∙◌, ap, option_map, made_of, true≢false, subst, Option, Made, BeginsIn}
+use Rattle.olr_renewal.proofs.Common.{IsSearchedFor}
 use Rattle.olr_renewal.proofs.Touching.{untouched, touched_itself}
 use Rattle.olr_renewal.proofs.actions.decide.Goals as goal
 
@@ -13,26 +11,25 @@ is_query_touched-requires g c =
 
 pub returns-then-is_path_touched-clause-action : goal.returns-then-is_path_touched-clause-action
 returns-then-is_path_touched-clause-action g c =
+    let m : Made = made_of c.in-Some.published.now in
     let some = ap (option_map (λ p. made_of p.now)) c.in-Some.is in (
       inr (
-        made_of c.in-Some.published.now,
+        m,
         some,
-        touched_itself (g.M.MapRead.map c.args.update.now.map.now) (nodes_of c.args.update.now.touched.now) (lines_of c.args.update.now.touched.now)
-            (made_of c.in-Some.published.now) c.args.shown.path.now.value
+        touched_itself _ m c.args.shown.path.now.value
             ((rw c.deref.ensures at c.is_path_touched.ensures).0 c.if-is_path_touched.true),
       ),
       rw (some, ← c.known.ensures) c.in_ok-known.ensures.clear,
     )
 
 pub returns-then-not-is_query_touched-clause-action : goal.returns-then-not-is_query_touched-clause-action
-returns-then-not-is_query_touched-clause-action g c = (
-  made_of c.in-Some.published.now,
-  ap (option_map (λ p. made_of p.now)) c.in-Some.is,
-  untouched (g.M.MapRead.map c.args.update.now.map.now) (nodes_of c.args.update.now.touched.now) (lines_of c.args.update.now.touched.now)
-      (made_of c.in-Some.published.now) c.args.shown.path.now.value
-      (rw c.deref.ensures at c.is_path_touched.ensures) (rw c.queries.ensures at c.is_query_touched.ensures)
-      c.if-is_path_touched.false c.if-not-is_query_touched.true,
-)
+returns-then-not-is_query_touched-clause-action g c =
+    let m : Made = made_of c.in-Some.published.now in (
+      m,
+      ap (option_map (λ p. made_of p.now)) c.in-Some.is,
+      untouched _ m c.args.shown.path.now.value (rw c.deref.ensures at c.is_path_touched.ensures)
+          (rw c.queries.ensures at c.is_query_touched.ensures) c.if-is_path_touched.false c.if-not-is_query_touched.true,
+    )
 
 pub returns-then-branch-clause-action : goal.returns-then-branch-clause-action
 returns-then-branch-clause-action g c =
@@ -50,11 +47,8 @@ returns-then-branch-clause-action g c =
 
 pub returns-clause-action : goal.returns-clause-action
 returns-clause-action g c =
+    let m : Made = made_of c.in-Some.published.now in
     let some = ap (option_map (λ p. made_of p.now)) c.in-Some.is in (
-      inr (
-        made_of c.in-Some.published.now,
-        some,
-        inr (inr ((rw c.queries.ensures at c.is_query_touched.ensures).0 c.if-not-is_query_touched.false)),
-      ),
+      inr (m, some, inr (inr ((rw c.queries.ensures at c.is_query_touched.ensures).0 c.if-not-is_query_touched.false))),
       rw (some, ← c.known-2.ensures) c.in_ok-known-2.ensures.clear,
     )

@@ -1,5 +1,3 @@
-use Rattle.olr_renewal.proofs.Common.{lines_of}
-use Rattle.olr_renewal.proofs.Common.{nodes_of}
 use Rattle.olr_renewal.proofs.Common.{inr, ap, option_map, made_of, subst, Option, Made, BeginsIn, IsSearchedFor}
 use Rattle.olr_renewal.proofs.Touching.{untouched}
 use Rattle.olr_renewal.proofs.actions.is_affected.Goals as goal
@@ -14,10 +12,8 @@ pub returns-else-is_path_touched-clause-stays : goal.returns-else-is_path_touche
 returns-else-is_path_touched-clause-stays g c = λ off. (
   made_of c.in-Some.published.now,
   ap (option_map (λ p. made_of p.now)) c.in-Some.is,
-  untouched (g.M.MapRead.map c.args.update.now.map.now) (nodes_of c.args.update.now.touched.now) (lines_of c.args.update.now.touched.now)
-      (made_of c.in-Some.published.now) c.args.shown.path.now.value
-      (rw c.deref.ensures at c.is_path_touched.ensures) (rw c.queries.ensures at c.is_query_touched.ensures)
-      c.if-is_path_touched.false off,
+  untouched _ (made_of c.in-Some.published.now) c.args.shown.path.now.value (rw c.deref.ensures at c.is_path_touched.ensures)
+      (rw c.queries.ensures at c.is_query_touched.ensures) c.if-is_path_touched.false off,
 )
 
 pub returns-else-is_path_touched-clause-affected : goal.returns-else-is_path_touched-clause-affected

@@ -1,12 +1,14 @@
-use Rattle.olr_renewal.proofs.Common.{begins_add}
+use Rattle.olr_renewal.proofs.Common.{made_of, begins_add}
 use Rattle.olr_renewal.proofs.add_and_set.add.Goals as goal
 
 pub returns-clause-added : goal.returns-clause-added
-returns-clause-added c =
-    let put = rw (c.named.ensures.path, c.named.ensures.published) at c.in_ok-push.ensures.ok in
+returns-clause-added g c =
+    let put = rw c.in_ok-path.ensures.ok at c.in_ok-push.ensures.ok in
     record {
+      made = made_of c.in_ok-published.published.value;
+      right = c.in_ok-published.ensures.made;
       list = put;
       entries = rw (c.in_ok-renewed.ensures.entries, ← c.as_str.ensures.value, ← c.deref.ensures) c.in_ok-entries.ensures;
-      work = c.in_ok-renewed.ensures.work;
-      queries = λ l b. rw c.in_ok-renewed.ensures.queries (begins_add _ _ l (rw put at b));
+      counted = rw c.in_ok-renewed.ensures.work c.in_ok-published.ensures.counted;
+      queries = λ l b. rw (c.in_ok-renewed.ensures.queries, c.deref-2.ensures) (begins_add _ _ l (rw put at b));
     }

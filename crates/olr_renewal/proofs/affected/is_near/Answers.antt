@@ -1,5 +1,5 @@
-use Rattle.olr_renewal.proofs.Common.{min, ap, arith, subst, IsTrue, ◌↔◌, GREATEST_LIMIT, label_at, nodes_of}
-use Rattle.olr_renewal.proofs.Common.{CoverageQuery, Near}
+use Rattle.olr_renewal.proofs.Common.{min, ap, arith, subst, IsTrue, ◌↔◌, GREATEST_LIMIT, label_at, nodes_of, CoverageQuery}
+use Rattle.olr_renewal.proofs.Common.{Near}
 use Rattle.olr_renewal.proofs.Distances.{near_absent}
 use Rattle.olr_renewal.proofs.affected.is_near.Goals as goal
 

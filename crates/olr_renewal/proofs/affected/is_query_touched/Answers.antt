@@ -1,6 +1,5 @@
-use Rattle.olr_renewal.proofs.Common.{Map, All, Contains, sym, subst, ◌∙◌, ◌≡◌, arith, min, true≢false, false≢true}
-use Rattle.olr_renewal.proofs.Common.{ChangeSet, take_all, All-contains, GREATEST_LIMIT, Near, CoverageQuery}
-use Rattle.olr_renewal.proofs.Common.{nodes_of, all_more}
+use Rattle.olr_renewal.proofs.Common.{Map, All, Contains, sym, subst, ◌∙◌, ◌≡◌, arith, min, true≢false, false≢true, ChangeSet}
+use Rattle.olr_renewal.proofs.Common.{take_all, All-contains, GREATEST_LIMIT, Near, CoverageQuery, nodes_of, all_more}
 use Rattle.olr_renewal.proofs.SearchedLemmas.{searched_less}
 use Rattle.olr_renewal.proofs.affected.is_query_touched.Goals as goal
 

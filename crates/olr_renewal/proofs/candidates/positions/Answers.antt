@@ -1,5 +1,5 @@
-use Rattle.olr_renewal.proofs.Common.{◌≡◌, ◌∙◌, sym, length, arith, length-map, items, overlay_changes, shown_items}
-use Rattle.olr_renewal.proofs.Common.{nodes_of, lines_of, item_of, dedup_is}
+use Rattle.olr_renewal.proofs.Common.{◌≡◌, ◌∙◌, sym, length, arith, length-map, items, overlay_changes, shown_items, nodes_of}
+use Rattle.olr_renewal.proofs.Common.{lines_of, item_of, dedup_is}
 use Rattle.olr_renewal.proofs.AroundLemmas.{once_ascends, once_has}
 use Rattle.olr_renewal.proofs.Covering.{covers_more, covers_overlaid, covers_grown, changed_grown}
 use Rattle.olr_renewal.proofs.candidates.positions.Goals as goal

@@ -1,5 +1,5 @@
-use Rattle.olr_renewal.proofs.Common.{◌≡◌, ◌∙◌, ℕ, List, false, sym, subst, has, same_name, Includes, first_at}
-use Rattle.olr_renewal.proofs.Common.{named_there, names_differ, same_flip, not_there, change_left}
+use Rattle.olr_renewal.proofs.Common.{◌≡◌, ◌∙◌, ℕ, List, false, sym, subst, has, same_name, Includes, first_at, named_there}
+use Rattle.olr_renewal.proofs.Common.{names_differ, same_flip, not_there, change_left}
 use Rattle.olr_renewal.proofs.Covering.{pushed_includes, others_apart, unfound}
 use Rattle.olr_renewal.proofs.candidates.put_changed.Goals as goal
 

@@ -1,5 +1,4 @@
-use Rattle.olr_renewal.proofs.Common.{◌≡◌, ℕ, Item, Some, None, false, slice_get, has, items, changes_in, change_at}
-use Rattle.olr_renewal.proofs.Common.{Includes}
+use Rattle.olr_renewal.proofs.Common.{◌≡◌, ℕ, Item, Some, None, false, slice_get, has, items, changes_in, change_at, Includes}
 use Rattle.olr_renewal.proofs.candidates.put_changed.Given as goal
 
 -- a path whose position isn't found has no change, if none of those that are left is its change

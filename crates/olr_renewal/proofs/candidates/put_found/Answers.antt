@@ -1,5 +1,4 @@
-use Rattle.std.proofs.lemmas.Grind.{elements}
-use Rattle.olr_renewal.proofs.Common.{◌≡◌, ◌∙◌, ap, length, arith, nat_tests, take_all}
+use Rattle.olr_renewal.proofs.Common.{elements, ◌≡◌, ◌∙◌, ap, length, arith, nat_tests, take_all}
 use Rattle.olr_renewal.proofs.Covering.{all_none, put_none}
 use Rattle.olr_renewal.proofs.candidates.put_found.Goals as goal
 

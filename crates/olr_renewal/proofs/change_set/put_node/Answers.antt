@@ -1,5 +1,4 @@
-use Rattle.olr_renewal.proofs.Common.{arith}
-use Rattle.olr_spec.proofs.AscendingLists.{put_ascends, put_has, stays_has}
+use Rattle.olr_renewal.proofs.Common.{arith, put_ascends, put_has, stays_has}
 use Rattle.olr_renewal.proofs.change_set.put_node.Goals as goal
 
 pub returns-in-Err-clause-ascend : goal.returns-in-Err-clause-ascend

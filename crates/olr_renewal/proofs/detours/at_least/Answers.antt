@@ -1,5 +1,4 @@
-use Rattle.olr_renewal.proofs.Common.{inl, inr, ◌≡◌, ℕ, Option, Some, None, arith, cases_lt, sym, ◌∙◌, label_at}
-use Rattle.olr_renewal.proofs.Common.{is_distance}
+use Rattle.olr_renewal.proofs.Common.{inl, inr, ◌≡◌, ℕ, Option, Some, None, arith, cases_lt, sym, ◌∙◌, label_at, is_distance}
 use Rattle.olr_renewal.proofs.detours.at_least.Goals as goal
 
 pub returns-in-Some : goal.returns-in-Some

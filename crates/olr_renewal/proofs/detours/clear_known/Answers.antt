@@ -1,6 +1,5 @@
-use Rattle.olr_renewal.proofs.Common.{◌≡◌, List, ◌∷◌, [], ◌++◌, ap, sym, subst, ◌∙◌, Global, KnownQuery}
-use Rattle.olr_renewal.proofs.Common.{CoverageQuery, Vec, changed_of, All-nil, All-push, known_stays, IsClear}
-use Rattle.olr_renewal.proofs.Common.{IsKnownWith}
+use Rattle.olr_renewal.proofs.Common.{◌≡◌, List, ◌∷◌, [], ◌++◌, ap, sym, subst, ◌∙◌, Global, KnownQuery, CoverageQuery, Vec}
+use Rattle.olr_renewal.proofs.Common.{changed_of, All-nil, All-push, known_stays, IsClear, IsKnownWith}
 use Rattle.olr_renewal.proofs.detours.clear_known.Goals.{then-branch+in_ok-push, else-branch}
 use Rattle.olr_renewal.proofs.detours.clear_known.Goals as goal
 

@@ -1,7 +1,6 @@
-use Rattle.olr_renewal.proofs.Common.{◌≤◌, ◌+◌, ◌-◌, ℕ, [], ◌∷◌, get_or, inl, inr, refl, sym, ap, ◌∙◌, subst, arith}
-use Rattle.olr_renewal.proofs.Common.{end, Along, GREATEST_LIMIT, below_more, label_of, IsQueued, moves_then}
-use Rattle.olr_renewal.proofs.Common.{put_cases, put_le, put_moves, IsLed}
-use Rattle.olr_route.proofs.WayLemmas.{no_end, end_is, has_end, far_node}
+use Rattle.olr_renewal.proofs.Common.{◌≤◌, ◌+◌, ◌-◌, ℕ, [], ◌∷◌, get_or, inl, inr, refl, sym, ap, ◌∙◌, subst, arith, end, Along}
+use Rattle.olr_renewal.proofs.Common.{GREATEST_LIMIT, below_more, label_of, IsQueued, moves_then, put_cases, put_le, put_moves}
+use Rattle.olr_renewal.proofs.Common.{IsLed, no_end, end_is, has_end, far_node}
 use Rattle.olr_renewal.proofs.BoundLemmas.{node_there, moves_none}
 use Rattle.olr_renewal.proofs.distance_bounds.follow.Goals.{then-end-room+in_ok-relax, else-end-room}
 use Rattle.olr_renewal.proofs.distance_bounds.follow.Goals as goal

@@ -1,6 +1,4 @@
-use Rattle.olr_renewal.proofs.Common.{◌≡◌, ◌<◌, ◌≤◌, ◌+◌, ℕ, Option, IsTrue, get_or, has_node, Moves, label_of}
-use Rattle.olr_renewal.proofs.Common.{AreLed}
-use Rattle.olr_route.proofs.WayLemmas.{no_end}
+use Rattle.olr_renewal.proofs.Common.{◌≡◌, ◌<◌, ◌≤◌, ◌+◌, ℕ, Option, IsTrue, get_or, has_node, Moves, label_of, AreLed, no_end}
 use Rattle.olr_renewal.proofs.distance_bounds.follow.Given as goal
 
 abbrev pub invariant-loop-end : goal.invariant-loop-end

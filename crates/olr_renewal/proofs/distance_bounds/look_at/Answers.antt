@@ -1,5 +1,5 @@
-use Rattle.olr_renewal.proofs.Common.{ℕ, [], Option, inl, inr, refl, sym, ap, ◌∙◌, arith, on_ok_weaker, Moves}
-use Rattle.olr_renewal.proofs.Common.{label_of, moves_then, put_cases, put_moves, AreLed, nat_eq}
+use Rattle.olr_renewal.proofs.Common.{ℕ, [], Option, inl, inr, refl, sym, ap, ◌∙◌, arith, on_ok_weaker, Moves, label_of}
+use Rattle.olr_renewal.proofs.Common.{moves_then, put_cases, put_moves, AreLed, nat_eq}
 use Rattle.std.specs.HashMap.{get}
 use Rattle.olr_renewal.proofs.BoundLemmas.{moves_none, led_then}
 use Rattle.olr_renewal.proofs.distance_bounds.look_at.Goals.{in-Some-get+in_ok-relax, in_default-get}

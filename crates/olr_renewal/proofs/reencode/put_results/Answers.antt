@@ -1,8 +1,7 @@
-use Rattle.olr_renewal.proofs.Common.{overlay_changes, after_renewal, AreEncoded, RemovesNone, items, Reported}
-use Rattle.olr_renewal.proofs.Common.{Renewal, all_put, puts_of, Begins, Entry, subst, refl, List, ◌++◌, Item, ◌∷◌}
-use Rattle.olr_renewal.proofs.Common.{inr, sym, ◌≡◌, ◌∙◌, inl, [], to_renew, false, made_at, Bool, true}
-use Rattle.olr_renewal.proofs.Common.{put_on_overlaid, put_on_without, grown_differ, begins_all_put, under_overlay}
-use Rattle.olr_renewal.proofs.Common.{entries_of, Put}
+use Rattle.olr_renewal.proofs.Common.{overlay_changes, after_renewal, AreEncoded, RemovesNone, items, Reported, Renewal}
+use Rattle.olr_renewal.proofs.Common.{all_put, puts_of, Begins, Entry, subst, refl, List, ◌++◌, Item, ◌∷◌, inr, sym, ◌≡◌, ◌∙◌}
+use Rattle.olr_renewal.proofs.Common.{inl, [], to_renew, false, made_at, Bool, true, put_on_overlaid, put_on_without}
+use Rattle.olr_renewal.proofs.Common.{grown_differ, begins_all_put, under_overlay, entries_of, Put}
 use Rattle.olr_paths.specs.declared.overlay.Overlay.{Overlay}
 use Rattle.olr_renewal.proofs.reencode.put_results.Goals as goal
 

@@ -1,5 +1,4 @@
-use Rattle.olr_renewal.proofs.Common.{shown_item}
-use Rattle.olr_renewal.proofs.Common.{get_or, arith, ℕ}
+use Rattle.olr_renewal.proofs.Common.{shown_item, get_or, arith, ℕ}
 use Rattle.olr_renewal.proofs.RetainedLemmas.{given_known}
 use Rattle.olr_renewal.proofs.SearchedLemmas.{searched_at}
 use Rattle.olr_renewal.proofs.Passing.{walked_none, walked_past, walked_one, walked_to}
@@ -19,29 +18,30 @@ advance-requires g c = given_known (g.met.M.MapRead.sound c.args.update.now.map.
 
 pub loop-position-init : goal.loop-position-init
 loop-position-init g c = (
-  walked_none (so_far_none _ c.none-renewal.ensures.fresh c.none-renewal.ensures.entries c.none-renewal.ensures.work),
+  walked_none c.requires.candidates.ascending (unaffected (g.met.M.MapRead.sound c.args.update.now.map.now)
+      c.args.update.now.touched.now _ c.requires.follows c.requires.candidates.covers c.none-renewal.result)
+      (so_far_none _ c.none-renewal.ensures.fresh c.none-renewal.ensures.entries c.none-renewal.ensures.work),
   c.requires.detours,
 )
 
 pub loop-position-preserved-in_default : goal.loop-position-preserved-in_default
 loop-position-preserved-in_default g c = (
-  walked_past c.loop-position.invariant.0 c.requires.candidates.ascending c.loop-position-test.true
+  walked_past c.requires.candidates.ascending c.loop-position-test.true c.loop-position.invariant.0
       c.in_default.ensures.shown,
   c.loop-position.invariant.1,
 )
 
 pub loop-position-preserved : goal.loop-position-preserved
 loop-position-preserved g c =
-    let h = c.loop-position.invariant.0 in
     let up = c.requires.candidates.ascending in
     let lt = c.loop-position-test.true in
     let at = c.in-Some.ensures.shown in
     let position : ℕ = get_or c.args.positions.now c.loop-position.position-index 0 in
     let sound = g.met.M.MapRead.sound c.args.update.now.map.now in (
-      walked_one h up lt at (so_far_step sound c.requires.follows position (shown_item c.in-Some.shown) at c.in_ok-action.action
-          (walked_to h up lt at (unaffected sound c.args.update.now.touched.now c.args.positions.now c.requires.follows
-          c.requires.candidates.covers c.loop-position.renewal))
-          c.in_ok-action.ensures.action c.in_ok-advance.ensures),
+      walked_one up (unaffected sound c.args.update.now.touched.now _ c.requires.follows c.requires.candidates.covers
+          c.advance.new.self) lt at
+          (so_far_step sound c.requires.follows position (shown_item c.in-Some.shown) at c.in_ok-action.action
+          (walked_to up lt c.loop-position.invariant.0 at) c.in_ok-action.ensures.action c.in_ok-advance.ensures),
       (λ some. c.in_ok-action.ensures.detours),
     )
 

@@ -1,6 +1,6 @@
-use Rattle.olr_renewal.proofs.Common.{◌≡◌, Some, Item, List, ap, arith, to_renew, items, length, option_map}
-use Rattle.olr_renewal.proofs.Common.{shown_item, shown_items, inl, refl, slice_get, take_all, without_answer, ◌∙◌}
-use Rattle.olr_renewal.proofs.Common.{map, true, length-map, slice_get-map, Encode}
+use Rattle.olr_renewal.proofs.Common.{◌≡◌, Some, Item, List, ap, arith, to_renew, items, length, option_map, shown_item}
+use Rattle.olr_renewal.proofs.Common.{shown_items, inl, refl, slice_get, take_all, without_answer, ◌∙◌, map, true, length-map}
+use Rattle.olr_renewal.proofs.Common.{slice_get-map, Encode}
 use Rattle.olr_renewal.proofs.Following.{follows_without}
 use Rattle.olr_renewal.proofs.Passing.{past_end}
 use Rattle.olr_renewal.proofs.RenewedPrefix.{so_far_none, so_far_step, whole}

@@ -1,5 +1,4 @@
-use Rattle.olr_renewal.proofs.Common.{to_renew, changed_of, items, lines_of, nodes_of, shown_items, take, true}
-use Rattle.olr_renewal.proofs.Common.{ChangeSet}
+use Rattle.olr_renewal.proofs.Common.{to_renew, changed_of, items, lines_of, nodes_of, shown_items, take, true, ChangeSet}
 use Rattle.olr_renewal.proofs.RenewedPrefix.{SoFar}
 use Rattle.olr_renewal.proofs.renewal.renewal_of_all.Given as goal
 

@@ -1,5 +1,5 @@
 use Rattle.olr_register.proofs.Common.{◌≡◌, inl, inr, string_bytes, false, refl, sym, ap, ◌∙◌, map_of, Add_path, items}
-use Rattle.olr_register.proofs.Common.{to_renew, under_batch, under_overlay, has_name, path_by, No_memory, begins_add}
+use Rattle.olr_register.proofs.Common.{to_renew, under_batch, under_overlay, has_name, path_by, begins_add, No_memory}
 use Rattle.olr_register.proofs.Changing.{add_refused, add_ok}
 use Rattle.olr_register.proofs.Listed.{to_renew_add, each_add, each_if_any, each_follows, given_add, has_to_renew}
 use Rattle.olr_register.proofs.Making.{path_unmade, path_made}

@@ -1,8 +1,8 @@
-use Rattle.olr_register.proofs.Common.{not, refl, sym, ap, ◌∙◌, to_renew, subst, under_batch, map_of, same_name}
-use Rattle.olr_register.proofs.Common.{Drop_path, Item, items, under_overlay, begins_drop, ByContent, No_memory}
-use Rattle.olr_register.proofs.Common.{NamesDiffer}
+use Rattle.olr_register.proofs.Common.{not, refl, sym, ap, ◌∙◌, to_renew, subst, under_batch, map_of, same_name, Drop_path}
+use Rattle.olr_register.proofs.Common.{Item, items, under_overlay, begins_drop, ByContent, NamesDiffer, No_memory}
 use Rattle.olr_register.proofs.Changing.{drop_lacks, drop_ok}
-use Rattle.olr_register.proofs.Listed.{to_renew_drop, each_left, each_given, each_if_any, each_follows, given_none, has_to_renew, named_to_renew}
+use Rattle.olr_register.proofs.Listed.{to_renew_drop, each_left, each_given, each_if_any, each_follows, given_none}
+use Rattle.olr_register.proofs.Listed.{has_to_renew, named_to_renew}
 use Rattle.olr_register.proofs.Making.{path_unmade, path_made}
 use Rattle.olr_register.proofs.batch.Batch.drop_path.Goals as goal
 

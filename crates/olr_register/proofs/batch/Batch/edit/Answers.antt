@@ -19,9 +19,9 @@ pub returns : goal.returns
 returns c = λ is.
     let j = c.in-Ok.ensures.plan in
     let s = c.reserve.ensures in
-    let t = c.note.ensures in
+    let t = c.add.ensures in
     let m = c.make_into.ensures in
-    edit_made c.args.roads.now c.make_into.new.self is c.args.self.now c.make_into.new.log c.note.new.self
+    edit_made c.args.roads.now c.make_into.new.self is c.args.self.now c.make_into.new.log c.add.new.self
     (edit_of c.args.edit) m.can_undo m.before c.in_ok-make_into.ensures.done m.slots j.placed
     (λ v. rw (j.nodes v, ← s.nodes) (t.nodes v)) (λ y. rw (← j.lines, ← s.lines) (t.lines y))
     (rw (← j.changes, ← c.line_changed.ensures, ← s.changed) t.changed)

@@ -1,8 +1,8 @@
-use Rattle.olr_register.proofs.Common.{inl, inr, not, refl, sym, ap, ◌∙◌, map_of, Set_path, items, under_overlay}
-use Rattle.olr_register.proofs.Common.{path_by, not-false, No_memory, to_renew, subst, under_batch, NamesDiffer}
-use Rattle.olr_register.proofs.Common.{begins_set}
+use Rattle.olr_register.proofs.Common.{inl, inr, not, refl, sym, ap, ◌∙◌, map_of, Set_path, items, under_overlay, path_by}
+use Rattle.olr_register.proofs.Common.{not-false, to_renew, subst, under_batch, NamesDiffer, begins_set, No_memory}
 use Rattle.olr_register.proofs.Changing.{set_refused, set_ok}
-use Rattle.olr_register.proofs.Listed.{to_renew_set, each_set, each_if_any, each_follows, given_set, has_to_renew, named_to_renew}
+use Rattle.olr_register.proofs.Listed.{to_renew_set, each_set, each_if_any, each_follows, given_set, has_to_renew}
+use Rattle.olr_register.proofs.Listed.{named_to_renew}
 use Rattle.olr_register.proofs.Making.{path_unmade, path_made}
 use Rattle.olr_register.proofs.batch.Batch.set_path.Goals as goal
 

@@ -1,5 +1,5 @@
-use Rattle.olr_register.proofs.Common.{◌∙◌, refl, ap, sym, has_name, None, items, map_of, No_memory, changes_keep}
-use Rattle.olr_register.proofs.Common.{path_by, string_bytes, Add_path}
+use Rattle.olr_register.proofs.Common.{◌∙◌, refl, ap, sym, has_name, None, items, map_of, changes_keep, path_by, string_bytes}
+use Rattle.olr_register.proofs.Common.{Add_path, No_memory}
 use Rattle.olr_register.proofs.Built.{built, not_built}
 use Rattle.olr_register.proofs.Changing.{add_refused, add_ok}
 use Rattle.olr_register.proofs.building.Building.add_path.Goals as goal

@@ -1,5 +1,5 @@
-use Rattle.olr_register.proofs.Common.{refl, ap, On_map, content_on, edit_of, items, map_of, with_map, changes_keep}
-use Rattle.olr_register.proofs.Common.{ByContent, No_memory}
+use Rattle.olr_register.proofs.Common.{refl, ap, On_map, content_on, edit_of, items, map_of, with_map, changes_keep, ByContent}
+use Rattle.olr_register.proofs.Common.{No_memory}
 use Rattle.olr_register.proofs.Built.{built, not_built}
 use Rattle.olr_register.proofs.Changing.{edit_refused, edit_lacks}
 use Rattle.olr_register.proofs.building.Building.edit.Goals as goal

@@ -1,6 +1,6 @@
 use Rattle.olr_register.proofs.Common.{refl, true, to_renew, items, map_of}
 use Rattle.olr_register.proofs.Built.{each_encoded_once, same_content}
-use Rattle.olr_register.proofs.Noted.{begins_none, can_set}
+use Rattle.olr_register.proofs.Touched.{begins_none, can_set}
 use Rattle.olr_register.proofs.Renewed.{remade_made}
 use Rattle.olr_register.proofs.building.Building.finish.Goals as goal
 

@@ -1,5 +1,5 @@
-use Rattle.olr_register.proofs.Common.{◌∙◌, refl, ap, sym, not, not-false, Set_path, None, items, map_of, No_memory}
-use Rattle.olr_register.proofs.Common.{changes_keep, path_by}
+use Rattle.olr_register.proofs.Common.{◌∙◌, refl, ap, sym, not, not-false, Set_path, None, items, map_of, changes_keep, path_by}
+use Rattle.olr_register.proofs.Common.{No_memory}
 use Rattle.olr_register.proofs.Built.{built, not_built}
 use Rattle.olr_register.proofs.Changing.{set_refused, set_ok}
 use Rattle.olr_register.proofs.building.Building.set_path.Goals as goal

@@ -1,5 +1,5 @@
-use Rattle.olr_register.proofs.Common.{Some, None, map, refl, sym, Abort, items, ByState, RegisterState, content_on}
-use Rattle.olr_register.proofs.Common.{batch_of, map_before}
+use Rattle.olr_register.proofs.Common.{Some, None, map, refl, sym, Abort, items, ByState, content_on, batch_of, map_before}
+use Rattle.olr_register.proofs.Common.{RegisterState}
 use Rattle.olr_register.proofs.States.{state, register_moved, in_states, right_as}
 use Rattle.olr_register.proofs.Outcomes.{answered_refused, answered_uncounted, Keeps}
 use Rattle.olr_commands.specs.declared.reply.Reply.TheVariants as reply
@@ -9,7 +9,7 @@ pub undo_edits-requires : goal.undo_edits-requires
 undo_edits-requires c =
     let s = c.self.inside in
     let right = right_as s (sym c.in-Some.ensures.value) c.self.invariant in
-    record { undo = right.register.held.undo; noted = right.register.held.noted }
+    record { undo = right.register.held.undo; edits = right.register.held.edits }
 
 pub invariant_of-self : goal.invariant_of-self
 invariant_of-self c =

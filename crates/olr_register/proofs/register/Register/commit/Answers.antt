@@ -1,9 +1,9 @@
-use Rattle.olr_register.proofs.Common.{No_memory, ◌≡◌, true, false, Some, None, Ok, map, length, refl, ap, ◌∙◌, ne_eqb}
-use Rattle.olr_register.proofs.Common.{map_of, map_before, Content, Commit, ByState, may_want, items, under_overlay}
-use Rattle.olr_register.proofs.Common.{nodes_of, lines_of, Registered, content_on, batch_of, Lacks_memory, raised_work}
+use Rattle.olr_register.proofs.Common.{◌≡◌, true, false, Some, None, Ok, map, length, refl, ap, ◌∙◌, ne_eqb, map_of, map_before}
+use Rattle.olr_register.proofs.Common.{Content, Commit, ByState, may_want, items, under_overlay, nodes_of, lines_of, Registered}
+use Rattle.olr_register.proofs.Common.{content_on, batch_of, raised_work, No_memory, Lacks_memory}
 use Rattle.olr_register.proofs.BatchSteps.{right_count, renewed_content, renewed_reply}
 use Rattle.olr_register.proofs.Counting.{counted_held, rise_on}
-use Rattle.olr_register.proofs.Noted.{can_commit, can_renew_batch}
+use Rattle.olr_register.proofs.Touched.{can_commit, can_renew_batch}
 use Rattle.olr_register.proofs.Outcomes.{answered_counted, answered_refused, Accepts}
 use Rattle.olr_register.proofs.Renewed.{remade_made}
 use Rattle.olr_register.proofs.States.{state, of_parts, in_states, right_as}

@@ -1,7 +1,7 @@
-use Rattle.olr_register.proofs.Common.{refl, sym, ◌∙◌, map_of, items, ByState, No_memory, Lacks_memory, nodes_of}
-use Rattle.olr_register.proofs.Common.{lines_of, changed_of}
+use Rattle.olr_register.proofs.Common.{refl, sym, ◌∙◌, map_of, items, ByState, nodes_of, lines_of, changed_of, No_memory}
+use Rattle.olr_register.proofs.Common.{Lacks_memory}
 use Rattle.olr_register.proofs.Bounded.{settled_bounds}
-use Rattle.olr_register.proofs.Noted.{noted_idle, is_before}
+use Rattle.olr_register.proofs.Touched.{touched_idle, is_before}
 use Rattle.olr_register.proofs.Renewed.{made_if_any}
 use Rattle.olr_register.proofs.Shown.{dependents}
 use Rattle.olr_register.proofs.WithoutBatch.{open_refused, shut_answered, shut_refused, shut_right}
@@ -26,23 +26,23 @@ affected_names-requires-clause-before c =
     let t = c.in_ok-around.around in
     let h = (shut_right r c.if-is_some.ensures c.self.invariant).register in
     is_before r.margin h.content.margin (map_of r.roads) (map_of r.roads) (nodes_of t) (lines_of t) (changed_of t) (items r.paths)
-    (noted_idle (map_of r.roads) (nodes_of t) (lines_of t) (changed_of t) c.in_ok-around.ensures.changed)
+    (touched_idle (map_of r.roads) (nodes_of t) (lines_of t) (changed_of t) c.in_ok-around.ensures.changed)
     h.content.map h.content.paths (made_if_any r.margin (map_of r.roads) (items r.paths) h.made)
 
 pub affected_names-requires-clause-bounds : goal.affected_names-requires-clause-bounds
 affected_names-requires-clause-bounds c =
-    c.settle_kept.ensures _ (shut_right c.self.inside c.if-is_some.ensures c.self.invariant).bounded
+    c.make_right.ensures _ (shut_right c.self.inside c.if-is_some.ensures c.self.invariant).bounded
 
 pub invariant_of-self : goal.invariant_of-self
 invariant_of-self c = rw c.affected_names.ensures.bounds (record {
   register = c.self.invariant.register;
-  bounded = settled_bounds (c.settle_kept.ensures _ (shut_right c.self.inside c.if-is_some.ensures c.self.invariant).bounded);
+  bounded = settled_bounds (c.make_right.ensures _ (shut_right c.self.inside c.if-is_some.ensures c.self.invariant).bounded);
 })
 
 pub invariant_of-self-2 : goal.invariant_of-self-2
 invariant_of-self-2 c = rw c.affected_names.ensures.bounds (record {
   register = c.self.invariant.register;
-  bounded = settled_bounds (c.settle_kept.ensures _ (shut_right c.self.inside c.if-is_some.ensures c.self.invariant).bounded);
+  bounded = settled_bounds (c.make_right.ensures _ (shut_right c.self.inside c.if-is_some.ensures c.self.invariant).bounded);
 })
 
 pub returns-in_err-names : goal.returns-in_err-names

@@ -1,5 +1,5 @@
 use Rattle.olr_register.proofs.Common.{refl, sym, ByState}
-use Rattle.olr_register.proofs.Singles.{refused_now, drop_right, drop_done}
+use Rattle.olr_register.proofs.Singles.{refused_now, drop_bounded, drop_made, right_now, done_now}
 use Rattle.olr_register.proofs.register.Register.drop_now.Goals as goal
 
 pub returns-then-not-has : goal.returns-then-not-has
@@ -8,10 +8,14 @@ returns-then-not-has c =
 
 pub invariant_of-self : goal.invariant_of-self
 invariant_of-self c =
-    drop_right c.self.inside c.self.view_is c.requires c.self.invariant c.args.name.now _ (sym c.if-not-has.ensures)
-    c.drop_path.ensures
+    let r = c.self.inside in
+    right_now r c.self.view_is c.requires c.self.invariant
+    (drop_made r c.self.view_is c.requires c.self.invariant c.args.name.now c.drop_path.ensures (sym c.if-not-has.ensures))
+    (drop_bounded r c.self.view_is c.requires c.self.invariant c.args.name.now c.drop_path.ensures)
 
 pub returns : goal.returns
 returns c =
-    drop_done c.self.inside c.self.view_is c.requires c.self.invariant c.args.name.now _ (sym c.if-not-has.ensures)
-    c.drop_path.ensures (rw c.new.ensures.items)
+    let r = c.self.inside in
+    done_now r c.self.view_is c.requires
+    (drop_made r c.self.view_is c.requires c.self.invariant c.args.name.now c.drop_path.ensures (sym c.if-not-has.ensures))
+    (rw c.new.ensures.items)

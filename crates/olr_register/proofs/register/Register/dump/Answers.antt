@@ -1,5 +1,5 @@
-use Rattle.olr_register.proofs.Common.{refl, sym, list_all, and_parts, map_of, is_name, is_recordable_map, items}
-use Rattle.olr_register.proofs.Common.{all_named, ByState, No_memory, Lacks_memory, Dumped}
+use Rattle.olr_register.proofs.Common.{refl, sym, list_all, and_parts, map_of, is_name, is_recordable_map, items, all_named}
+use Rattle.olr_register.proofs.Common.{ByState, Dumped, No_memory, Lacks_memory}
 use Rattle.olr_register.proofs.WithoutBatch.{open_refused, shut_answered, shut_refused}
 use Rattle.olr_register.proofs.register.Register.dump.Goals as goal
 

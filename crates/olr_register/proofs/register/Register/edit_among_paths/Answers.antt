@@ -1,8 +1,8 @@
-use Rattle.olr_register.proofs.Common.{items, map_of, content_on, length, refl, ap, edit_of, at_once, ByState}
-use Rattle.olr_register.proofs.Common.{No_memory, ne_eqb}
+use Rattle.olr_register.proofs.Common.{items, map_of, content_on, length, refl, ap, edit_of, at_once, ByState, ne_eqb}
+use Rattle.olr_register.proofs.Common.{No_memory}
 use Rattle.olr_register.proofs.Changing.{edit_refused, edit_lacks}
 use Rattle.olr_register.proofs.Singles.{refused_now, same_map, may_refuse_now, same_right, bounds_right}
-use Rattle.olr_register.proofs.Singles.{can_edit, edit_right, edit_done}
+use Rattle.olr_register.proofs.Singles.{can_edit, edit_made, right_now, done_now}
 use Rattle.olr_register.proofs.register.Register.edit_among_paths.Goals as goal
 
 pub returns-in-Err : goal.returns-in-Err
@@ -18,8 +18,8 @@ invariant_of-self c =
     same_right c.self.inside c.self.view_is c.requires.open c.self.invariant refl refl
     (bounds_right c.self.inside c.self.view_is c.requires.open c.self.invariant)
 
-pub returns-in_err-note_only : goal.returns-in_err-note_only
-returns-in_err-note_only c =
+pub returns-in_err-touch_only : goal.returns-in_err-touch_only
+returns-in_err-touch_only c =
     let r = c.self.inside in
     let some = ne_eqb (length c.args.self.now.state.content.paths) 0 c.requires.some in
     may_refuse_now c.self.inside c.self.view_is c.requires.open No_memory
@@ -48,20 +48,23 @@ make_and_renew-requires c = record {
   plan = c.in-Ok.ensures.plan;
   bounded = bounds_right c.self.inside c.self.view_is c.requires.open c.self.invariant;
   renewable =
-      can_edit c.self.inside c.self.view_is c.requires.open c.self.invariant (edit_of c.args.edit) c.note_only.new.touched
-      (c.in_ok-note_only.ensures _ _ _ c.in-Ok.ensures.plan);
+      can_edit c.self.inside c.self.view_is c.requires.open c.self.invariant (edit_of c.args.edit) c.touch_only.new.touched
+      (c.in_ok-touch_only.ensures _ _ _ c.in-Ok.ensures.plan);
 }
 
 pub invariant_of-self-2 : goal.invariant_of-self-2
 invariant_of-self-2 c =
     let e = c.in_ok-renewed.ensures in
-    edit_right c.self.inside c.self.view_is c.requires.open c.self.invariant (edit_of c.args.edit) c.make_and_renew.new.roads e.done
-    (c.in_ok-note_only.ensures _ _ _ c.in-Ok.ensures.plan) e.renewed c.in-Ok.ensures.plan.placed e.bounded
+    right_now c.self.inside c.self.view_is c.requires.open c.self.invariant
+    (edit_made c.self.inside c.self.view_is c.requires.open c.self.invariant (edit_of c.args.edit) c.make_and_renew.new.roads
+    e.done c.in-Ok.ensures.plan.placed
+    (c.in_ok-touch_only.ensures _ _ _ c.in-Ok.ensures.plan) e.renewed) e.bounded
 
 pub returns : goal.returns
 returns c =
-    let r = c.self.inside in
     let e = c.in_ok-renewed.ensures in
     rw c.plus-self-inside.ensures
-    (edit_done r c.self.view_is c.requires.open c.self.invariant (edit_of c.args.edit) c.make_and_renew.new.roads e.done
-    (c.in_ok-note_only.ensures _ _ _ c.in-Ok.ensures.plan) e.renewed refl)
+    (done_now c.self.inside c.self.view_is c.requires.open
+    (edit_made c.self.inside c.self.view_is c.requires.open c.self.invariant (edit_of c.args.edit) c.make_and_renew.new.roads
+    e.done c.in-Ok.ensures.plan.placed
+    (c.in_ok-touch_only.ensures _ _ _ c.in-Ok.ensures.plan) e.renewed) refl)

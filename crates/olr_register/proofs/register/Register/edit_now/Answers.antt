@@ -1,9 +1,9 @@
-use Rattle.olr_register.proofs.Common.{edit_of, map_of, content_on, ◌≡◌, [], length, refl, ap, arith, at_once, ByState}
-use Rattle.olr_register.proofs.Common.{items, No_memory}
+use Rattle.olr_register.proofs.Common.{edit_of, map_of, content_on, ◌≡◌, [], length, refl, ap, arith, at_once, ByState, items}
+use Rattle.olr_register.proofs.Common.{No_memory}
 use Rattle.olr_register.proofs.Bounded.{bounds_stay}
 use Rattle.olr_register.proofs.Changing.{edit_refused, edit_lacks}
-use Rattle.olr_register.proofs.Singles.{refused_now, same_map, may_refuse_now, same_right, bounds_right, bare_right}
-use Rattle.olr_register.proofs.Singles.{bare_done}
+use Rattle.olr_register.proofs.Singles.{refused_now, same_map, may_refuse_now, same_right, bounds_right, no_path}
+use Rattle.olr_register.proofs.Singles.{bare_made, right_now, done_now}
 use Rattle.olr_register.proofs.register.Register.edit_now.Goals as goal
 
 pub returns-in-Err : goal.returns-in-Err
@@ -32,14 +32,16 @@ returns-in_err-make_kept c =
 pub invariant_of-self-2 : goal.invariant_of-self-2
 invariant_of-self-2 c =
     let r = c.self.inside in
-    bare_right r c.self.view_is c.requires c.self.invariant (edit_of c.args.edit) c.make_kept.new.self c.in_ok-make_kept.ensures.done c.in-Ok.ensures.plan.placed
-    (omega arith) (record {
-      under_way = c.clear.ensures.under_way _ _ [];
-      sources = λ v on. absurd on;
-    })
+    let bare = no_path r c.self.view_is c.requires (omega arith) in
+    right_now r c.self.view_is c.requires c.self.invariant
+    (bare_made r c.self.view_is c.requires c.self.invariant (edit_of c.args.edit) c.make_kept.new.self
+    c.in_ok-make_kept.ensures.done c.in-Ok.ensures.plan.placed bare)
+    (rw bare (record { under_way = c.clear.ensures.under_way _ _ []; sources = λ v on. absurd on }))
 
 pub returns : goal.returns
 returns c =
     let r = c.self.inside in
-    bare_done r c.self.view_is c.requires c.self.invariant (edit_of c.args.edit) c.make_kept.new.self c.in_ok-make_kept.ensures.done (omega arith)
+    done_now r c.self.view_is c.requires (bare_made r c.self.view_is c.requires c.self.invariant (edit_of c.args.edit)
+    c.make_kept.new.self c.in_ok-make_kept.ensures.done c.in-Ok.ensures.plan.placed
+    (no_path r c.self.view_is c.requires (omega arith)))
     (rw c.new.ensures.items)

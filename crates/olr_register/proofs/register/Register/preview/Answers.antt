@@ -1,7 +1,7 @@
-use Rattle.olr_register.proofs.Common.{No_memory, Some, refl, map_before, Content, ByState, RegisterState, items}
-use Rattle.olr_register.proofs.Common.{content_on, batch_of, Lacks_memory, Preview}
+use Rattle.olr_register.proofs.Common.{Some, refl, map_before, Content, ByState, items, content_on, batch_of, Preview}
+use Rattle.olr_register.proofs.Common.{No_memory, RegisterState, Lacks_memory}
 use Rattle.olr_register.proofs.BatchSteps.{renewed_content, renewed_reply}
-use Rattle.olr_register.proofs.Noted.{can_renew_batch}
+use Rattle.olr_register.proofs.Touched.{can_renew_batch}
 use Rattle.olr_register.proofs.Outcomes.{answered_uncounted, answered_refused, Keeps}
 use Rattle.olr_register.proofs.States.{state, in_states, right_as}
 use Rattle.olr_commands.specs.declared.reply.Reply.TheVariants as reply

@@ -1,6 +1,6 @@
 use Rattle.olr_register.proofs.Common.{refl, items, No_memory, Lacks_memory}
 use Rattle.olr_register.proofs.Bounded.{bounded_unknown}
-use Rattle.olr_register.proofs.Singles.{refused_now, same_right, margin_requires, margin_right, margin_done}
+use Rattle.olr_register.proofs.Singles.{refused_now, same_right, margin_requires, margin_made, right_now, done_now}
 use Rattle.olr_register.proofs.register.Register.set_margin_now.Goals as goal
 
 pub renew-requires : goal.renew-requires
@@ -22,13 +22,14 @@ pub invariant_of-self-2 : goal.invariant_of-self-2
 invariant_of-self-2 c =
     let r = c.self.inside in
     let e = c.in_ok-renewed.ensures in
-    margin_right r c.self.view_is c.requires c.self.invariant c.routes-routes.ensures.margin c.clear.ensures.changed
-    (rw (c.new-none.ensures (items r.paths)) at e.renewed) e.bounded
+    right_now r c.self.view_is c.requires c.self.invariant
+    (margin_made r c.self.view_is c.requires c.self.invariant c.routes-routes.ensures.margin c.clear.ensures.changed
+    (rw (c.new-none.ensures (items r.paths)) at e.renewed)) e.bounded
 
 pub returns : goal.returns
 returns c =
     let r = c.self.inside in
-    let e = c.in_ok-renewed.ensures in
     rw c.plus-self-inside.ensures
-    (margin_done r c.self.view_is c.requires c.self.invariant c.routes-routes.ensures.margin c.clear.ensures.changed
-    (rw (c.new-none.ensures (items r.paths)) at e.renewed) refl)
+    (done_now r c.self.view_is c.requires
+    (margin_made r c.self.view_is c.requires c.self.invariant c.routes-routes.ensures.margin c.clear.ensures.changed
+    (rw (c.new-none.ensures (items r.paths)) at c.in_ok-renewed.ensures.renewed)) refl)

@@ -1,4 +1,4 @@
-use Rattle.olr_register.proofs.Common.{refl, No_memory, Set_margin, append-nil, record_line, Records}
+use Rattle.olr_register.proofs.Common.{refl, Set_margin, append-nil, record_line, No_memory, Records}
 use Rattle.olr_commands.specs.Reply.{Lacks}
 use Rattle.olr_register.proofs.Outcomes.{answered_same, refused_same}
 use Rattle.olr_register.proofs.register.Register.show_margin.Goals as goal

@@ -1,4 +1,5 @@
-use Rattle.olr_register.proofs.Common.{refl, sym, ◌∙◌, ByState, No_memory, Lacks_memory, Records}
+use Rattle.olr_register.proofs.Common.{refl, sym, ◌∙◌, record_line, node_change, coord_at, map_of, ByState, append-nil}
+use Rattle.olr_register.proofs.Common.{No_memory, Lacks_memory, Records}
 use Rattle.olr_register.proofs.WithoutBatch.{open_refused, shut_answered, shut_refused}
 use Rattle.olr_register.proofs.register.Register.show_node.Goals as goal
 
@@ -15,13 +16,14 @@ returns-then-not-is_recordable_place c =
     shut_refused c.self.inside c.self.view_is c.if-is_some.ensures _ refl
     (ByState (rw (sym c.is_recordable_place.ensures ∙ c.if-not-is_recordable_place.true, ← c.node.ensures, c.is_none.ensures, c.if-is_none.false)))
 
-pub returns-in_err-node_records : goal.returns-in_err-node_records
-returns-in_err-node_records c =
+pub returns-in_err-push_node : goal.returns-in_err-push_node
+returns-in_err-push_node c =
     shut_refused c.self.inside c.self.view_is c.if-is_some.ensures No_memory c.from_residual.ensures.1
     (Lacks_memory refl (rw (sym c.is_recordable_place.ensures ∙ c.if-not-is_recordable_place.false, ← c.node.ensures, c.is_none.ensures, c.if-is_none.false)))
 
 pub returns : goal.returns
 returns c =
-    let e = c.in_ok-node_records.ensures in
+    let node = record_line (node_change (c.args.id, coord_at (map_of c.self.inside.roads) c.args.id)) in
+    let text = rw (c.new-text.ensures.items, ← append-nil node) at c.in_ok-push_node.ensures in
     shut_answered c.self.inside c.self.view_is c.if-is_some.ensures refl
-    (rw (sym c.is_recordable_place.ensures ∙ c.if-not-is_recordable_place.false, ← c.node.ensures, c.is_none.ensures, c.if-is_none.false), λ i. Records (e.0 i) (e.1 i))
+    (rw (sym c.is_recordable_place.ensures ∙ c.if-not-is_recordable_place.false, ← c.node.ensures, c.is_none.ensures, c.if-is_none.false), λ i. Records 1 (text i))

@@ -1,5 +1,4 @@
-use Rattle.olr_renewal.proofs.Common.{◌∙◌}
-use Rattle.olr_spec.proofs.AscendingLists.{found_has}
+use Rattle.olr_renewal.proofs.Common.{◌∙◌, found_has}
 use Rattle.olr_renewal.proofs.change_set.ChangeSet.has_node.Goals as goal
 
 pub returns : goal.returns

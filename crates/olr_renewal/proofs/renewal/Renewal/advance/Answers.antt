@@ -9,17 +9,11 @@ returns-in-Retain g c = rw c.in-Retain.is (refl, refl, rw c.plus-self.ensures re
 
 pub returns-in_ok-push-in-Encode : goal.returns-in_ok-push-in-Encode
 returns-in_ok-push-in-Encode g c =
-    let e = c.in_ok-encoding-in-Encode.ensures.encoding in
-    let m = c.in_ok-made-in-Encode.ensures in
+    let e = c.in_ok-published-in-Encode.ensures in
     rw c.in-Encode.is (
-      made_of c.in_ok-made-in-Encode.made,
-      m.made _ _ _ (rw c.deref.ensures at e),
-      rw (
-        c.in_ok-push-in-Encode.ensures.items,
-        map-append,
-        c.in_ok-clone-in-Encode.ensures.cases,
-        c.in_ok-published-in-Encode.ensures.ok,
-      ) refl,
-      rw (c.deref-in-Encode-2.ensures, c.in_ok-published-in-Encode.ensures.ok) at c.in_ok-push_if_changed-in-Encode.ensures,
-      rw (c.plus-self-in-Encode.ensures, m.work, e.encodings) refl,
+      made_of c.in_ok-published-in-Encode.published.value,
+      rw c.deref.ensures at e.made,
+      rw (c.in_ok-push-in-Encode.ensures.items, map-append, c.in_ok-clone-in-Encode.ensures.cases) refl,
+      rw c.deref-in-Encode-2.ensures at c.in_ok-push_if_changed-in-Encode.ensures,
+      rw (c.plus-self-in-Encode.ensures, e.counted) refl,
     )

@@ -1,4 +1,4 @@
-use Rattle.olr_register.proofs.bounds.settle_kept.Goals as goal
+use Rattle.olr_register.proofs.bounds.make_right.Goals as goal
 
 pub returns : goal.returns
 returns c = λ is h. record {

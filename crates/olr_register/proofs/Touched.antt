@@ -1,17 +1,17 @@
--- What is recorded of edits: the maps before and after them have no other difference.
-use Rattle.olr_register.proofs.Common.{inl, inr, ◌≡◌, ℕ, false, true, List, [], ◌∷◌, ◌++◌, Ok, refl, sym, ◌∙◌, subst}
-use Rattle.olr_register.proofs.Common.{arith, ◌||◌, AllByRecursion, or_right, list_any-append, Map, IsMap, Edit, edited}
-use Rattle.olr_register.proofs.Common.{touched_nodes, touched_lines, has, is_path, ChangedLine, changes_of, EditPlan}
-use Rattle.olr_register.proofs.Common.{Item, AreEncodingsIfAny, all_named, nodes_of, lines_of, changed_of, ChangeSet}
-use Rattle.olr_register.proofs.Common.{IsNotedOf, AreEditsNoted, Some, RoadMap, map_of, map_before, under_batch}
-use Rattle.olr_register.proofs.Common.{IsRegister, CanRenew, Batch, ◌==◌, Contains, Margin, IsContent, to_renew}
-use Rattle.olr_register.proofs.Common.{content_on, follows_without, is_margin, map, without_answer, Begins}
-use Rattle.olr_register.proofs.Common.{CoverageQuery, DistanceBounds, IsStateRight, IsTrue, CanRenewTo, option_to_list}
-use Rattle.olr_register.proofs.Common.{or_left, Contains-append_cases, Add_node, Move_node, Drop_node, Add_line}
-use Rattle.olr_register.proofs.Common.{Set_line, Drop_line, Contains-cases, edit_differs, none_differs, differences_add}
-use Rattle.olr_register.proofs.Common.{ArePaths, NamesDiffer, IsBefore}
-use Rattle.olr_register.proofs.Listed.{named_to_renew}
+-- What edits touch: the maps before and after them have no other difference.
+use Rattle.olr_register.proofs.Common.{inl, false, List, ◌++◌, refl, subst, arith, IsMap, map_of, Margin, Begins, IsTrue, Batch}
+use Rattle.olr_register.proofs.Common.{inr, ◌≡◌, ℕ, ◌∷◌, Ok, sym, ◌∙◌, ◌||◌, Map, Edit, has, Item, Some, ◌==◌, map}
+use Rattle.olr_register.proofs.Common.{true, nodes_of, lines_of, CanRenew, Contains, is_margin, Move_node, Drop_node, Drop_line}
+use Rattle.olr_register.proofs.Common.{[], edited, RoadMap, to_renew, or_left, Add_node, Add_line, Set_line, ArePaths, IsBefore}
+use Rattle.olr_register.proofs.Common.{AllByRecursion, is_path, without_answer, DistanceBounds, option_to_list, differences_add}
+use Rattle.olr_register.proofs.Common.{or_right, all_named, ChangeSet, IsTouchedBy, IsRegister, IsContent, content_on}
+use Rattle.olr_register.proofs.Common.{CanRenewTo}
+use Rattle.olr_register.proofs.Common.{list_any-append, AreEncodingsIfAny, follows_without, IsStateRight, Contains-append_cases}
+use Rattle.olr_register.proofs.Common.{touched_nodes, touched_lines, AreTouched, CoverageQuery, Contains-cases, edit_differs}
+use Rattle.olr_register.proofs.Common.{ChangedLine, changes_of, changed_of, map_before, under_batch, none_differs, NamesDiffer}
+use Rattle.olr_map.specs.declared.judging.EditPlan.{EditPlan}
 use Rattle.olr_map.specs.EditPlans.{IsEditPlan, planned_changes}
+use Rattle.olr_register.proofs.Listed.{named_to_renew}
 
 -- ---- where changed lines begin
 
@@ -32,8 +32,8 @@ starts_of M (Drop_line x) c k = grind (arith, only_one _ c k)
 -- ---- no edit, and one edit more
 
 -- nothing, or only nodes and lines that nothing touched
-pub noted_idle : (M : Map) (ns xs : List ℕ) (cs : List ChangedLine) → cs ≡ [] → AreEditsNoted M M ns xs cs
-noted_idle M ns xs cs none =
+pub touched_idle : (M : Map) (ns xs : List ℕ) (cs : List ChangedLine) → cs ≡ [] → AreTouched M M ns xs cs
+touched_idle M ns xs cs none =
     let idle = none_differs M in
     rw none (record {
       difference = record {
@@ -49,16 +49,16 @@ noted_idle M ns xs cs none =
 held_by : (ms ns us : List ℕ) (v : ℕ) → has ms v ≡ (has ns v || has us v) → has ms v ≡ false → has (ns ++ us) v ≡ false
 held_by ms ns us v e off = list_any-append (λ y. y == v) ns us ∙ sym e ∙ off
 
-pub noted_more : (L M N : Map) (e : Edit) (ns xs ms ys : List ℕ) (cs ds : List ChangedLine) →
-    AreEditsNoted L M ns xs cs → edited M e ≡ Ok N
+pub touched_more : (L M N : Map) (e : Edit) (ns xs ms ys : List ℕ) (cs ds : List ChangedLine) →
+    AreTouched L M ns xs cs → edited M e ≡ Ok N
     → ((v : ℕ) → has ms v ≡ (has ns v || has (touched_nodes M e) v)) →
     ((x : ℕ) → has ys x ≡ (has xs x || has (touched_lines e) x)) → ds ≡ cs ++ changes_of M e
-    → AreEditsNoted L N ms ys ds
-noted_more L M N e ns xs ms ys cs ds was ok nodes lines changes =
+    → AreTouched L N ms ys ds
+touched_more L M N e ns xs ms ys cs ds was ok nodes lines changes =
     let all =
     differences_add L M N ns (touched_nodes M e) xs (touched_lines e) cs (changes_of M e) was.difference
     (edit_differs M N e ok) in
-    subst (AreEditsNoted L N ms ys) (sym changes) (record {
+    subst (AreTouched L N ms ys) (sym changes) (record {
       difference = record {
         nodes = λ v off. all.nodes v (held_by ms ns (touched_nodes M e) v (nodes v) off);
         lines = λ x off. all.lines x (held_by ys xs (touched_lines e) x (lines x) off);
@@ -72,19 +72,19 @@ noted_more L M N e ns xs ms ys cs ds was ok nodes lines changes =
     })
 
 -- a single edit
-pub noted_edit : (M N : Map) (e : Edit) (ns xs : List ℕ) (cs : List ChangedLine) → edited M e ≡ Ok N
+pub touched_edit : (M N : Map) (e : Edit) (ns xs : List ℕ) (cs : List ChangedLine) → edited M e ≡ Ok N
     → ((v : ℕ) → has ns v ≡ has (touched_nodes M e) v) → ((x : ℕ) → has xs x ≡ has (touched_lines e) x) →
-    cs ≡ changes_of M e → AreEditsNoted M N ns xs cs
-noted_edit M N e ns xs cs ok nodes lines changes =
-    noted_more M M N e [] [] ns xs [] cs (noted_idle M [] [] [] refl) ok nodes lines changes
+    cs ≡ changes_of M e → AreTouched M N ns xs cs
+touched_edit M N e ns xs cs ok nodes lines changes =
+    touched_more M M N e [] [] ns xs [] cs (touched_idle M [] [] [] refl) ok nodes lines changes
 
 -- an edit that was judged, recorded in an empty record r
-pub noted_plan : (M : Map) (slot : ℕ → ℕ) (e : Edit) (j : EditPlan) (r t : ChangeSet) → IsEditPlan M slot e j →
+pub touched_plan : (M : Map) (slot : ℕ → ℕ) (e : Edit) (j : EditPlan) (r t : ChangeSet) → IsEditPlan M slot e j →
     nodes_of r ≡ [] → lines_of r ≡ [] → changed_of r ≡ []
     → ((v : ℕ) → has (nodes_of t) v ≡ (has (nodes_of r) v || ((j.nodes.0 == v) || (j.nodes.1 == v))))
     → ((y : ℕ) → has (lines_of t) y ≡ (has (lines_of r) y || has (option_to_list j.line) y))
-    → changed_of t ≡ changed_of r ++ planned_changes j → IsNotedOf M e t
-noted_plan M slot e j r t plan no_nodes no_lines no_changes nodes lines changes = record {
+    → changed_of t ≡ changed_of r ++ planned_changes j → IsTouchedBy M e t
+touched_plan M slot e j r t plan no_nodes no_lines no_changes nodes lines changes = record {
   nodes = λ v. rw (plan.nodes v) (rw no_nodes at (nodes v));
   lines = λ y. rw (← plan.lines) (rw no_lines at (lines y));
   changed = rw (← plan.changes) (rw no_changes at changes);
@@ -96,14 +96,14 @@ are_paths : (is : List Item) → ArePaths (all_named is) → AllByRecursion (λ 
 are_paths [] p = tt
 are_paths (i ∷ is) p = (p.0, are_paths is p.1)
 
-pub is_before : (g : Margin) → IsTrue (is_margin g) → (M N : Map) (T X : List ℕ) (C : List ChangedLine) (is : List Item) → AreEditsNoted M N T X C → IsMap M →
+pub is_before : (g : Margin) → IsTrue (is_margin g) → (M N : Map) (T X : List ℕ) (C : List ChangedLine) (is : List Item) → AreTouched M N T X C → IsMap M →
     ArePaths (all_named is) → AreEncodingsIfAny g M is → IsBefore g M N T X C is
-is_before g most M N T X C is noted sound paths made =
+is_before g most M N T X C is touched sound paths made =
     record {
       margin = most;
       sound = sound;
-      difference = noted.difference;
-      starts = noted.starts;
+      difference = touched.difference;
+      starts = touched.starts;
       paths = are_paths is paths;
       made = made;
     }
@@ -118,7 +118,7 @@ can_commit g roads is b h =
       follows = held.follows;
       before =
           is_before b.margin held.sound.margin (map_before roads b.log) (map_of roads) (nodes_of b.touched)
-          (lines_of b.touched) (changed_of b.touched) (under_batch is b) held.noted h.content.map held.sound.paths held.made;
+          (lines_of b.touched) (changed_of b.touched) (under_batch is b) held.edits h.content.map held.sound.paths held.made;
     }
 
 pub can_renew_batch : {g : Margin} {roads : RoadMap} {is : List Item} {b : Batch} {f : DistanceBounds} →
@@ -152,6 +152,6 @@ can_set g h most M is t changed sound =
       follows = follows_without is is;
       before =
           is_before h most M M (nodes_of t) (lines_of t) (changed_of t) (to_renew true is)
-          (noted_idle M (nodes_of t) (lines_of t) (changed_of t) changed) sound.map (subst ArePaths same sound.paths)
+          (touched_idle M (nodes_of t) (lines_of t) (changed_of t) changed) sound.map (subst ArePaths same sound.paths)
           (without_if_any h M is);
     }

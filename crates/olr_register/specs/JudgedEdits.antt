@@ -1,6 +1,6 @@
--- What is recorded of an edit that was judged, and what making it does to a map and a list.
---     IsNotedOf M e t      what the edit touches and changes, and nothing else
---     CanRenewAfter g M e is t      after the edit, which t records, the list can be renewed
+-- What an edit that was judged touches, and what making it does to a map and a list.
+--     IsTouchedBy M e t      what the edit touches and changes, and nothing else
+--     CanRenewAfter g M e is t      after the edit, which touches t, the list can be renewed
 --     CanMakeEdit g roads e j t is bounds      the edit was judged, and after it the list can be renewed
 --     IsEditMade g old new e t is js bounds result      the edit leads from the old map to the new one, and the list is is
 --         renewed to js; or, if an allocation failed, map and list are unchanged. The bounds are right either way
@@ -21,7 +21,7 @@ use Rattle.olr_renewal.specs.Reencoded.{IsRenewal}
 use Rattle.olr_renewal.specs.declared.renewal.Renewed.{Renewed}
 use Rattle.olr_register.specs.Contents.{HasBounds, CanRenew}
 
-pub record IsNotedOf (M : Map) (e : Edit) (t : ChangeSet) : Type 0 where
+pub record IsTouchedBy (M : Map) (e : Edit) (t : ChangeSet) : Type 0 where
   pub nodes : (v : ℕ) → has (nodes_of t) v ≡ has (touched_nodes M e) v
   pub lines : (y : ℕ) → has (lines_of t) y ≡ has (touched_lines e) y
   pub changed : changed_of t ≡ changes_of M e
