@@ -1,6 +1,6 @@
 -- What is closed and met, as bounds become less and as maps are edited, and where bounds come from.
 use Rattle.olr_renewal.proofs.Common.{◌≡◌, ℕ, ◌+◌, ◌<◌, ◌≤◌, ◌⊎◌, List, [], ◌∷◌, ◌++◌, Option, Some, None, IsTrue, refl, sym}
-use Rattle.olr_renewal.proofs.Common.{ap, ◌∙◌, ◌↔◌, subst, inl, inr, arith, is_some, min, cases_Bool, eqb-true, Map, IsMap}
+use Rattle.olr_renewal.proofs.Common.{◌∙◌, ◌↔◌, subst, inl, inr, arith, is_some, min, cases_Bool, eqb-true, Map, IsMap}
 use Rattle.olr_renewal.proofs.Common.{SameLine, has, has_node, start, end, dm, IsRoute, dm_of, GREATEST_LIMIT, Near}
 use Rattle.olr_renewal.proofs.Common.{IsRoute-append, dm_of-append, route_start, AreBounds, Against, IsSource, IsRight}
 use Rattle.olr_renewal.proofs.Common.{label_of, frontier_len, IsQueued, IsAlike, Moves, CoversSlots, alike_labels, source_of}
@@ -76,11 +76,7 @@ module _ (M N : Map) (s r : ℕ → ℕ) (T : List ℕ) (f : DistanceBounds) (e 
     far_apart is right v w source near = go near.route near.leads near.within
       where
         go : (xs : List ℕ) → IsRoute N v near.node xs → dm_of N xs ≤ min w GREATEST_LIMIT → ⊥
-        go [] here short =
-            let k = source is in
-            let none = (far near.node near.touched).source in
-            let never : ◌≡◌ {A = Option ℕ} None (Some k.number) = sym none ∙ ap (source_of f) (sym here) ∙ k.at in
-            absurd cc
+        go [] here short = grind (arith, here, source is, (far near.node near.touched).source)
         go (x ∷ xs) way short =
             let k = source is in
             let known = subst (λ (q : ℕ). IsTrue (has_node M q)) way.1 (e.starts x way.0) in
@@ -108,13 +104,7 @@ module _ (M : Map) (m : IsMap M) (s : ℕ → ℕ) (S : ℕ → Option ℕ) wher
       → ((v d : ℕ) → S v ≡ Some d → IsTrue (has_node M v) → IsTrue (has xs v) → (label_of h (s v) ≤ d) ⊎ IsTrue (has ys v))
       → AreSettling M s S xs f → AreSettling M s S ys h
   settling_next xs ys f h better fresh due met was = record {
-    closed = λ x line short. elim (fresh (s (start M x))) [
-      | inr q ↦ inr (inr q)
-      | inl same ↦ elim (was.closed x line (omega arith)) [
-        | inl c ↦ let le = better (s (end M x)) in inl (omega arith)
-        | inr d ↦ let k = due (start M x) (m.starts x line) d in grind (arith, label_of)
-      ]
-    ];
+    closed = λ x line short. grind (arith, fresh, was.closed x line, better, due, m.starts x line, label_of);
     sources = λ v d at there. let le = better (s v) in grind (arith, label_of);
   }
 
@@ -128,11 +118,7 @@ module _ (M : Map) (m : IsMap M) (s : ℕ → ℕ) (S : ℕ → Option ℕ) wher
       settling_next xs ys f h moves.better moves.fresh (λ v there d. elim d [
         | inl o ↦ elim (last v o) [ inl still ↦ inl still | inr e ↦ inr (inr (subst (IsFollowed M s h) (sym e) followed)) ]
         | inr q ↦ inr (inl (moves.kept (label_of f (s v)) (s v) q))
-      ]) (λ v d at there o. elim (last v o) [
-        | inl still ↦ inr still
-        | inr e ↦ inl (subst (λ (u : ℕ). label_of h (s u) ≤ d) (sym e)
-            (met d (ap S (sym e) ∙ at) (subst (λ (u : ℕ). IsTrue (has_node M u)) e there)))
-      ])
+      ]) (λ v d at there o. grind (arith, last v o, met d))
 
   -- an entry is removed from the queue, between f and g, and its lines are followed, up to h
   pub settling_popped : (f g h : Frontier) (d p : ℕ) → IsAlike f g →
@@ -164,10 +150,7 @@ module _ (M : Map) (m : IsMap M) (s : ℕ → ℕ) (S : ℕ → Option ℕ) wher
           ]
 
       met : (v d : ℕ) → S v ≡ Some d → IsTrue (has_node M v) → label_of g (s v) ≤ d
-      met v d at there = elim (was.sources v d at there) [
-        | inl low ↦ omega (arith, alike_labels f g alike (s v))
-        | inr o ↦ absurd cc
-      ]
+      met v d at there = grind (arith, was.sources v d at there, alike_labels f g alike (s v))
 
   -- ---- where bounds come from
 

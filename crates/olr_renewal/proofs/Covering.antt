@@ -11,6 +11,7 @@ use Rattle.olr_renewal.proofs.Common.{subst, arith, IsMap, holds, Index, Finds, 
 use Rattle.olr_renewal.proofs.Common.{nat_tests, LackQueries, RemovesNone, under_change, NamesDiffer, path_ids_of, begins_there}
 use Rattle.std.proofs.Math.Bool.{or-false}
 use Rattle.olr_paths.proofs.NotedPositions.{back, noted_as}
+use Rattle.std.proofs.lemmas.List.{nil_from_length}
 use Rattle.olr_renewal.proofs.Distances.{near_absent}
 use Rattle.olr_renewal.proofs.SearchedLemmas.{searched_at}
 
@@ -33,10 +34,6 @@ pub record PutAll {A : Type 0} (number : A → ℕ) (path_ids : List ℕ) (index
   pub grows : Includes old now
   pub put : All (λ x. Finds path_ids index (number x) now) xs
 
-no_items : (ys : List ℕ) → length ys ≡ 0 → ys ≡ []
-no_items [] none = refl
-no_items (y ∷ ys) none = absurd (omega arith)
-
 module _ (path_ids : List ℕ) (index : Index) (found : List ℕ) where
   -- a number that no path has
   pub finds_none : (v : ℕ) → path_ids_of index v ≡ [] → Finds path_ids index v found
@@ -56,12 +53,8 @@ pub put_none : {A : Type 0} (number : A → ℕ) (path_ids : List ℕ) (index : 
 put_none number path_ids index xs old now k d v of lt is ids none h = record {
   grows = h.grows;
   put = all_more (λ x. Finds path_ids index (number x) now) xs k d lt h.put
-      (finds_none path_ids index now _ (sym (ids ∙ ap (path_ids_of index) is) ∙ no_items of none));
+      (finds_none path_ids index now _ (sym (ids ∙ ap (path_ids_of index) is) ∙ nil_from_length of none));
 }
-
-pub nothing_at : (js : List Item) → slice_get js 0 ≡ None → js ≡ []
-nothing_at [] at = refl
-nothing_at (j ∷ js) at = absurd cc
 
 -- ---- the positions that are found have all paths that edits affect
 
@@ -172,22 +165,15 @@ module _ (cs : Changes) (is ys : List Item) (none_removed : RemovesNone cs) wher
 
 begins_changed : (c : Option (Option Path)) (i : Item) (js : List Item) (l : CoverageQuery) →
     Begins (under_change c i ++ js) l → BeginsIn i.made l ⊎ Begins js l
-begins_changed None i js l h = h
-begins_changed (Some None) i js l h = inr h
-begins_changed (Some (Some p)) i js l (inl h) = absurd h
-begins_changed (Some (Some p)) i js l (inr h) = inr h
+begins_changed c i js l h = grind arith
 
 -- no path has a coverage query, if none of either list has one
 pub lack_overlaid : (cs : Changes) (is ys : List Item) → LackQueries is → LackQueries ys →
     LackQueries (under_changes cs is ++ ys)
 lack_overlaid cs [] ys first second l h = second l h
 lack_overlaid cs (i ∷ is) ys first second l h =
-    let c = change_at cs i.name in
-    elim (begins_changed c i (under_changes cs is ++ ys) l
-    (subst (λ (js : List Item). Begins js l) (append_assoc (under_change c i) (under_changes cs is) ys) h)) [
-      | inl b ↦ first l (inl b)
-      | inr b ↦ lack_overlaid cs is ys (λ m a. first m (inr a)) second l b
-    ]
+    let rest = rw (append_assoc (under_change (change_at cs i.name) i) (under_changes cs is) ys) at h in
+    grind (arith, begins_changed _ i (under_changes cs is ++ ys) l rest, first, lack_overlaid cs is ys)
 
 -- with more positions
 pub unfound : (old now : List ℕ) (k : ℕ) → Includes old now → has now k ≡ false → has old k ≡ false

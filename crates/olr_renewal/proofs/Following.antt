@@ -1,6 +1,6 @@
 -- A list follows itself, since no name occurs twice.
-use Rattle.olr_renewal.proofs.Common.{if◌then◌else◌, option_map, answer_in, not_named, all_named, named_of, is_some, refl, map}
-use Rattle.olr_renewal.proofs.Common.{without_answer, Follows, Option, Answer, false, List, Made, Item, ◌∷◌, inr, ◌≡◌, ◌∙◌, inl}
+use Rattle.olr_renewal.proofs.Common.{arith, if◌then◌else◌, option_map, not_named, all_named, named_of, is_some, refl, map}
+use Rattle.olr_renewal.proofs.Common.{without_answer, Follows, Option, Answer, false, List, Made, Item, ◌∷◌, inr, ◌≡◌, inl}
 use Rattle.olr_renewal.proofs.Common.{ap, [], NamesDiffer, path_named, flipped, made_in, Bool}
 use lib.Pointwise.{bytes_decides}
 
@@ -13,9 +13,7 @@ follows_behind : (i : Item) (before js : List Item) → is_some (path_named (all
 follows_behind i before [] h f = tt
 follows_behind i before (j ∷ js) h f =
     let p = not_named (named_of j) (all_named js) i.name h in
-    let same : answer_in (i ∷ before) j.name ≡ answer_in before j.name =
-    ap (λ (b : Bool). answer_made (if b then i.made else made_in before j.name)) (flipped j.name i.name p.0) in
-    (elim f.0 [ inl e ↦ inl e | inr e ↦ inr (same ∙ e) ], follows_behind i before js p.1 f.1)
+    grind (arith, p, flipped j.name i.name p.0, f, follows_behind i before js p.1 f.1)
 
 -- where no path is encoded yet
 pub follows_without : (before is : List Item) → Follows before (map without_answer is)

@@ -1,9 +1,9 @@
 -- With a margin a coverage query is at most as long as the farthest one may be.
-use Rattle.olr_renewal.proofs.Common.{CoverageQuery, IsTrue, List, Map, MatchOption, None, Option, Path, QueriesOfWith, Some}
-use Rattle.olr_renewal.proofs.Common.{[], ap, arith, cases_Bool, extended_path, false, inl, inr, length, query_from_with, refl}
-use Rattle.olr_renewal.proofs.Common.{sym, ℕ, ◌+◌, ◌∷◌, ◌<◌, ◌≡◌, ◌≤◌, ◌⊎◌, subst, has, Margin, is_margin, and_parts, ◌*◌, ◌==◌}
-use Rattle.olr_renewal.proofs.Common.{Bool, mul-le-mul_left, Contains, if◌then◌else◌, eqb-true, nat_tests, farthest}
-use Rattle.olr_renewal.proofs.Common.{dm_of-append, path_fault, Refusal, has_line, dm, counted, counted_dm, counted_dm_of}
+use Rattle.olr_renewal.proofs.Common.{CoverageQuery, IsTrue, List, Map, None, Path, QueriesOfWith}
+use Rattle.olr_renewal.proofs.Common.{[], ap, arith, cases_Bool, extended_path, false, inl, inr, query_from_with}
+use Rattle.olr_renewal.proofs.Common.{ℕ, ◌+◌, ◌∷◌, ◌<◌, ◌≡◌, ◌≤◌, ◌⊎◌, has, Margin, is_margin, and_parts, ◌*◌, ◌==◌}
+use Rattle.olr_renewal.proofs.Common.{mul-le-mul_left, Contains, eqb-true, nat_tests, farthest}
+use Rattle.olr_renewal.proofs.Common.{dm_of-append, path_fault, has_line, dm, counted, counted_dm, counted_dm_of}
 use Rattle.olr_renewal.proofs.Common.{QueriesOfExtendedWith, query_to_with, IsQueryWith, Needed, dm_of, limit}
 use Rattle.olr_spec.proofs.CountedLemmas.{get_counted, counted_zero, counted_other, counted_own}
 use Rattle.olr_spec.proofs.JoinLemmas.{empty_stretch}
@@ -24,30 +24,22 @@ module _ (g : Margin) (most : IsTrue (is_margin g)) where
       omega arith
 
   line_twice : (M : Map) (xs : List ℕ) (y : ℕ) → dm (counted g M xs) y ≤ 2 * dm M y
-  line_twice M xs y = elim (cases_Bool (has_line M y)) [
-    | inr off ↦ omega (arith, counted_absent g M xs y off)
-    | inl known ↦ elim (cases_Bool (has xs y)) [
-      | inl on ↦ omega (arith, counted_own g M xs y known on, twice (dm M y))
-      | inr off ↦ omega (arith, counted_other g M xs y off)
-    ]
-  ]
+  line_twice M xs y = grind (
+    arith,
+    counted_absent,
+    counted_own,
+    counted_other,
+    twice (dm M y),
+    cases_Bool (has_line M y),
+    cases_Bool (has xs y),
+  )
 
   lines_twice : (M : Map) (xs ys : List ℕ) → dm_of (counted g M xs) ys ≤ 2 * dm_of M ys
   lines_twice M xs [] = omega arith
   lines_twice M xs (y ∷ ys) = omega (arith, line_twice M xs y, lines_twice M xs ys)
 
   counted_within : (M : Map) (xs : List ℕ) → dm_of M xs ≤ limit → counted_dm_of g M xs ≤ farthest g
-  counted_within M xs short =
-      let d = counted_dm_of g M xs in
-      elim (cases_Bool (g.routes == 0)) [
-        | inl none ↦
-            let same = ap (λ (N : Map). dm_of N xs) (counted_zero g M xs (eqb-true g.routes 0 none)) in
-            let near : d ≤ limit = omega (arith, same) in
-            subst (λ (b : Bool). d ≤ (if b then limit else 2 * limit)) (sym none) near
-        | inr some ↦
-            let far : d ≤ 2 * limit = omega (arith, lines_twice M xs xs) in
-            subst (λ (b : Bool). d ≤ (if b then limit else 2 * limit)) (sym some) far
-      ]
+  counted_within M xs short = grind (arith, cases_Bool (g.routes == 0), eqb-true, counted_zero, lines_twice M xs xs)
 
   module _ (M : Map) (ls : List ℕ) (i : ℕ) (l : CoverageQuery) where
     by_need : (k : ℕ) → i < k → l ≡ query_to_with g M ls i k → (k ≡ i + 1) ⊎ Needed M ls i k → l.within ≤ farthest g
@@ -73,12 +65,7 @@ module _ (g : Margin) (most : IsTrue (is_margin g)) where
   -- a path with a coverage query is encodable
   extended_queries : (M : Map) (P : Path) (queries : List CoverageQuery) → QueriesOfWith g M P queries →
       (l : CoverageQuery) → Contains queries l → (path_fault M P ≡ None) × QueriesOfExtendedWith g M P queries
-  extended_queries M P queries h l on = by (path_fault M P) refl h where
-    by : (o : Option Refusal) → path_fault M P ≡ o →
-        MatchOption o (QueriesOfExtendedWith g M P queries) (λ _. queries ≡ []) →
-        (path_fault M P ≡ None) × QueriesOfExtendedWith g M P queries
-    by None e h = (e, h)
-    by (Some r) e h = let none : length queries ≡ 0 = ap length h in let lt = on.1 in absurd (omega arith)
+  extended_queries M P queries h l on = let lt = on.1 in grind arith
 
   pub within_farthest : (M : Map) (P : Path) (queries : List CoverageQuery) → QueriesOfWith g M P queries →
       (l : CoverageQuery) → Contains queries l → l.within ≤ farthest g

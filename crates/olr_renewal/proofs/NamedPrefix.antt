@@ -1,20 +1,17 @@
 -- The names of the affected paths, as far as a list was passed.
-use Rattle.olr_renewal.proofs.Common.{inl, inr, ◌≡◌, ℕ, ◌+◌, List, [], ◌∷◌, ◌++◌, take, slice_get, Some, refl, sym, ap, ◌∙◌}
+use Rattle.olr_renewal.proofs.Common.{inr, arith, ◌≡◌, ℕ, ◌+◌, List, [], ◌∷◌, ◌++◌, take, slice_get, Some, sym, ap, ◌∙◌}
 use Rattle.olr_renewal.proofs.Common.{map-append, Map, Margin, IsMap, ChangedLine, Item, IsAffected, IsBefore, Picks, ToSkip}
 use Rattle.olr_renewal.proofs.Common.{ToName, AffectedNames, take_more_at, Covers, has, false}
 use Rattle.olr_renewal.proofs.RetainedLemmas.{touched_by, named_affected}
 
 module _ {A : Type 0} (P : A → Type 0) where
   picks_taken : (xs ys : List A) (x : A) → Picks P xs ys → P x → Picks P (xs ++ x ∷ []) (ys ++ x ∷ [])
-  picks_taken [] ys x h p = inl (p, ([], refl, ap (λ (zs : List A). zs ++ x ∷ []) h))
-  picks_taken (y ∷ xs) ys x (inl h) p =
-      inl (h.0, (h.1.0 ++ x ∷ [], picks_taken xs h.1.0 x h.1.1 p, ap (λ (zs : List A). zs ++ x ∷ []) h.1.2))
-  picks_taken (y ∷ xs) ys x (inr h) p = inr (h.0, picks_taken xs ys x h.1 p)
+  picks_taken [] ys x h p = grind arith
+  picks_taken (y ∷ xs) ys x h p = grind (arith, picks_taken xs)
 
   picks_left : (xs ys : List A) (x : A) → Picks P xs ys → (¬ P x) → Picks P (xs ++ x ∷ []) ys
   picks_left [] ys x h n = inr (n, h)
-  picks_left (y ∷ xs) ys x (inl h) n = inl (h.0, (h.1.0, picks_left xs h.1.0 x h.1.1 n, h.1.2))
-  picks_left (y ∷ xs) ys x (inr h) n = inr (h.0, picks_left xs ys x h.1 n)
+  picks_left (y ∷ xs) ys x h n = grind (arith, picks_left xs)
 
 module _ {g : Margin} {N : Map} (n : IsMap N) {T X : List ℕ} {C : List ChangedLine} {is : List Item}
     (q : IsBefore g N N T X C is)

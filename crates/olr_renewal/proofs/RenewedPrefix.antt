@@ -105,12 +105,9 @@ module _ {g : Margin} {N : Map} (n : IsMap N) {T X : List ℕ} {C : List Changed
       encodings_of s ≡ raised_count (encodings_of r) u → SoFar g N T X C before is (take (position + 1) is) s
   retained r s m u some h puts entries one counted =
       let is_A : answer i ≡ Some m.answer = ap (option_map (λ (k : Made). k.answer)) some in
-      let answered : answer_in before i.name ≡ Some m.answer =
-      elim (at_position (Follows before) (λ j. (j.made ≡ None) ⊎ (answer_in before j.name ≡ answer j)) (λ x xs f. f) is
-      position i follows at) [
-        | inl none ↦ let never : ⊥ = cc in absurd never
-        | inr same ↦ same ∙ is_A
-      ] in
+      let told = at_position (Follows before) (λ j. (j.made ≡ None) ⊎ (answer_in before j.name ≡ answer j)) (λ x xs f. f) is
+      position i follows at in
+      let answered : answer_in before i.name ≡ Some m.answer = grind (arith, told, some, is_A) in
       grown r s i m.answer u h (λ ys. rw puts (h.put (i ∷ ys))) refl is_A (inl (answered, entries))
       (λ L q. ((m, (one L q).0, (λ k. record { name = i.name; path = i.path; made = some k })), (one L q).1)) counted
 
