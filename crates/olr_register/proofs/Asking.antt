@@ -1,6 +1,6 @@
 -- What the register shows of its paths.
-use Rattle.olr_register.proofs.Common.{subst, ◌≡◌, ◌≢◌, ℕ, true, false, List, [], ◌∷◌, map, length, Option, Some, None, refl}
-use Rattle.olr_register.proofs.Common.{sym, ap, ◌∙◌, ◌==◌, option_map, option_and_then, MatchOption, IsSomeAnd, result_ok}
+use Rattle.olr_register.proofs.Common.{arith, subst, ◌≡◌, ◌≢◌, ℕ, true, false, List, [], ◌∷◌, map, length, Option, Some, None}
+use Rattle.olr_register.proofs.Common.{refl, sym, ap, ◌∙◌, ◌==◌, option_map, option_and_then, MatchOption, IsSomeAnd, result_ok}
 use Rattle.olr_register.proofs.Common.{ne_eqb, length-map, Map, Margin, Answer, EncodesWith, Path, Content, path_named}
 use Rattle.olr_register.proofs.Common.{published_text, Made, Item, IsEncodingOf, AreEncodings, named_of, all_named, made_in}
 use Rattle.olr_register.proofs.Common.{answer_in, content_on, is_some, items, accepted_map, IsStateRight, AreEncoded}
@@ -11,9 +11,7 @@ answer_found : (g : Margin) (M : Map) (p : Option Path) (o : Option Made) →
     MatchOption p (o ≡ None) (λ P. IsSomeAnd o (IsEncodingOf g M P)) →
     MatchOption p (option_map (λ (m : Made). m.answer) o ≡ None)
     (λ P. IsSomeAnd (option_map (λ (m : Made). m.answer) o) (λ A. EncodesWith g M P A))
-answer_found g M None o h = ap (option_map (λ (m : Made). m.answer)) h
-answer_found g M (Some P) None h = h
-answer_found g M (Some P) (Some m) h = h.answer
+answer_found g M p o h = grind arith
 
 -- of a register with this content
 pub answer_published : (g : Margin) (M : Map) (is : List Item) (c : Content) (name : List ℕ) (o : Option Answer) →
@@ -50,7 +48,7 @@ some_named is h = ne_eqb (length (all_named is)) 0 (λ e. h (sym (length-map is 
 all_encoded : (g : Margin) (M : Map) (is : List Item) → AreEncodings g M is → AreEncoded is
 all_encoded g M [] made = tt
 all_encoded g M (i ∷ is) made = (
-  (λ none. let no : ◌≡◌ {A = Option Made} (Some made.0.0) None = sym made.0.1 ∙ none in absurd cc),
+  (λ none. grind (arith, made.0.1, none)),
   all_encoded g M is made.1,
 )
 

@@ -26,10 +26,7 @@ use Rattle.olr_register.proofs.Replies.{planned_changes}
 nodes_push : (c : Content) (xs : List Change) (x : Change) →
     all_nodes c (xs ++ x ∷ []) ≡ all_nodes c xs ++ nodes_of_change (after c xs).map x
 nodes_push c [] x = append-nil (nodes_of_change c.map x)
-nodes_push c (y ∷ xs) x =
-    ap (λ (vs : List ℕ). nodes_of_change c.map y ++ vs) (nodes_push (next c y) xs x)
-    ∙ sym (append_assoc (nodes_of_change c.map y) (all_nodes (next c y) xs)
-    (nodes_of_change (after (next c y) xs).map x))
+nodes_push c (y ∷ xs) x = grind (arith, nodes_push (next c y) xs x, append_assoc)
 
 flat_push : {A : Type 0} (f : Change → List A) (xs : List Change) (x : Change) →
     flat_map f (xs ++ x ∷ []) ≡ flat_map f xs ++ f x

@@ -25,12 +25,10 @@ pub settled_bounds : {roads : RoadMap} {T : List ℕ} {is : List Item} {bounds :
     AreBoundsOf (map_of roads) (slot_of roads) bounds is → HasBounds roads T is bounds
 settled_bounds h =
     record {
-      under_way = λ known.
-          let right = h.right known in
-          record {
-            closed = λ x there short. inl (right.closed x there short);
-            sources = λ v d at there. inl (right.sources v d at there);
-          };
+      under_way = λ known. record {
+        closed = λ x there short. inl ((h.right known).closed x there short);
+        sources = λ v d at there. inl ((h.right known).sources v d at there);
+      };
       sources = h.sources;
     }
 

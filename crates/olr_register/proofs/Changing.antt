@@ -3,7 +3,7 @@ use Rattle.olr_register.proofs.Common.{arith, Bool, true, false, not, List, filt
 use Rattle.olr_register.proofs.Common.{◌≡◌, Option, is_path, Content, No_path, with_map, set_item, has_name, MapFault, Bad_path}
 use Rattle.olr_register.proofs.Common.{ℕ, with_change, is_reported_first, MatchResult, edit_fault_of, Path_exists, map_fault_of}
 use Rattle.olr_register.proofs.Common.{[], same_name, has_path, Add_path, Set_path, Drop_path, content_on, MayReport, Map_fault}
-use Rattle.olr_register.proofs.Common.{◌∷◌, ◌++◌, map, Ok, Err, IsOk, refl, sym, ap, ◌∙◌, Map, Path, when, Made, Item}
+use Rattle.olr_register.proofs.Common.{◌∷◌, ◌++◌, map, Ok, Err, IsOk, refl, sym, ap, Map, Path, when, Made, Item}
 use Rattle.olr_map.specs.declared.judging.EditPlan.{EditPlan}
 use Rattle.olr_model.specs.declared.edit.EditFault.{EditFault}
 use Rattle.olr_register.proofs.Listed.{names_add, names_set, names_drop}
@@ -40,10 +40,7 @@ reported_by_map g = grind arith
 pub edit_refused : (c : Content) (r : Result Map MapFault) (f : EditFault) →
     MatchResult r (λ _. IsOk {T = EditPlan} (Err f))
     (λ g. ◌≡◌ {A = Result EditPlan EditFault} (Err f) (Err (edit_fault_of g))) → with_map c r ≡ Err (map_fault_of f)
-edit_refused c (Ok N) f h = absurd cc
-edit_refused c (Err g) f h =
-    let same : f ≡ edit_fault_of g = cc in
-    ap (λ (k : Fault). Err k) (sym (ap map_fault_of same ∙ reported_by_map g))
+edit_refused c r f h = grind (arith, reported_by_map)
 
 pub edit_lacks : (c : Content) (r : Result Map MapFault) → IsOk r → MayReport (with_map c r) Memory
 edit_lacks c (Ok N) h = Lacks refl (λ g e. absurd cc)

@@ -19,8 +19,7 @@ module _ (changes : List Change) (P : Item → Type 0) (Q : Named → Type 0)
     (back : (i : Item) → Given changes i → Q (named_of i) → P i) where
   count_named : (is : List Item) (n : ℕ) → AreGiven changes (map held_of is) → CountIs P is n → CountIs Q (all_named is) n
   count_named [] n given count = count
-  count_named (i ∷ is) n given (inl h) = inl (to i given.0 h.0, (h.1.0, count_named is h.1.0 given.1 h.1.1, h.1.2))
-  count_named (i ∷ is) n given (inr h) = inr ((λ k. h.0 (back i given.0 k)), count_named is n given.1 h.1)
+  count_named (i ∷ is) n given h = grind (arith, to i given.0, back i given.0, count_named is)
 
 -- where no path is encoded yet, each is affected
 pub counted_all : (g : Margin) (M : Map) (ns xs : List ℕ) (c : Content) (changes : List Change) (is : List Item) (n : ℕ) →

@@ -1,14 +1,13 @@
 -- Dumps: which maps records can encode, and the records of nodes, lines and paths.
-use Rattle.olr_register.proofs.Common.{inl, Bool, true, List, ◌++◌, take, Some, None, refl, subst, arith, IsMap, start, Line}
-use Rattle.olr_register.proofs.Common.{inr, ◌≡◌, ◌+◌, ◌<◌, ◌∷◌, map, sym, ap, ◌∙◌, Map, has, get, All}
-use Rattle.olr_register.proofs.Common.{ℕ, append_assoc, record_line, concat-append, list_all_more, take_more_at, margin_changes}
-use Rattle.olr_register.proofs.Common.{false, length, Option, concat, Content, Change, get_or, nat_cmp, FinMap, IsTrue, no_line}
-use Rattle.olr_register.proofs.Common.{[], AllByRecursion, is_recordable_map, entries_sorted, slice_get-get_or}
-use Rattle.olr_register.proofs.Common.{slice_get, list_all, both_ways, and_parts, dump_lines, unwrap_or, map-append, lines_out}
-use Rattle.olr_register.proofs.Common.{is_some, flat_map, entries, has_node, and_from, has_line, coord_at, no_coord, All-cons}
-use Rattle.olr_register.proofs.Common.{All-contains}
-use Rattle.olr_register.proofs.Common.{cases_Bool, node_change, line_change, path_change, get-entries, list_all_at}
-use Rattle.olr_register.proofs.Common.{is_recordable_line_at, is_recordable_node_at, is_recordable_coord, is_recordable_shape}
+use Rattle.olr_register.proofs.Common.{inl, Bool, true, List, ◌++◌, take, Some, refl, subst, arith, IsMap, start, Line, inr}
+use Rattle.olr_register.proofs.Common.{◌≡◌, ◌+◌, ◌<◌, ◌∷◌, map, sym, ap, ◌∙◌, Map, has, get, All, ℕ, append_assoc, record_line}
+use Rattle.olr_register.proofs.Common.{concat-append, list_all_more, take_more_at, margin_changes, false, length, Option}
+use Rattle.olr_register.proofs.Common.{concat, Content, Change, get_or, nat_cmp, FinMap, IsTrue, no_line, [], AllByRecursion}
+use Rattle.olr_register.proofs.Common.{is_recordable_map, entries_sorted, slice_get-get_or, slice_get, list_all, both_ways}
+use Rattle.olr_register.proofs.Common.{and_parts, dump_lines, unwrap_or, map-append, lines_out, is_some, flat_map, entries}
+use Rattle.olr_register.proofs.Common.{has_node, and_from, has_line, coord_at, no_coord, All-cons, All-contains, cases_Bool}
+use Rattle.olr_register.proofs.Common.{node_change, line_change, path_change, get-entries, list_all_at, is_recordable_line_at}
+use Rattle.olr_register.proofs.Common.{is_recordable_node_at, is_recordable_coord, is_recordable_shape}
 use Rattle.std.specs.FinMap.Entries.{find}
 use Rattle.std.proofs.lemmas.List.{flat_map_more}
 use Rattle.std.proofs.lemmas.List.Sums.{AllPass-from_list_all, list_all-from_AllPass}
@@ -60,10 +59,7 @@ one_more q xs k d lt h before =
 -- the value at a number, or one that passes
 default_passes : {X : Type 0} (q : X → Bool) (m : FinMap nat_cmp X) (k : ℕ) (d : X) → q d ≡ true → Tested q (entries m) →
     q (unwrap_or (get m k) d) ≡ true
-default_passes {X} q m k d e a = by (get m k) refl where
-  by : (o : Option X) → get m k ≡ o → q (unwrap_or o d) ≡ true
-  by None i = e
-  by (Some x) i = value_passes q m k x a i
+default_passes q m k d e a = grind (arith, value_passes q m k)
 
 module _ (M : Map) where
   tested : is_recordable_map M ≡ true → Tested is_recordable_coord (entries M.nodes)

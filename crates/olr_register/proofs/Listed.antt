@@ -1,10 +1,10 @@
 -- Lists of paths after one is added, replaced or dropped: their names, and what is true of each item.
-use Rattle.olr_register.proofs.Common.{inl, ◌⊎◌, ◌≡◌, ℕ, not, ◌∷◌, map, Some, None, refl, sym, ap, Map, Path, Made, Item}
-use Rattle.olr_register.proofs.Common.{Bool, filter, is_some, is_none, Follows, held_of, AreGiven, Add_path, Set_path, to_renew}
-use Rattle.olr_register.proofs.Common.{true, cond, List, [], ◌++◌, Option, IfSome, Named, Change, Margin, gives, Answer}
-use Rattle.olr_register.proofs.Common.{false, same_name, path_named, not_named, named_held, Set_margin, map-append, answer_made}
-use Rattle.olr_register.proofs.Common.{arith, or-false, or_right, named_of, all_named, answer_in, Reported, set_item, with_path}
-use Rattle.olr_register.proofs.Common.{list_any, list_any-append, IsEncodingOf, AreEncodings, AreEncodingsIfAny, without_answer}
+use Rattle.olr_register.proofs.Common.{inl, ◌⊎◌, ◌≡◌, ℕ, not, ◌∷◌, map, Some, None, refl, sym, ap, Map, Path, Made, Item, Bool}
+use Rattle.olr_register.proofs.Common.{filter, is_some, is_none, Follows, held_of, AreGiven, Add_path, Set_path, to_renew, true}
+use Rattle.olr_register.proofs.Common.{List, [], ◌++◌, Option, IfSome, Named, Change, Margin, gives, Answer, false, same_name}
+use Rattle.olr_register.proofs.Common.{path_named, not_named, named_held, Set_margin, map-append, answer_made, arith, or-false}
+use Rattle.olr_register.proofs.Common.{or_right, named_of, all_named, answer_in, Reported, set_item, with_path, list_any}
+use Rattle.olr_register.proofs.Common.{list_any-append, IsEncodingOf, AreEncodings, AreEncodingsIfAny, without_answer}
 use Rattle.std.proofs.lemmas.Simd.{map-map}
 use lib.Pointwise.{bytes_decides}
 
@@ -51,24 +51,14 @@ pub each_set : {P Q : Item → Type 0} {F G : List Item → Type 0} → Each P F
     G (map (set_item name path made) is)
 each_set e d name path made new old [] f = d.none
 each_set {P} {Q} e d name path made new old (i ∷ is) f =
-    let one : Q (set_item name path made i) =
-    elim (same_name i.name name) as (λ b. same_name i.name name ≡ b →
-    Q (cond b (record { name = i.name; path = path; made = made }) i)) [
-      | true ↦ λ same. new i same
-      | false ↦ λ other. old i other (e.first i is f)
-    ] refl in
+    let one : Q (set_item name path made i) = grind (arith, new i, old i, e.first i is f) in
     d.more (set_item name path made i) (map (set_item name path made) is) one
     (each_set e d name path made new old is (e.rest i is f))
 
 pub each_left : {P : Item → Type 0} {F : List Item → Type 0} → Each P F → (keep : Item → Bool) (is : List Item) → F is →
     F (filter keep is)
 each_left e keep [] f = f
-each_left {P} {F} e keep (i ∷ is) f =
-    let rest = each_left e keep is (e.rest i is f) in
-    elim (keep i) as (λ b. F (cond b (i ∷ filter keep is) (filter keep is))) [
-      | true ↦ e.more i (filter keep is) (e.first i is f) rest
-      | false ↦ rest
-    ]
+each_left e keep (i ∷ is) f = grind (arith, e.more i (filter keep is), e.first i is f, each_left e keep is (e.rest i is f))
 
 pub each_encoded : (g : Margin) (M : Map) →
     Each (λ i. (m : Made) × (i.made ≡ Some m) × IsEncodingOf g M i.path m) (AreEncodings g M)

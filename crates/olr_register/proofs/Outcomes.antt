@@ -1,10 +1,10 @@
 -- What it takes to answer a command: one that is accepted, one that raises no count, and one that is rejected; and which
 -- reference a text encodes, or why it encodes none.
-use Rattle.olr_register.proofs.Common.{◌≡◌, ℕ, true, List, [], Option, Some, None, is_some, Ok, Err, refl, sym, subst, IsFalse}
+use Rattle.olr_register.proofs.Common.{arith, ◌≡◌, ℕ, List, [], Option, Some, None, is_some, Ok, Err, refl, sym, subst, IsFalse}
 use Rattle.olr_register.proofs.Common.{IsErrAnd, Content, Change, Command, State, changes_made, text_fault, IsOutcome, ByState}
-use Rattle.olr_register.proofs.Common.{may_want, reply_of, command_fault_of, Reply, CommandFault, Affects, Registered, Answered}
-use Rattle.olr_register.proofs.Common.{encodes, ap, ◌∙◌, result_ok, Result, changes_made_in, unless_fault, Not_a_reference}
-use Rattle.olr_register.proofs.Common.{unconcerned, CountIs, Reference, text_fault_of, IsRefusal, RegisterState, Represents}
+use Rattle.olr_register.proofs.Common.{reply_of, command_fault_of, Reply, CommandFault, Affects, Registered, Answered, encodes}
+use Rattle.olr_register.proofs.Common.{ap, ◌∙◌, result_ok, Result, changes_made_in, Not_a_reference, unconcerned, CountIs}
+use Rattle.olr_register.proofs.Common.{Reference, text_fault_of, IsRefusal, RegisterState, Represents}
 use Rattle.olr_commands.specs.Reply.{Lacks}
 use Rattle.base64.specs.Engines.{standard}
 use Rattle.base64.specs.GeneralPurpose.{decode_of, decoded_of}
@@ -112,11 +112,7 @@ explain_refused x text f g is fault = refused_same x (state.Explain text) (Err f
 explain_lacks : (x : Registered) (text : List ℕ) (f : CommandFault) → command_fault_of f ≡ state.Memory →
     Answered x (state.Explain text) (Err f) x
 explain_lacks x text f is =
-    refused_same x (state.Explain text) (Err f) f refl (λ o. Lacks is (may (state x.state.content o) (text_fault text)))
-  where
-    may : (s : State) (o : Option state.TextFault) → may_want (unless_fault s o) ≡ true
-    may s None = refl
-    may s (Some g) = refl
+    refused_same x (state.Explain text) (Err f) f refl (λ o. Lacks is (grind arith))
 
 decoded : (text : List ℕ) {r : Result (List ℕ) DecodeError} → decode_of standard text ≡ r →
     decoded_of standard text ≡ result_ok r

@@ -1,11 +1,11 @@
 -- What is reported of a list, and of one path that is added, replaced or dropped, compared with the answers of the paths
 -- on their maps.
-use Rattle.olr_register.proofs.Common.{has_name, arith, inl, inr, ◌≡◌, ℕ, true, false, cond, List, [], ◌∷◌, Option, Some, None}
-use Rattle.olr_register.proofs.Common.{refl, sym, ap, ◌∙◌, subst, option_map, MatchOption, IsSomeAnd, Map, Path, Answer}
-use Rattle.olr_register.proofs.Common.{EncodesWith, Margin, same_name, path_named, IsContent, AllOf, Differences, Made, Item}
-use Rattle.olr_register.proofs.Common.{IsEncodingOf, AreEncodings, all_named, made_in, answer_in, Reported, ◌⊎◌, ◌≢◌, not, ◌++◌}
-use Rattle.olr_register.proofs.Common.{map, filter, is_some, cases_Bool, none_of, content_on, Follows, set_item, follows_self}
-use Rattle.olr_register.proofs.Common.{◌↔◌, HasAnswer, NamesDiffer, named_path, same_is, answer_made, Entry, entry}
+use Rattle.olr_register.proofs.Common.{has_name, arith, inl, inr, ◌≡◌, ℕ, true, false, List, [], ◌∷◌, Option, Some, None, refl}
+use Rattle.olr_register.proofs.Common.{ap, ◌∙◌, subst, option_map, MatchOption, IsSomeAnd, Map, Path, Answer, EncodesWith}
+use Rattle.olr_register.proofs.Common.{Margin, same_name, path_named, IsContent, AllOf, Differences, Made, Item, IsEncodingOf}
+use Rattle.olr_register.proofs.Common.{AreEncodings, all_named, made_in, answer_in, Reported, ◌⊎◌, ◌≢◌, not, ◌++◌, map, filter}
+use Rattle.olr_register.proofs.Common.{is_some, cases_Bool, none_of, content_on, Follows, set_item, follows_self, ◌↔◌}
+use Rattle.olr_register.proofs.Common.{HasAnswer, NamesDiffer, named_path, same_is, answer_made, Entry, entry}
 use Rattle.olr_spec.proofs.AnswerLemmas.{one_answer_with}
 use Rattle.olr_paths.proofs.NamedEntries.{sets_none}
 use Rattle.olr_register.proofs.Listed.{each_add, each_set, each_left, each_encoded, each_follows, follows_untold, still_told}
@@ -17,12 +17,7 @@ Found g M p o = MatchOption p (o ≡ None) (λ P. IsSomeAnd o (IsEncodingOf g M 
 pub made_found : (g : Margin) (M : Map) (is : List Item) (name : List ℕ) → AreEncodings g M is →
     Found g M (path_named (all_named is) name) (made_in is name)
 made_found g M [] name a = refl
-made_found g M (i ∷ is) name a =
-    elim (same_name i.name name) as (λ b. Found g M (cond b (Some i.path) (path_named (all_named is) name))
-    (cond b i.made (made_in is name))) [
-      | true ↦ subst (Found g M (Some i.path)) (sym a.0.1) a.0.2
-      | false ↦ made_found g M is name a.1
-    ]
+made_found g M (i ∷ is) name a = grind (arith, made_found g M is name)
 
 -- the stored answer of a path is its answer on the map
 retained_answer : (g : Margin) (M : Map) (P : Path) (o : Option Made) (A : Answer) (m : Made) → o ≡ Some m → IsEncodingOf g M P m →
@@ -39,12 +34,14 @@ answer_held g M is content a name A =
       by None o e f none = ((λ h. absurd (cc (e, h.1))), (λ h. absurd (grind (arith, f, none, h))))
       by (Some P) None e f h = absurd h
       by (Some P) (Some m) e f right = (
-        λ h.
-            let same : h.0 ≡ P = cc (e, h.1) in
-            let one =
-            one_answer_with g M content.map P (named_path (all_named is) name P content.paths e) m.answer A right.answer
-            (subst (λ (Q : Path). EncodesWith g M Q A) same h.2) in
-            ap (option_map (λ (n : Made). n.answer)) f ∙ ap (λ (B : Answer). Some B) one,
+        (λ h. grind (
+          arith,
+          e,
+          f,
+          h,
+          one_answer_with g M content.map P (named_path (all_named is) name P content.paths e)
+              m.answer A right.answer,
+        )),
         λ h. (P, e, retained_answer g M P (made_in is name) A m f right h),
       )
 
@@ -54,24 +51,16 @@ pub planned_changes : (g h : Margin) (M N : Map) (before js : List Item) (es : L
     → Differences (content_on g M before) (content_on h N js) es
 planned_changes g h M N before [] es content was a r = r
 planned_changes g h M N before (j ∷ js) es content was a r =
-    let held = answer_held g M before content was j.name r.0 in (
-      r.0,
-      r.1,
-      retained_answer h N j.path j.made r.0 a.0.0 a.0.1 a.0.2 r.2,
-      planned_changes g h M N before js r.1 content was a.1 r.3,
-      elim r.4 [ inl k ↦ inl (held.1 k.0, k.1) | inr k ↦ inr ((λ had. k.0 (held.0 had)), k.1) ],
-    )
+    let held = answer_held g M before content was j.name r.0 in
+    let one = retained_answer h N j.path j.made r.0 a.0.0 a.0.1 a.0.2 r.2 in
+    grind (arith, held, one, r, planned_changes g h M N before js r.1 content was a.1 r.3)
 
 pub reported_all : (g : Margin) (M : Map) (js : List Item) (es : List Entry) → AreEncodings g M js → Reported [] js es →
     AllOf g M (all_named js) es
 reported_all g M [] es a r = r
-reported_all g M (j ∷ js) es a r = (
-  r.0,
-  r.1,
-  retained_answer g M j.path j.made r.0 a.0.0 a.0.1 a.0.2 r.2,
-  reported_all g M js r.1 a.1 r.3,
-  grind (arith, r.4),
-)
+reported_all g M (j ∷ js) es a r =
+    let one = retained_answer g M j.path j.made r.0 a.0.0 a.0.1 a.0.2 r.2 in
+    grind (arith, one, r, reported_all g M js r.1 a.1 r.3)
 
 -- a path that is added is reported last
 reported_last : (before js : List Item) (j : Item) (A : Answer) (es : List Entry) →
@@ -79,16 +68,7 @@ reported_last : (before js : List Item) (j : Item) (A : Answer) (es : List Entry
     Reported before (js ++ j ∷ []) (es ++ entry j.name A ∷ [])
 reported_last before [] j A es made new r =
     (A, [], made, refl, inr (new, ap (λ (fs : List Entry). fs ++ entry j.name A ∷ []) r))
-reported_last before (k ∷ js) j A es made new r = (
-  r.0,
-  r.1 ++ entry j.name A ∷ [],
-  r.2,
-  reported_last before js j A r.1 made new r.3,
-  elim r.4 [
-    | inl h ↦ inl (h.0, rw h.1 refl)
-    | inr h ↦ inr (h.0, rw h.1 refl)
-  ],
-)
+reported_last before (k ∷ js) j A es made new r = grind (arith, r, reported_last before js j A r.1 made new r.3)
 
 -- one that is replaced
 reported_if_set : (g : Margin) (M : Map) (before : List Item) (name : List ℕ) (path : Path) (m : Made) →

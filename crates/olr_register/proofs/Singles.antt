@@ -4,13 +4,13 @@ use Rattle.olr_register.proofs.Common.{refl, sym, ap, ◌∙◌, ◌==◌, ◌&&
 use Rattle.olr_register.proofs.Common.{touched_lines, HasCoord, Path, is_path, map_of, RoadMap, Work, Named, Content, same_name}
 use Rattle.olr_register.proofs.Common.{Fault, Change, On_map, Add_path, Set_path, Drop_path, with_change, at_once, Make}
 use Rattle.olr_register.proofs.Common.{HasCoords, Differences, takes_memory, may_want, Affects, By_name, By_node, By_line}
-use Rattle.olr_register.proofs.Common.{reply_of, command_fault_of, Reply, CommandFault, changes_keep, DistanceBounds}
-use Rattle.olr_register.proofs.Common.{Item, AreEncodings, all_named, arith, IsRenewal, nodes_of}
-use Rattle.olr_register.proofs.Common.{lines_of, changed_of, ChangeSet, follows_self, has_name, Registered, content_on, items}
-use Rattle.olr_register.proofs.Common.{state_of, HasBounds, IsStateRight, CanRenewAfter, MayReport, ByContent, Lacks, Answered}
-use Rattle.olr_register.proofs.Common.{IsTouchedBy, encodes, begins_drop, append-nil, Option, Margin, Set_margin, to_renew}
-use Rattle.olr_register.proofs.Common.{is_margin, IsTrue, option_batch, CanRenewTo, raised_work, entries_of, Renewed, IsState}
-use Rattle.olr_register.proofs.Common.{named_of, length-map, IsPaths, CountIs, paths_raise, Inside, IsRefusal, Open}
+use Rattle.olr_register.proofs.Common.{reply_of, command_fault_of, Reply, CommandFault, changes_keep, DistanceBounds, Item}
+use Rattle.olr_register.proofs.Common.{AreEncodings, all_named, arith, IsRenewal, nodes_of, lines_of, changed_of, ChangeSet}
+use Rattle.olr_register.proofs.Common.{follows_self, has_name, Registered, content_on, items, state_of, HasBounds, IsStateRight}
+use Rattle.olr_register.proofs.Common.{CanRenewAfter, MayReport, ByContent, Lacks, Answered, IsTouchedBy, encodes, begins_drop}
+use Rattle.olr_register.proofs.Common.{append-nil, Margin, Set_margin, to_renew, is_margin, IsTrue, option_batch, CanRenewTo}
+use Rattle.olr_register.proofs.Common.{raised_work, entries_of, Renewed, IsState, named_of, length-map, IsPaths, CountIs}
+use Rattle.olr_register.proofs.Common.{paths_raise, Inside, IsRefusal}
 use Rattle.std.proofs.lemmas.List.{nil_from_length}
 use Rattle.olr_renewal.specs.Encoded.{IsAdded, IsSet}
 use Rattle.olr_register.proofs.Changing.{add_ok, set_ok, drop_ok}
@@ -52,10 +52,9 @@ module _ (r : Inside) {x : Registered} (view : of_parts r.margin r.roads (items 
   c = content_on g M is
 
   shut : r.batch ≡ None
-  shut = by r.batch (ap (λ (y : Registered). y.state.batch) view ∙ none) where
-    by : (o : Option Open) → option_batch r.roads is o ≡ None → o ≡ None
-    by None h = refl
-    by (Some b) h = absurd cc
+  shut =
+      let closed : option_batch r.roads is r.batch ≡ None = ap (λ (y : Registered). y.state.batch) view ∙ none in
+      grind (arith, closed)
 
   pub no_path : length x.state.content.paths ≡ 0 → is ≡ []
   no_path bare =

@@ -1,14 +1,13 @@
 -- What edits touch: the maps before and after them have no other difference.
 use Rattle.olr_register.proofs.Common.{inl, false, List, ◌++◌, refl, subst, arith, IsMap, map_of, Margin, Begins, IsTrue, Batch}
-use Rattle.olr_register.proofs.Common.{inr, ◌≡◌, ℕ, ◌∷◌, Ok, sym, ◌∙◌, ◌||◌, Map, Edit, has, Item, Some, ◌==◌, map}
-use Rattle.olr_register.proofs.Common.{true, nodes_of, lines_of, CanRenew, Contains, is_margin, Move_node, Drop_node, Drop_line}
-use Rattle.olr_register.proofs.Common.{[], edited, RoadMap, to_renew, or_left, Add_node, Add_line, Set_line, ArePaths, IsBefore}
-use Rattle.olr_register.proofs.Common.{AllByRecursion, is_path, without_answer, DistanceBounds, option_to_list, differences_add}
-use Rattle.olr_register.proofs.Common.{or_right, all_named, ChangeSet, IsTouchedBy, IsRegister, IsContent, content_on}
-use Rattle.olr_register.proofs.Common.{CanRenewTo}
-use Rattle.olr_register.proofs.Common.{list_any-append, AreEncodingsIfAny, follows_without, IsStateRight, Contains-append_cases}
-use Rattle.olr_register.proofs.Common.{touched_nodes, touched_lines, AreTouched, CoverageQuery, Contains-cases, edit_differs}
-use Rattle.olr_register.proofs.Common.{ChangedLine, changes_of, changed_of, map_before, under_batch, none_differs, NamesDiffer}
+use Rattle.olr_register.proofs.Common.{inr, ◌≡◌, ℕ, ◌∷◌, Ok, sym, ◌∙◌, ◌||◌, Map, Edit, has, Item, Some, ◌==◌, map, true}
+use Rattle.olr_register.proofs.Common.{nodes_of, lines_of, CanRenew, Contains, is_margin, [], edited, RoadMap, to_renew}
+use Rattle.olr_register.proofs.Common.{ArePaths, IsBefore, AllByRecursion, is_path, without_answer, DistanceBounds}
+use Rattle.olr_register.proofs.Common.{option_to_list, differences_add, all_named, ChangeSet, IsTouchedBy, IsRegister}
+use Rattle.olr_register.proofs.Common.{IsContent, content_on, CanRenewTo, list_any-append, AreEncodingsIfAny, follows_without}
+use Rattle.olr_register.proofs.Common.{IsStateRight, Contains-append_cases, touched_nodes, touched_lines, AreTouched}
+use Rattle.olr_register.proofs.Common.{CoverageQuery, Contains-cases, edit_differs, ChangedLine, changes_of, changed_of}
+use Rattle.olr_register.proofs.Common.{map_before, under_batch, none_differs, NamesDiffer}
 use Rattle.olr_map.specs.declared.judging.EditPlan.{EditPlan}
 use Rattle.olr_map.specs.EditPlans.{IsEditPlan, planned_changes}
 use Rattle.olr_register.proofs.Listed.{named_to_renew}
@@ -22,12 +21,7 @@ only_one : (d c : ChangedLine) → Contains (d ∷ []) c → d ≡ c
 only_one d c k = grind (arith, Contains-cases d c [] k, none_contained)
 
 starts_of : (M : Map) (e : Edit) (c : ChangedLine) → Contains (changes_of M e) c → has (touched_nodes M e) c.from ≡ true
-starts_of M (Add_node v p) c k = absurd (none_contained c k)
-starts_of M (Move_node v p) c k = absurd (none_contained c k)
-starts_of M (Drop_node v) c k = absurd (none_contained c k)
-starts_of M (Add_line x l) c k = grind (arith, only_one _ c k)
-starts_of M (Set_line x frc fow len shape) c k = grind (arith, only_one, none_contained)
-starts_of M (Drop_line x) c k = grind (arith, only_one _ c k)
+starts_of M e c k = grind (arith, only_one, none_contained, k)
 
 -- ---- no edit, and one edit more
 
@@ -65,10 +59,7 @@ touched_more L M N e ns xs ms ys cs ds was ok nodes lines changes =
         there = all.there;
         here = all.here;
       };
-      starts = λ c k. elim (Contains-append_cases cs (changes_of M e) c k) [
-        | inl h ↦ nodes c.from ∙ or_left (has ns c.from) (has (touched_nodes M e) c.from) (was.starts c h)
-        | inr h ↦ nodes c.from ∙ or_right (has ns c.from) (has (touched_nodes M e) c.from) (starts_of M e c h)
-      ];
+      starts = λ c k. grind (arith, Contains-append_cases cs (changes_of M e) c k, nodes c.from, was.starts c, starts_of M e c);
     })
 
 -- a single edit
