@@ -4,9 +4,8 @@
 --         Q whether it reaches a touched node
 --     source_in, sources_in direction      where the search in a direction begins at changed lines, and its start values
 --     AreDetours N slot t d      the searches for the distances to where changed lines begin, and from where they end
---     AreDetoursIfFew      the same, if not too many lines changed
 --     AreBoundsOf N slot f is      the bounds are right, and they are those of all queries
-use Rattle.std.specs.Prelude.{ℕ, ◌≤◌, min, List, map, IsTrue, length}
+use Rattle.std.specs.Prelude.{ℕ, ◌≤◌, min, List, map, IsTrue}
 use Rattle.olr_spec.specs.Map.{Map, has_node}
 use Rattle.olr_spec.specs.Queries.{CoverageQuery}
 use Rattle.olr_spec.specs.Detours.{ChangedLine, Near}
@@ -54,9 +53,6 @@ pub record AreDetours (N : Map) (slot : ℕ → ℕ) (t : ChangeSet) (d : Detour
 -- with more changed lines than this, no detours are searched for
 abbrev pub most_changed : ℕ
 most_changed = 8
-
-abbrev pub AreDetoursIfFew : Map → (ℕ → ℕ) → ChangeSet → Detours → Type 0
-AreDetoursIfFew N slot t d = length (changed_of t) ≤ most_changed → AreDetours N slot t d
 
 pub record AreBoundsOf (N : Map) (slot : ℕ → ℕ) (f : DistanceBounds) (is : List Item) : Type 0 where
   pub right : IsRight N slot f

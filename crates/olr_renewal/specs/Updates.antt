@@ -6,14 +6,14 @@
 --     FindsCandidates map slot u near is found      the positions that are found are candidates
 --     Skips map u i, Names map u i, IsAction map u i a      the path is not affected;  it is, or wasn't encoded yet;  the
 --         action for it
-use Rattle.std.specs.Prelude.{ℕ, List}
+use Rattle.std.specs.Prelude.{ℕ, ◌≤◌, List, length}
 use Rattle.olr_spec.specs.Map.{Map}
 use Rattle.olr_spec.specs.Queries.{CoverageQuery}
 use Rattle.olr_route.specs.declared.distances.Dijkstra.{Dijkstra}
 use Rattle.olr_paths.specs.Items.{Item}
 use Rattle.olr_paths.specs.Origins.{AreShort}
 use Rattle.olr_renewal.specs.Actions.{ToSkip, ToName, IsActionFor}
-use Rattle.olr_renewal.specs.AffectedSearches.{AreBoundsOf, AreDetours, AreDetoursIfFew, IsSearchedFor}
+use Rattle.olr_renewal.specs.AffectedSearches.{AreBoundsOf, AreDetours, IsSearchedFor, most_changed}
 use Rattle.olr_renewal.specs.Candidates.{AreCandidates}
 use Rattle.olr_renewal.specs.ChangeSets.{nodes_of, lines_of, changed_of}
 use Rattle.olr_renewal.specs.declared.actions.Action.{Action}
@@ -33,7 +33,7 @@ module _ {M : Type 0} (map : M → Map) (slot : M → ℕ → ℕ) (u : MapUpdat
   AreReady d = AreDetours (map u.map.now) (slot u.map.now) u.touched.now d
 
   abbrev pub AreReadyIfFew : Detours → Type 0
-  AreReadyIfFew d = AreDetoursIfFew (map u.map.now) (slot u.map.now) u.touched.now d
+  AreReadyIfFew d = length (changed_of u.touched.now) ≤ most_changed → AreReady d
 
   abbrev pub FindsCandidates : Dijkstra → List Item → List ℕ → Type 0
   FindsCandidates near is found = AreCandidates (map u.map.now) (slot u.map.now) u.touched.now near is found

@@ -1,8 +1,6 @@
 //! Paths that are added or replaced one at a time, and encoded at once.
-ghost use Rattle.std.specs.Prelude.{◌≡◌, [], ◌∷◌, map as list_map, is_some, false, string_bytes, IfOk, OnErr};
+ghost use Rattle.std.specs.Prelude.{◌≡◌, is_some, false, string_bytes, IfOk, OnErr};
 ghost use Rattle.olr_commands.specs.State.{path_named};
-ghost use Rattle.olr_commands.specs.Reply.{entry};
-ghost use Rattle.olr_commands.specs.Words.{entry_of};
 ghost use Rattle.olr_paths.specs.Items.{items, all_named, made_of};
 ghost use Rattle.olr_renewal.specs.Encoded.{IsAdded, IsSet};
 
@@ -15,15 +13,6 @@ use olr_refs::{Margin, Path};
 use olr_route::{Dijkstra, Work};
 use std::alloc::{AllocError, Global};
 use std::rc::Rc;
-
-/// A list with one entry, that of a path.
-fn only_entry(alloc: Global, name: &str, published: &Published) -> Result<Vec<Entry>, AllocError>
-    ensures { IfOk result (λ es. list_map entry_of es.items ≡ entry name.now (made_of published.now).answer ∷ []) }
-{
-    let mut entries = Vec::with_capacity(alloc, 1)?;
-    entries.push_reserved(published.entry(alloc, name)?);
-    Ok(entries)
-}
 
 /// What is reported of one path that was encoded.
 fn renewed_alone(
@@ -61,7 +50,8 @@ pub fn add<M: MapRead>(
     ensures err { OnErr result (items list.new ≡ items list.old) }
 {
     let (published, work) = encode(alloc, map, &path, margin, &[], query)?;
-    let entries = only_entry(alloc, name.as_str(), &published)?;
+    let entry = published.entry(alloc, name.as_str())?;
+    let entries = vec![in alloc; entry]?;
     let renewed = renewed_alone(alloc, entries, &published, work)?;
     let path = Rc::new(alloc, path)?;
     let published = Some(published);
