@@ -1,7 +1,7 @@
 -- Records in the place of a log.
 use Rattle.std.proofs.Common.{◌≡◌, ◌∙◌, ◌⊎◌, ◌∷◌, ℕ, Bool, true, false, List, [], inl, refl, sym, ap, subst}
 use Rattle.std.specs.Prelude.{is_some, not, ◌&&◌}
-use Rattle.std.proofs.lemmas.Bool.{and_parts}
+use Rattle.std.proofs.lemmas.Bool.{and_parts, not-true}
 use Rattle.olr_input.specs.Gates.{Untouched, Replacement, Replaced, Left_as_it_was, Compacts, asks, batch, is_closed}
 use Rattle.olr_input.specs.Journals.{Only, is_empty, is_whole}
 use Rattle.olr_input.specs.Unstored.{waiting}
@@ -12,16 +12,12 @@ none_of : (text : List ℕ) → is_empty text ≡ true → text ≡ []
 none_of [] e = refl
 none_of (b ∷ text) e = absurd cc
 
-open_of : (b : Bool) → not b ≡ true → b ≡ false
-open_of true e = absurd cc
-open_of false e = refl
-
 -- records are asked for while no batch is open, of a log that has not failed
 pub asked : {J : Type 0} (g : Gate J) → asks g ≡ true → (is_closed g ≡ false) × (batch g ≡ [])
 asked g e =
     let first = and_parts (g.is_wanted && not (is_closed g)) (is_empty (batch g)) e in
     let second = and_parts g.is_wanted (not (is_closed g)) first.0 in
-    (open_of (is_closed g) second.1, none_of (batch g) first.1)
+    (not-true (is_closed g) second.1, none_of (batch g) first.1)
 
 module _ {J : Type 0} (j : journal.Ghosts J) where
   -- the records aren't whole

@@ -3,7 +3,6 @@ use Rattle.std.proofs.Common.{◌≡◌, ◌∙◌, ℕ, zero, ◌+◌, ◌<◌,
 use Rattle.std.proofs.Common.{Some, None, refl, sym, ap, subst, arith, suc}
 use Rattle.std.proofs.lemmas.Bool.{cases_Bool}
 use Rattle.std.proofs.lemmas.List.{append-nil}
-use Rattle.std.specs.Prelude.{if◌then◌else◌}
 use Rattle.csv.specs.Machine.{step, Read, in_field, start_field, start_record, is_end, ends_at_end, fields_after}
 use Rattle.csv.specs.Machine.{field_after, next_record}
 use Rattle.csv.specs.Reading.{default_config, records_next, records_from, AreRecords, Reached, strip_bom}
@@ -16,33 +15,28 @@ use Rattle.olr_input.specs.Sessions.{HasNone, TakesOne, csv_records}
 Rests : State × Action → Type 0
 Rests p = is_end p.1 ≡ true → ends_at_end p.0 ≡ false
 
-if_rests : (b : Bool) (p q : State × Action) → Rests p → Rests q → Rests (if b then p else q)
-unfolding Rests
-if_rests true p q h g = h
-if_rests false p q h g = g
-
 in_field_rests : (c : ℕ) → Rests (in_field default_config c)
 unfolding Rests
-in_field_rests c = grind (arith, if_rests)
+in_field_rests c = grind (arith, cases_Bool)
 
 start_field_rests : (c : ℕ) → Rests (start_field default_config c)
 unfolding Rests
-start_field_rests c = grind (arith, if_rests, in_field_rests)
+start_field_rests c = grind (arith, cases_Bool, in_field_rests)
 
 start_record_rests : (c : ℕ) → Rests (start_record default_config c)
 unfolding Rests
-start_record_rests c = grind (arith, if_rests, start_field_rests)
+start_record_rests c = grind (arith, cases_Bool, start_field_rests)
 
 step_rests : (s : State) (c : ℕ) → Rests (step default_config s c)
 unfolding Rests
 step_rests st.StartRecord c = start_record_rests c
 step_rests st.StartField c = start_field_rests c
 step_rests st.InField c = in_field_rests c
-step_rests st.InQuoted c = grind (arith, if_rests)
+step_rests st.InQuoted c = grind (arith, cases_Bool)
 step_rests st.InEscape c = λ e. absurd cc
-step_rests st.AfterQuote c = grind (arith, if_rests, in_field_rests)
-step_rests st.InComment c = grind (arith, if_rests)
-step_rests st.AfterCr c = grind (arith, if_rests, start_record_rests)
+step_rests st.AfterQuote c = grind (arith, cases_Bool, in_field_rests)
+step_rests st.InComment c = grind (arith, cases_Bool)
+step_rests st.AfterCr c = grind (arith, cases_Bool, start_record_rests)
 
 -- the rest is no longer than the text, and no record has begun after the one that was read
 read_leaves : (s : State) (fields : List (List ℕ)) (field xs : List ℕ) (p : Read) →

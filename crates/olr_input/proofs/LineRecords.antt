@@ -1,8 +1,8 @@
 -- The record that csv reads from a line.
 use Rattle.std.proofs.Common.{◌≡◌, ◌≢◌, ◌∙◌, ◌⊎◌, ℕ, Bool, true, false, zero, suc, List, [], ◌∷◌, ◌++◌, Some, None}
 use Rattle.std.proofs.Common.{inl, inr, refl, sym, ap, arith, length, take}
-use Rattle.std.proofs.lemmas.Bool.{cases_Bool}
-use Rattle.std.specs.Prelude.{if◌then◌else◌, ◌==◌}
+use Rattle.std.proofs.lemmas.Bool.{cases_Bool, cond_both, eqb-true, or_cases}
+use Rattle.std.specs.Prelude.{◌==◌}
 use Rattle.memchr.specs.Find.{Passes, Nowhere, NoneBefore, is_byte, is_byte2}
 use Rattle.csv.specs.Machine.{next_record, step, in_field, is_end, fields_after, field_after, line_feed, carriage_return}
 use Rattle.csv.specs.Reading.{default_config}
@@ -63,12 +63,8 @@ plain _ = true
 abbrev Plain : State × Action → Type 0
 Plain p = plain p.0 ≡ true
 
-if_plain : (b : Bool) (p q : State × Action) → Plain p → Plain q → Plain (if b then p else q)
-if_plain true p q h g = h
-if_plain false p q h g = g
-
 in_field_plain : (b : ℕ) → Plain (in_field default_config b)
-in_field_plain b = grind (arith, cases_Bool, if_plain)
+in_field_plain b = grind (arith, cases_Bool)
 
 pub step_plain : (s : State) (b : ℕ) → plain s ≡ true → (b == default_config.quote) ≡ false → plain (step default_config s b).0 ≡ true
 step_plain st.StartRecord b p h = grind (arith, cases_Bool, in_field_plain)
@@ -124,10 +120,6 @@ field_stays b false false false c l r h = rw (c, l, r) (refl, refl)
 in_field_stays : (b : ℕ) → is_line_end b ≡ false → Stays (in_field default_config b)
 in_field_stays b h = field_stays b _ _ _ refl refl refl h
 
-if_stays : (c : Bool) (r t : State × Action) → Stays r → Stays t → Stays (if c then r else t)
-if_stays true r t g h = g
-if_stays false r t g h = h
-
 -- what holds in each state in a record
 by_begun : (P : State → Type 0) → P st.StartField → P st.InField → P st.InQuoted → P st.AfterQuote → (s : State) →
     begun s ≡ true → P s
@@ -140,10 +132,11 @@ by_begun P start in_it in_quotes after_it s at = absurd cc
 step_stays : (s : State) (b : ℕ) → begun s ≡ true → is_line_end b ≡ false → Stays (step default_config s b)
 step_stays s b at h =
     by_begun (λ (t : State). Stays (step default_config t b))
-    (if_stays (b == 34) (st.InQuoted, act.Skip) (in_field default_config b) (refl, refl) (in_field_stays b h))
+    (cond_both (b == 34) (st.InQuoted, act.Skip) (in_field default_config b) Stays (λ _. (refl, refl)) (λ _. in_field_stays b h))
     (in_field_stays b h)
-    (if_stays (b == 34) (st.AfterQuote, act.Skip) (st.InQuoted, act.Copy) (refl, refl) (refl, refl))
-    (if_stays (b == 34) (st.InQuoted, act.Copy) (in_field default_config b) (refl, refl) (in_field_stays b h)) s at
+    (cond_both (b == 34) (st.AfterQuote, act.Skip) (st.InQuoted, act.Copy) Stays (λ _. (refl, refl)) (λ _. (refl, refl)))
+    (cond_both (b == 34) (st.InQuoted, act.Copy) (in_field default_config b) Stays (λ _. (refl, refl)) (λ _. in_field_stays b h))
+    s at
 
 -- ---- the record of a line
 
@@ -232,11 +225,7 @@ gives_one b line none =
 -- ---- between records
 
 pub end_of : (e : ℕ) → is_line_end e ≡ true → IsEnd e
-end_of e h = by_feed (e == 10) refl
-  where
-    by_feed : (feed : Bool) → (e == 10) ≡ feed → IsEnd e
-    by_feed true f = inl (grind arith)
-    by_feed false f = inr (grind arith)
+end_of e h = elim (or_cases (e == 10) (e == 13) h) [ | inl is ↦ inl (eqb-true e 10 is) | inr is ↦ inr (eqb-true e 13 is) ]
 
 -- an empty line
 pub skips : (s : State) (e : ℕ) (xs : List ℕ) → BetweenRecords s → IsEnd e →

@@ -2,6 +2,7 @@
 use Rattle.std.proofs.Common.{◌≡◌, ◌≢◌, ◌∙◌, ◌+◌, ◌<◌, ◌≤◌, ℕ, Bool, true, false, List, [], ◌∷◌, ◌++◌}
 use Rattle.std.proofs.Common.{length, take, drop, map, Some, None, inl, inr, refl, sym, ap, subst, arith, length-append}
 use Rattle.std.proofs.Common.{get_or}
+use Rattle.std.proofs.lemmas.Bool.{cases_Bool, cond_both}
 use Rattle.std.proofs.lemmas.List.{append-nil, append_assoc, take-append-drop, map-append}
 use Rattle.std.specs.Prelude.{if◌then◌else◌}
 use Rattle.csv.specs.Reading.{strip_bom, is_bom}
@@ -56,18 +57,10 @@ unfolding strip_bom
 stripped [] some = absurd (omega arith)
 stripped (a ∷ []) some = absurd (omega arith)
 stripped (a ∷ b ∷ []) some = absurd (omega arith)
-stripped (a ∷ b ∷ c ∷ line) some = record { more = by_more (is_bom a b c) refl; size = by_size (is_bom a b c) refl }
-  where
-    by_more : (m : Bool) → is_bom a b c ≡ m → (rest : List ℕ) →
-        (if is_bom a b c then line ++ rest else a ∷ b ∷ c ∷ (line ++ rest))
-        ≡ (if is_bom a b c then line else a ∷ b ∷ c ∷ line) ++ rest
-    by_more true m rest = rw m refl
-    by_more false m rest = rw m refl
-
-    by_size : (m : Bool) → is_bom a b c ≡ m →
-        length (a ∷ b ∷ c ∷ line) ≤ length (if is_bom a b c then line else a ∷ b ∷ c ∷ line) + 3
-    by_size true m = rw m (omega arith)
-    by_size false m = rw m (omega arith)
+stripped (a ∷ b ∷ c ∷ line) some = record {
+  more = λ rest. elim (cases_Bool (is_bom a b c)) [ | inl m ↦ rw m refl | inr m ↦ rw m refl ];
+  size = elim (cases_Bool (is_bom a b c)) [ | inl m ↦ rw m (omega arith) | inr m ↦ rw m (omega arith) ];
+}
 
 no_mark_with : (a b e : ℕ) → IsEnd e → (is_bom e a b ≡ false) × (is_bom a e b ≡ false) × (is_bom a b e ≡ false)
 no_mark_with a b e (inl is) = rw is (refl, grind arith, grind arith)
@@ -86,14 +79,9 @@ unfolding strip_bom
 no_end_stripped [] none = none
 no_end_stripped (a ∷ []) none = none
 no_end_stripped (a ∷ b ∷ []) none = none
-no_end_stripped (a ∷ b ∷ c ∷ line) none = by_mark (is_bom a b c) refl
-  where
-    rest : HasNoEnd line
-    rest = (no_end_parts c line (no_end_parts b (c ∷ line) (no_end_parts a (b ∷ c ∷ line) none).1).1).1
-
-    by_mark : (m : Bool) → is_bom a b c ≡ m → HasNoEnd (if is_bom a b c then line else a ∷ b ∷ c ∷ line)
-    by_mark true m = rw m rest
-    by_mark false m = rw m none
+no_end_stripped (a ∷ b ∷ c ∷ line) none =
+    cond_both (is_bom a b c) line (a ∷ b ∷ c ∷ line) HasNoEnd
+    (λ _. (no_end_parts c line (no_end_parts b (c ∷ line) (no_end_parts a (b ∷ c ∷ line) none).1).1).1) (λ _. none)
 
 -- ---- the first line, and others
 
@@ -126,16 +114,13 @@ long_lines [] k l a b = long_record k a ∙ sym (long_record l b)
 long_lines (e ∷ rest) k l a b =
     let ka = length-append k (e ∷ []) in
     let lb = length-append l (e ∷ []) in
-    by_end (is_line_end e) refl (long_lines rest (k ++ e ∷ []) (l ++ e ∷ []) (omega arith) (omega arith))
-  where
-    by_end : (end : Bool) → is_line_end e ≡ end →
-        Records (lines_from (k ++ e ∷ []) rest) ≡ Records (lines_from (l ++ e ∷ []) rest)
-        → Records (lines_from k (e ∷ rest)) ≡ Records (lines_from l (e ∷ rest))
-    by_end true end more =
-        ap Records (line_ends k e rest end) ∙ map-append line_record (if_any k) (lines_of rest)
-        ∙ ap (λ (rs : List (List (List ℕ))). rs ++ Records (lines_of rest)) (long_record k a ∙ sym (long_record l b))
-        ∙ sym (map-append line_record (if_any l) (lines_of rest)) ∙ sym (ap Records (line_ends l e rest end))
-    by_end false end more = rw end more
+    elim (cases_Bool (is_line_end e)) [
+      | inl end ↦
+          ap Records (line_ends k e rest end) ∙ map-append line_record (if_any k) (lines_of rest)
+          ∙ ap (λ (rs : List (List (List ℕ))). rs ++ Records (lines_of rest)) (long_record k a ∙ sym (long_record l b))
+          ∙ sym (map-append line_record (if_any l) (lines_of rest)) ∙ sym (ap Records (line_ends l e rest end))
+      | inr end ↦ rw end (long_lines rest (k ++ e ∷ []) (l ++ e ∷ []) (omega arith) (omega arith))
+    ]
 
 -- too long, even after a mark
 abbrev TooLong : List ℕ → Type 0

@@ -1,11 +1,10 @@
 -- The lines of a log that aren't stored yet, in three parts.
 use Rattle.std.proofs.Common.{◌≡◌, ◌∙◌, ◌≤◌, ◌<◌, ◌-◌, ◌+◌, ℕ, Bool, true, false, List, [], ◌∷◌, ◌++◌, length, take}
 use Rattle.std.proofs.Common.{drop, refl, sym, ap, ◌⊎◌, inl, inr, arith, length-append, length-drop}
-use Rattle.std.proofs.lemmas.List.{take-append-drop, take_at, drop_at, append-nil, append_assoc, length-take-le}
-use Rattle.std.proofs.Common.{◌≢◌, subst, zero, suc}
-use Rattle.std.proofs.Math.Seq.{drop-nil}
+use Rattle.std.proofs.lemmas.List.{take-append-drop, take_at, drop_at, drop-drop, append-nil, append_assoc, length-take-le}
+use Rattle.std.proofs.Common.{◌≢◌, subst}
 use Rattle.olr_input.specs.Journals.{is_empty, is_whole, is_whole_from, IsFront}
-use Rattle.olr_input.specs.StoredLines.{AreLines, IsLineFor, Turns, Waiting, has_line, is_firm_from, concluded, turned}
+use Rattle.olr_input.specs.StoredLines.{AreLines, IsLineFor, Turns, Waiting, has_line, concluded, turned}
 use Rattle.std.specs.Prelude.{if◌then◌else◌}
 use Rattle.olr_input.specs.declared.unstored.Effect.{Effect}
 use Rattle.olr_input.specs.declared.unstored.Effect.TheVariants as effect
@@ -37,17 +36,11 @@ pair a b = record { ready = a; batch = b }
 abbrev pub waits : List ℕ → ℕ → ℕ → Waiting
 waits l r h = pair (take r l) (take (h - r) (drop r l))
 
-drop_twice : (m n k : ℕ) (l : List ℕ) → k ≡ m + n → drop n (drop m l) ≡ drop k l
-drop_twice zero n k l e = ap (λ (j : ℕ). drop j l) (let same : n ≡ k = omega arith in same)
-drop_twice (suc m) n zero l e = absurd (omega arith)
-drop_twice (suc m) n (suc k) [] e = drop-nil n
-drop_twice (suc m) n (suc k) (x ∷ l) e = drop_twice m n k l (omega arith)
-
 pub parts : (l : List ℕ) (r h : ℕ) → r ≤ h → h ≤ length l →
     Parts l r h (take r l) (take (h - r) (drop r l)) (drop h l)
 parts l r h order within =
-    let rest : drop (h - r) (drop r l) ≡ drop h l =
-    drop_twice r (h - r) h l (omega arith) in
+    let size : r + (h - r) ≡ h = omega arith in
+    let rest : drop (h - r) (drop r l) ≡ drop h l = drop-drop (h - r) r l ∙ ap (λ (k : ℕ). drop k l) size in
     record {
       splits = sym (ap (λ (x : List ℕ). take r l ++ x) (ap (λ (x : List ℕ). take (h - r) (drop r l) ++ x) (sym rest) ∙ take-append-drop (h - r) (drop r l)) ∙ take-append-drop r l);
       first = length-take-le r l (omega arith);
@@ -241,7 +234,5 @@ module _ (l : List ℕ) (r h : ℕ) where
     all_fronts n is by front f =
         let same : take n l ≡ A ++ (B ++ N) =
         ap (λ (m : ℕ). take m l) is ∙ (are l (length l) (length l) _ [] [] readied).ready in
-        let firm : is_firm_from false [] (B ++ N) ≡ true =
-        ap (is_firm_from false []) (sym (append-nil (B ++ N))) ∙ (closed_by by).firm [] in
         subst (λ (x : List ℕ). IsFront A front ⊎ (front ≡ x)) (sym same)
-        (front_either A (B ++ N) front a.whole firm (subst (λ (x : List ℕ). IsFront x front) same f))
+        (front_either A (B ++ N) front a.whole (closed_by by) (subst (λ (x : List ℕ). IsFront x front) same f))

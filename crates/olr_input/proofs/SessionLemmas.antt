@@ -10,7 +10,7 @@ use Rattle.csv.specs.declared.error.ErrorKind.{ErrorKind}
 use Rattle.csv.specs.declared.error.ErrorKind.TheVariants as kind
 use Rattle.csv.specs.declared.parser.State.{State}
 use Rattle.csv.specs.declared.parser.State.TheVariants as st
-use Rattle.std.specs.Bool.{MatchBool}
+use Rattle.std.proofs.lemmas.Bool.{cases_Bool}
 use Rattle.std.specs.Prelude.{option_map, IfSome}
 use Rattle.csv.specs.declared.reader.Reader.{Reader}
 use Rattle.olr_input.specs.Sessions.{Known, Answer, Event, Took, Wrote, Replacement, Compacted, History, exchanges, IsPlain}
@@ -47,11 +47,7 @@ reads_left s t (Some xs) (Some ys) failed found fields h = by_next (next_record 
 
 module _ {R : Type 0} (remaining : R → Known) (old new : Reader R) where
   ready : IsPlain old → Ready old
-  ready plain = by_first (took_first old) refl
-    where
-      by_first : (first : Bool) → took_first old ≡ first → Ready old
-      by_first true e = inl e
-      by_first false e = inr (inr (plain.no_header, plain.none e))
+  ready plain = elim (cases_Bool (took_first old)) [ | inl e ↦ inl e | inr e ↦ inr (inr (plain.no_header, plain.none e)) ]
 
   pub read_left : (found : Bool) (fields : List (List ℕ)) → StaysPlain old → has_failed new ≡ has_failed old →
       (has_failed old ≡ true → found ≡ false)
@@ -79,13 +75,7 @@ module _ {R : Type 0} (remaining : R → Known) (old new : Reader R) where
   pub begins : (known : Known) → has_failed old ≡ false → reader_state old ≡ st.StartRecord →
       source_of remaining old ≡ option_map strip_bom known → BeginsWith csv_records (csv_left remaining old) known
   begins None fresh first source = tt
-  begins (Some bytes) fresh first source = by_failed (has_failed old) fresh (rw (first, source) (all_records bytes))
-    where
-      by_failed : (failed : Bool) → failed ≡ false →
-          AreKnown (reader_state old) (source_of remaining old) (csv_records bytes)
-          → MatchBool failed (csv_records bytes ≡ []) (AreKnown (reader_state old) (source_of remaining old) (csv_records bytes))
-      by_failed true e all = absurd cc
-      by_failed false e all = all
+  begins (Some bytes) fresh first source = rw (first, source, fresh) (all_records bytes)
 
 -- the records of known bytes are left
 pub known_left : (records_of : List ℕ → List (List (List ℕ))) (left : List (List (List ℕ)) → Type 0) (known : Known) →

@@ -1,7 +1,7 @@
 -- Which lines of records are whole.
 use Rattle.std.proofs.Common.{◌≡◌, ◌∙◌, ◌==◌, ℕ, Bool, true, false, not, ◌&&◌, List, [], ◌∷◌, ◌++◌, length, refl, sym}
-use Rattle.std.proofs.Common.{ap, subst, arith, ◌⊎◌, inl, inr, if◌then◌else◌, codes}
-use Rattle.std.proofs.lemmas.Bool.{cases_Bool, and_parts}
+use Rattle.std.proofs.Common.{◌≢◌, ap, subst, arith, ◌⊎◌, inl, inr, if◌then◌else◌, codes}
+use Rattle.std.proofs.lemmas.Bool.{cases_Bool, and_parts, and_right, both_ways}
 use Rattle.std.proofs.lemmas.List.{append-nil, append_assoc, length-append, take-take, take_at}
 use Rattle.std.proofs.lemmas.List.Folds.{list_all-append}
 use Rattle.std.specs.List.{join_with_byte}
@@ -11,7 +11,7 @@ use Rattle.std.specs.Str.{bytes_eq}
 use Rattle.std.proofs.lemmas.Slice.Eq.{bytes_eq-Decides}
 use Rattle.olr_input.specs.Journals.{stays_open, is_empty, is_whole, is_whole_from, IsFront}
 use Rattle.olr_input.specs.StoredLines.{is_change, is_clean, is_clean_byte, effect_by, word_effect, has_line, line_of}
-use Rattle.olr_input.specs.StoredLines.{is_firm_from, firm_after, Turns, turned, IsLineFor}
+use Rattle.olr_input.specs.StoredLines.{Turns, turned, IsLineFor}
 use Rattle.olr_input.specs.declared.unstored.Effect.{Effect}
 use Rattle.olr_input.specs.declared.unstored.Effect.TheVariants as effect
 
@@ -31,23 +31,37 @@ whole_line o p (b ∷ l) more h =
     step ∙ whole_line o (p ++ b ∷ []) l more c.2
     ∙ ap (λ (q : List ℕ). is_whole_from (stays_open o q) [] more) (append_assoc p (b ∷ []) l)
 
-firm_line : (o : Bool) (p l more : List ℕ) → is_clean l ≡ true →
-    is_firm_from o p (l ++ 10 ∷ more) ≡ firm_after (stays_open o (p ++ l)) more
-firm_line o p [] more h = ap (λ (q : List ℕ). firm_after (stays_open o q) more) (sym (append-nil p))
-firm_line o p (b ∷ l) more h =
-    let c = clean_parts b l h in
-    let step : is_firm_from o p (b ∷ l ++ 10 ∷ more) ≡ is_firm_from o (p ++ b ∷ []) (l ++ 10 ∷ more) =
-    rw c.0 refl in
-    step ∙ firm_line o (p ++ b ∷ []) l more c.2
-    ∙ ap (λ (q : List ℕ). firm_after (stays_open o q) more) (append_assoc p (b ∷ []) l)
+pub empty_snoc : (l : List ℕ) (b : ℕ) → is_empty (l ++ b ∷ []) ≡ false
+empty_snoc [] b = refl
+empty_snoc (a ∷ l) b = refl
+
+-- no part of a line is whole
+part_of_line : (o : Bool) (p l : List ℕ) (c : ℕ) (front rest : List ℕ) → is_clean l ≡ true →
+    l ++ 10 ∷ [] ≡ c ∷ front ++ rest → rest ≢ [] → is_whole_from o p (c ∷ front) ≡ false
+part_of_line o p [] c [] rest clean is some = absurd (some (cc is))
+part_of_line o p [] c (d ∷ front) rest clean is some = absurd (cc is)
+part_of_line o p (b ∷ l) c [] rest clean is some =
+    let parts = clean_parts b l clean in
+    let same : b ≡ c = cc in
+    subst (λ (x : ℕ). is_whole_from o p (x ∷ []) ≡ false) same (rw (parts.0, parts.1) (and_right (not o) _ (empty_snoc p b)))
+part_of_line o p (b ∷ l) c (d ∷ front) rest clean is some =
+    let parts = clean_parts b l clean in
+    let same : b ≡ c = cc in
+    let more : l ++ 10 ∷ [] ≡ d ∷ front ++ rest = cc in
+    subst (λ (x : ℕ). is_whole_from o p (x ∷ d ∷ front) ≡ false) same
+    (rw (parts.0, parts.1) (part_of_line o (p ++ b ∷ []) l d front rest parts.2 more some))
+
+line_firm : (o : Bool) (l front rest : List ℕ) → is_clean l ≡ true → l ++ 10 ∷ [] ≡ front ++ rest → rest ≢ [] →
+    is_whole_from o [] front ≡ true → front ≡ []
+line_firm o l [] rest clean is some whole = refl
+line_firm o l (c ∷ front) rest clean is some whole = absurd (both_ways _ (part_of_line o [] l c front rest clean is some) whole)
 
 line_turns : (o t : Bool) (l : List ℕ) → is_clean l ≡ true → stays_open o l ≡ t → Turns o t (l ++ 10 ∷ [])
 line_turns o t l clean is =
     record {
       whole = λ more. rw (append_assoc l (10 ∷ []) more) (whole_line o [] l more clean
           ∙ ap (λ (b : Bool). is_whole_from b [] more) is);
-      firm = λ more. rw (append_assoc l (10 ∷ []) more) (firm_line o [] l more clean
-          ∙ ap (λ (b : Bool). firm_after b more) is);
+      firm = λ front rest. line_firm o l front rest clean;
     }
 
 -- ---- the line of a record, without its end
@@ -244,90 +258,53 @@ field_is (f ∷ fs) (suc k) = field_is fs k
 
 -- ---- texts that follow each other
 
+-- a front of two texts ends in the first, or behind it
+split_either : (a x f r : List ℕ) → a ++ x ≡ f ++ r →
+    ((b : ℕ) × (m : List ℕ) × (a ≡ f ++ b ∷ m)) ⊎ ((m : List ℕ) × (f ≡ a ++ m) × (x ≡ m ++ r))
+split_either [] x f r e = inr (f, refl, e)
+split_either (c ∷ a) x [] r e = inl (c, a, refl)
+split_either (c ∷ a) x (d ∷ f) r e = grind (arith, split_either a x f r)
+
 pub turns_join : (o t : Bool) (x y : List ℕ) → Turns o true x → Turns true t y → Turns o t (x ++ y)
 turns_join o t x y h k =
     record {
       whole = λ more. rw (append_assoc x y more) (h.whole (y ++ more) ∙ k.whole more);
-      firm = λ more. rw (append_assoc x y more) (h.firm (y ++ more) ∙ k.firm more);
+      firm = λ front rest is some whole. elim (split_either x y front rest is) [
+        | inl s ↦ h.firm front (s.0 ∷ s.1) s.2 (λ never. cc never) whole
+        | inr s ↦
+            let of_more : is_whole_from true [] s.0 ≡ true = sym (h.whole s.0) ∙ ap (is_whole_from o []) (sym s.1) ∙ whole in
+            absurd (some_left s.0 (k.firm s.0 rest s.2 some of_more) of_more)
+      ];
     }
+  where
+    some_left : (m : List ℕ) → m ≡ [] → is_whole_from true [] m ≡ true → ⊥
+    some_left m none open_left = let never : false ≡ true = sym (ap (is_whole_from true []) none) ∙ open_left in cc never
 
 pub whole_join : (o : Bool) (p a m : List ℕ) → is_whole_from o p a ≡ true →
     is_whole_from o p (a ++ m) ≡ is_whole_from false [] m
 whole_join true p [] m h = absurd cc
 whole_join false [] [] m h = refl
 whole_join false (b ∷ p) [] m h = absurd cc
-whole_join o p (b ∷ a) m h =
-    by_end (b == 10) (b == 13) refl refl (λ t q k. whole_join t q a m k)
-  where
-    by_end : (end return : Bool) → (b == 10) ≡ end → (b == 13) ≡ return →
-        ((t : Bool) (q : List ℕ) → is_whole_from t q a ≡ true → is_whole_from t q (a ++ m) ≡ is_whole_from false [] m)
-        → is_whole_from o p (b ∷ a ++ m) ≡ is_whole_from false [] m
-    by_end true r e f next = rw e (next (stays_open o p) [] (rw e at h))
-    by_end false true e f next = let no = rw (e, f) at h in absurd cc
-    by_end false false e f next = rw (e, f) (next o (p ++ b ∷ []) (rw (e, f) at h))
+whole_join o p (b ∷ a) m h = elim (cases_Bool (b == 10)) [
+  | inl e ↦ rw e (whole_join (stays_open o p) [] a m (rw e at h))
+  | inr e ↦ elim (cases_Bool (b == 13)) [
+    | inl f ↦ absurd (let no = rw (e, f) at h in cc)
+    | inr f ↦ rw (e, f) (whole_join o (p ++ b ∷ []) a m (rw (e, f) at h))
+  ]
+]
 
-firm_front : (o : Bool) (p m r : List ℕ) → is_firm_from o p (m ++ r) ≡ true → is_whole_from o p m ≡ true →
-    (m ≡ []) ⊎ (r ≡ [])
-firm_front o p [] r h k = inl refl
-firm_front o p (b ∷ m) r h k =
-    by_end (b == 10) (b == 13) (stays_open o p) refl refl refl (λ t q firm whole. firm_front t q m r firm whole)
-  where
-    none_left : (q : List ℕ) → is_empty q ≡ true → q ≡ []
-    none_left [] e = refl
-    none_left (c ∷ q) e = absurd cc
-
-    rest_of : (a c : List ℕ) → a ++ c ≡ [] → c ≡ []
-    rest_of [] c e = e
-    rest_of (x ∷ a) c e = absurd cc
-
-    never_open : (t : Bool) (q : List ℕ) → (m ≡ []) ⊎ (r ≡ []) → is_whole_from t q m ≡ true →
-        (is_whole_from t q [] ≡ true → ⊥) → (b ∷ m ≡ []) ⊎ (r ≡ [])
-    never_open t q (inl e) w never = absurd (never (sym (ap (is_whole_from t q) e) ∙ w))
-    never_open t q (inr e) w never = inr e
-
-    no_end : (t : Bool) (q : List ℕ) → is_whole_from t (q ++ b ∷ []) [] ≡ true → ⊥
-    no_end true q w = cc
-    no_end false [] w = cc
-    no_end false (x ∷ q) w = cc
-
-    by_end : (end return left : Bool) → (b == 10) ≡ end → (b == 13) ≡ return → stays_open o p ≡ left →
-        ((t : Bool) (q : List ℕ) → is_firm_from t q (m ++ r) ≡ true → is_whole_from t q m ≡ true → (m ≡ []) ⊎ (r ≡ []))
-        → (b ∷ m ≡ []) ⊎ (r ≡ [])
-    by_end true c true e f g next =
-        let firm : is_firm_from true [] (m ++ r) ≡ true = rw (e, g) at h in
-        let whole : is_whole_from true [] m ≡ true = rw (e, g) at k in
-        never_open true [] (next true [] firm whole) whole (λ w. cc)
-    by_end true c false e f g next =
-        let firm : is_empty (m ++ r) ≡ true = rw (e, g) at h in inr (rest_of m r (none_left (m ++ r) firm))
-    by_end false true left e f g next = absurd (let no = rw (e, f) at k in cc)
-    by_end false false left e f g next =
-        let firm : is_firm_from o (p ++ b ∷ []) (m ++ r) ≡ true = rw e at h in
-        let whole : is_whole_from o (p ++ b ∷ []) m ≡ true = rw (e, f) at k in
-        never_open o (p ++ b ∷ []) (next o (p ++ b ∷ []) firm whole) whole (λ w. no_end o p w)
-
-split_either : (a x f r : List ℕ) → a ++ x ≡ f ++ r →
-    ((m : List ℕ) × (a ≡ f ++ m)) ⊎ ((m : List ℕ) × (f ≡ a ++ m) × (x ≡ m ++ r))
-split_either [] x f r e = inr (f, refl, e)
-split_either (c ∷ a) x [] r e = inl (c ∷ a, refl)
-split_either (c ∷ a) x (d ∷ f) r e = grind (arith, split_either a x f r)
-
-pub front_either : (a x front : List ℕ) → is_whole a ≡ true → is_firm_from false [] x ≡ true →
+pub front_either : (a x front : List ℕ) → is_whole a ≡ true → Turns false false x →
     IsFront (a ++ x) front → IsFront a front ⊎ (front ≡ a ++ x)
-front_either a x front whole firm h = by_split (split_either a x front h.rest h.splits)
+front_either a x front whole turns h = elim (split_either a x front h.rest h.splits) [
+  | inl s ↦ inl (record { rest = s.0 ∷ s.1; splits = s.2; whole = h.whole })
+  | inr s ↦ by_rest s.0 h.rest s.1 s.2
+]
   where
-    by_rest : (m : List ℕ) → front ≡ a ++ m → x ≡ m ++ h.rest → (m ≡ []) ⊎ (h.rest ≡ []) →
-        IsFront a front ⊎ (front ≡ a ++ x)
-    by_rest m e f (inl none) =
-        inl (record { rest = []; splits = sym (ap (λ (y : List ℕ). y ++ []) (e ∙ ap (λ (y : List ℕ). a ++ y) none) ∙ append-nil (a ++ []) ∙ append-nil a); whole = h.whole })
-    by_rest m e f (inr none) =
-        inr (e ∙ ap (λ (y : List ℕ). a ++ y) (sym (append-nil m) ∙ ap (λ (y : List ℕ). m ++ y) (sym none) ∙ sym f))
-
-    by_split : ((m : List ℕ) × (a ≡ front ++ m)) ⊎ ((m : List ℕ) × (front ≡ a ++ m) × (x ≡ m ++ h.rest)) →
-        IsFront a front ⊎ (front ≡ a ++ x)
-    by_split (inl s) = inl (record { rest = s.0; splits = s.1; whole = h.whole })
-    by_split (inr s) =
-        by_rest s.0 s.1 s.2 (firm_front false [] s.0 h.rest (rw s.2 at firm)
-        (sym (whole_join false [] a s.0 whole) ∙ ap is_whole (sym s.1) ∙ h.whole))
+    by_rest : (m rest : List ℕ) → front ≡ a ++ m → x ≡ m ++ rest → IsFront a front ⊎ (front ≡ a ++ x)
+    by_rest m [] e f = inr (e ∙ ap (λ (y : List ℕ). a ++ y) (sym (f ∙ append-nil m)))
+    by_rest m (b ∷ rest) e f =
+        let none = turns.firm m (b ∷ rest) f (λ never. cc never) (sym (whole_join false [] a m whole) ∙ ap is_whole (sym e) ∙ h.whole) in
+        inl (record { rest = []; splits = sym (append-nil front ∙ e ∙ ap (λ (y : List ℕ). a ++ y) none ∙ append-nil a); whole = h.whole })
 
 -- the first field
 pub first_field : (fs : List (List ℕ)) (word : List ℕ) → field_at fs 0 ≡ Some word →

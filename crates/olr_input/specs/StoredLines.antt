@@ -89,21 +89,10 @@ concluded effect.Compact line w = w
 
 -- ---- which lines are whole
 
--- a text that follows these first bytes of a line is whole, and no text is that begins it
-abbrev pub is_firm_from : Bool → List ℕ → List ℕ → Bool
-is_firm_from is_open line [] = false
-is_firm_from is_open line (b ∷ bs) =
-    if b == 10 then (if stays_open is_open line then is_firm_from true [] bs else is_empty bs)
-    else is_firm_from is_open (line ++ b ∷ []) bs
-
--- after a line, a batch is open or not
-abbrev pub firm_after : Bool → List ℕ → Bool
-firm_after is_open more = if is_open then is_firm_from true [] more else is_empty more
-
--- a text leads from a batch that is open or not to one that is open or not
+-- a text leads from a batch that is open or not to one that is open or not, and no front of it but itself is whole
 pub record Turns (from to : Bool) (text : List ℕ) : Type 0 where
   pub whole : (more : List ℕ) → is_whole_from from [] (text ++ more) ≡ is_whole_from to [] more
-  pub firm : (more : List ℕ) → is_firm_from from [] (text ++ more) ≡ firm_after to more
+  pub firm : (front rest : List ℕ) → text ≡ front ++ rest → rest ≢ [] → is_whole_from from [] front ≡ true → front ≡ []
 
 abbrev pub turned : Effect → Bool → Bool
 turned effect.Begin is_open = true

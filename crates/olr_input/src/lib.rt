@@ -32,4 +32,4 @@ pub use output::write_all;
 pub use sessions::{Plain, Session};
 pub use sources::{Records, Source};
 pub use unstored::{Effect, Unstored};
-pub use whole::is_whole;
+pub use whole::{is_whole, stays_open};

@@ -4,7 +4,7 @@ ghost use Rattle.std.specs.Prelude.{◌≡◌};
 ghost use Rattle.olr_input.specs.Journals as journals;
 
 /// Whether a batch is open after a line, if one was or wasn't before it.
-fn stays_open(is_open: bool, line: &[u8]) -> bool
+pub fn stays_open(is_open: bool, line: &[u8]) -> bool
     ensures { result ≡ journals.stays_open is_open line.now }
 {
     line == b"begin".as_slice() || (is_open && !line.starts_with(b"commit,"))
