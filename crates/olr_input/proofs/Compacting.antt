@@ -1,5 +1,5 @@
 -- Records in the place of a log.
-use Rattle.std.proofs.Common.{◌≡◌, ◌∙◌, ◌⊎◌, ◌∷◌, ℕ, Bool, true, false, List, [], inl, refl, sym, ap, subst}
+use Rattle.std.proofs.Common.{◌≡◌, ◌∙◌, ◌⊎◌, ◌∷◌, ℕ, true, false, List, [], inl, refl, sym, ap, subst}
 use Rattle.std.specs.Prelude.{is_some, not, ◌&&◌}
 use Rattle.std.proofs.lemmas.Bool.{and_parts, not-true}
 use Rattle.olr_input.specs.Gates.{Untouched, Replacement, Replaced, Left_as_it_was, Compacts, asks, batch, is_closed}

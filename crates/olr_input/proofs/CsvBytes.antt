@@ -32,12 +32,12 @@ pub at : (text : List ℕ) (i : ℕ) → i < length text → drop i text ≡ get
 at text i low = drop-cons text i 0 low ∙ ap (λ (k : ℕ). get_or text i 0 ∷ drop k text) (sym (add-one i))
 
 -- a part of a text, with one byte more
-longer : (text : List ℕ) (start i : ℕ) → start ≤ i → i < length text →
+pub longer : (text : List ℕ) (start i : ℕ) → start ≤ i → i < length text →
     take (i + 1 - start) (drop start text) ≡ take (i - start) (drop start text) ++ get_or text i 0 ∷ []
 longer text start i from low =
     grind (arith, length-drop, take_more (drop start text) (i - start) 0, get_or-drop start text (i - start) 0)
 
-empty : (text : List ℕ) (i : ℕ) → take (i + 1 - (i + 1)) (drop (i + 1) text) ≡ []
+pub empty : (text : List ℕ) (i : ℕ) → take (i + 1 - (i + 1)) (drop (i + 1) text) ≡ []
 empty text i = grind arith
 
 -- the loop over bytes at an index, after which the field has its earlier bytes and those from `start` on

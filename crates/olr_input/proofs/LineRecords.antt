@@ -225,7 +225,7 @@ gives_one b line none =
 -- ---- between records
 
 pub end_of : (e : ℕ) → is_line_end e ≡ true → IsEnd e
-end_of e h = elim (or_cases (e == 10) (e == 13) h) [ | inl is ↦ inl (eqb-true e 10 is) | inr is ↦ inr (eqb-true e 13 is) ]
+end_of e h = elim (or_cases (e == 10) (e == 13) h) [ inl is ↦ inl (eqb-true e 10 is) | inr is ↦ inr (eqb-true e 13 is) ]
 
 -- an empty line
 pub skips : (s : State) (e : ℕ) (xs : List ℕ) → BetweenRecords s → IsEnd e →

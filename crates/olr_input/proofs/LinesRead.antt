@@ -58,8 +58,8 @@ stripped [] some = absurd (omega arith)
 stripped (a ∷ []) some = absurd (omega arith)
 stripped (a ∷ b ∷ []) some = absurd (omega arith)
 stripped (a ∷ b ∷ c ∷ line) some = record {
-  more = λ rest. elim (cases_Bool (is_bom a b c)) [ | inl m ↦ rw m refl | inr m ↦ rw m refl ];
-  size = elim (cases_Bool (is_bom a b c)) [ | inl m ↦ rw m (omega arith) | inr m ↦ rw m (omega arith) ];
+  more = λ rest. elim (cases_Bool (is_bom a b c)) [ inl m ↦ rw m refl | inr m ↦ rw m refl ];
+  size = elim (cases_Bool (is_bom a b c)) [ inl m ↦ rw m (omega arith) | inr m ↦ rw m (omega arith) ];
 }
 
 no_mark_with : (a b e : ℕ) → IsEnd e → (is_bom e a b ≡ false) × (is_bom a e b ≡ false) × (is_bom a b e ≡ false)

@@ -60,7 +60,7 @@ lines_are l r h e A B N p whole batch next =
       next = subst (IsLineFor e) (sym is.next) next;
     }
 
-module _ (l : List ℕ) (r h : ℕ) where
+module _ {l : List ℕ} {r h : ℕ} {e : Effect} (a : AreLines l r h e) where
   -- the lines that are ready, those of the batch, and that of the record that was taken last
   abbrev A : List ℕ
   A = take r l
@@ -71,168 +71,163 @@ module _ (l : List ℕ) (r h : ℕ) where
   abbrev N : List ℕ
   N = drop h l
 
-  module _ (e : Effect) (a : AreLines l r h e) where
-    all : Parts l r h A B N
-    all = parts l r h a.order a.within
+  all : Parts l r h A B N
+  all = parts l r h a.order a.within
 
-    -- without the line that was taken last
-    cut : Parts (take h l) r h A B []
-    cut =
-        let both : take h l ≡ A ++ B =
-        ap (take h) (all.splits ∙ sym (append_assoc A B N)) ∙ take_at (A ++ B) N h
-        (length-append A B ∙ (let f = all.first in let g = all.second in omega arith)) in
-        record { splits = both ∙ ap (λ (x : List ℕ). A ++ x) (sym (append-nil B)); first = all.first; second = all.second }
+  -- without the line that was taken last
+  cut : Parts (take h l) r h A B []
+  cut =
+      let both : take h l ≡ A ++ B =
+      ap (take h) (all.splits ∙ sym (append_assoc A B N)) ∙ take_at (A ++ B) N h
+      (length-append A B ∙ (let f = all.first in let g = all.second in omega arith)) in
+      record { splits = both ∙ ap (λ (x : List ℕ). A ++ x) (sym (append-nil B)); first = all.first; second = all.second }
 
-    -- with another line
-    with_line : (line : List ℕ) → Parts (take h l ++ line) r h A B line
-    with_line line =
-        record {
-          splits = ap (λ (x : List ℕ). x ++ line) (cut.splits ∙ ap (λ (x : List ℕ). A ++ x) (append-nil B)) ∙ append_assoc A B line;
-          first = all.first;
-          second = all.second;
-        }
+  -- with another line
+  with_line : (line : List ℕ) → Parts (take h l ++ line) r h A B line
+  with_line line =
+      record {
+        splits = ap (λ (x : List ℕ). x ++ line) (cut.splits ∙ ap (λ (x : List ℕ). A ++ x) (append-nil B)) ∙ append_assoc A B line;
+        first = all.first;
+        second = all.second;
+      }
 
-    -- all lines are in the batch
-    pending : Parts l r (length l) A (B ++ N) []
-    pending =
-        record {
-          splits = all.splits ∙ ap (λ (x : List ℕ). A ++ x) (sym (append-nil (B ++ N)));
-          first = all.first;
-          second = let size = ap length all.splits ∙ length-append A (B ++ N) in let f = all.first in omega arith;
-        }
+  -- all lines are in the batch
+  pending : Parts l r (length l) A (B ++ N) []
+  pending =
+      record {
+        splits = all.splits ∙ ap (λ (x : List ℕ). A ++ x) (sym (append-nil (B ++ N)));
+        first = all.first;
+        second = let size = ap length all.splits ∙ length-append A (B ++ N) in let f = all.first in omega arith;
+      }
 
-    -- all lines are ready
-    readied : Parts l (length l) (length l) (A ++ (B ++ N)) [] []
-    readied =
-        record {
-          splits = all.splits ∙ sym (append-nil (A ++ (B ++ N)));
-          first = ap length (sym all.splits);
-          second = omega arith;
-        }
+  -- all lines are ready
+  readied : Parts l (length l) (length l) (A ++ (B ++ N)) [] []
+  readied =
+      record {
+        splits = all.splits ∙ sym (append-nil (A ++ (B ++ N)));
+        first = ap length (sym all.splits);
+        second = omega arith;
+      }
 
-    -- none is in the batch
-    dropped : Parts (take r l) r r A [] []
-    dropped = record { splits = sym (append-nil A); first = all.first; second = omega arith }
+  -- none is in the batch
+  dropped : Parts (take r l) r r A [] []
+  dropped = record { splits = sym (append-nil A); first = all.first; second = omega arith }
 
-    -- those that were ready are gone
-    forgotten : Parts (drop r l) 0 (h - r) [] B N
-    forgotten =
-        record {
-          splits = ap (drop r) all.splits ∙ drop_at A (B ++ N) r all.first;
-          first = refl;
-          second = let g = all.second in omega arith;
-        }
+  -- those that were ready are gone
+  forgotten : Parts (drop r l) 0 (h - r) [] B N
+  forgotten =
+      record {
+        splits = ap (drop r) all.splits ∙ drop_at A (B ++ N) r all.first;
+        first = refl;
+        second = let g = all.second in omega arith;
+      }
 
-    pub cut_lines : AreLines (take h l) r h effect.Nothing
-    cut_lines = lines_are (take h l) r h effect.Nothing _ _ [] cut a.whole a.batch (no_line effect.Nothing refl)
+  pub cut_lines : AreLines (take h l) r h effect.Nothing
+  cut_lines = lines_are (take h l) r h effect.Nothing _ _ [] cut a.whole a.batch no_line
 
-    pub noted_lines : (k : Effect) → has_line k ≡ false → drop h l ≡ [] → AreLines l r h k
-    noted_lines k none empty = lines_are l r h k _ _ _ all a.whole a.batch (subst (IsLineFor k) (sym empty) (no_line k none))
+  -- after an empty line
+  full : N ≡ [] → take h l ≡ l
+  full none = sym (append-nil (take h l)) ∙ ap (λ (x : List ℕ). take h l ++ x) (sym none) ∙ take-append-drop h l
 
-    -- after an empty line
-    full : N ≡ [] → take h l ≡ l
-    full none = sym (append-nil (take h l)) ∙ ap (λ (x : List ℕ). take h l ++ x) (sym none) ∙ take-append-drop h l
+  pub added_lines : (k : Effect) (line : List ℕ) → drop h l ≡ [] → IsLineFor k line → AreLines (l ++ line) r h k
+  added_lines k line none is =
+      subst (λ (x : List ℕ). AreLines (x ++ line) r h k) (full none)
+      (lines_are (take h l ++ line) r h k _ _ line (with_line line) a.whole a.batch is)
 
-    pub added_lines : (k : Effect) (line : List ℕ) → drop h l ≡ [] → IsLineFor k line → AreLines (l ++ line) r h k
-    added_lines k line none is =
-        subst (λ (x : List ℕ). AreLines (x ++ line) r h k) (full none)
-        (lines_are (take h l ++ line) r h k _ _ line (with_line line) a.whole a.batch is)
+  pub dropped_lines : AreLines (take r l) r r effect.Nothing
+  dropped_lines =
+      lines_are (take r l) r r effect.Nothing _ [] [] dropped a.whole (λ some. absurd (some refl)) no_line
 
-    pub dropped_lines : AreLines (take r l) r r effect.Nothing
-    dropped_lines =
-        lines_are (take r l) r r effect.Nothing _ [] [] dropped a.whole (λ some. absurd (some refl)) (no_line effect.Nothing refl)
+  pub forgotten_lines : AreLines (drop r l) 0 (h - r) e
+  forgotten_lines = lines_are (drop r l) 0 (h - r) e [] B N forgotten refl a.batch a.next
 
-    pub forgotten_lines : AreLines (drop r l) 0 (h - r) e
-    forgotten_lines = lines_are (drop r l) 0 (h - r) e [] B N forgotten refl a.batch a.next
+  some_batch : r < h → B ≢ []
+  some_batch less none = let size = all.second in let nothing : length B ≡ 0 = ap length none in omega arith
 
-    some_batch : r < h → B ≢ []
-    some_batch less none = let size = all.second in let nothing : length B ≡ 0 = ap length none in omega arith
+  none_batch : h ≤ r → B ≡ []
+  none_batch less = let none : h - r ≡ 0 = omega arith in ap (λ (n : ℕ). take n (drop r l)) none
 
-    none_batch : h ≤ r → B ≡ []
-    none_batch less = let none : h - r ≡ 0 = omega arith in ap (λ (n : ℕ). take n (drop r l)) none
+  -- with what the record that was taken last adds, a batch is open, or none is
+  turns_all : (to : Bool) → (B ≢ [] → Turns true to N) → (B ≡ [] → Turns false to N) → Turns false to (B ++ N)
+  turns_all to some none = by_batch B refl
+    where
+      by_batch : (x : List ℕ) → B ≡ x → Turns false to (B ++ N)
+      by_batch [] is = subst (λ (x : List ℕ). Turns false to (x ++ N)) (sym is) (none is)
+      by_batch (b ∷ x) is =
+          let holds : B ≢ [] = λ empty. let never : b ∷ x ≡ [] = sym is ∙ empty in absurd cc in
+          turns_join false to B N (a.batch holds) (some holds)
 
-    -- with what the record that was taken last adds, a batch is open, or none is
-    turns_all : (to : Bool) → (B ≢ [] → Turns true to N) → (B ≡ [] → Turns false to N) → Turns false to (B ++ N)
-    turns_all to some none = by_batch B refl
-      where
-        by_batch : (x : List ℕ) → B ≡ x → Turns false to (B ++ N)
-        by_batch [] is = subst (λ (x : List ℕ). Turns false to (x ++ N)) (sym is) (none is)
-        by_batch (b ∷ x) is =
-            let holds : B ≢ [] = λ empty. let never : b ∷ x ≡ [] = sym is ∙ empty in absurd cc in
-            turns_join false to B N (a.batch holds) (some holds)
+  turns_by : (k : Effect) → e ≡ k → has_line k ≡ true → (o : Bool) → Turns o (turned k o) N
+  turns_by k is stored o = subst (λ (x : Effect). Turns o (turned x o) N) is (a.next.turns (ap has_line is ∙ stored) o)
 
-    turns_by : (k : Effect) → e ≡ k → has_line k ≡ true → (o : Bool) → Turns o (turned k o) N
-    turns_by k is stored o = subst (λ (x : Effect). Turns o (turned x o) N) is (a.next.turns (ap has_line is ∙ stored) o)
+  pub held_lines : (n : ℕ) → n ≡ length l → (e ≡ effect.Begin) ⊎ ((e ≡ effect.Change) × (r < h)) →
+      AreLines l r n effect.Nothing
+  held_lines n is by =
+      subst (λ (m : ℕ). AreLines l r m effect.Nothing) (sym is)
+      (lines_are l r (length l) effect.Nothing A (B ++ N) [] pending a.whole (λ _. elim by [
+        | inl b ↦ turns_all true (λ _. turns_by effect.Begin b refl true) (λ _. turns_by effect.Begin b refl false)
+        | inr c ↦ turns_all true (λ _. turns_by effect.Change c.0 refl true) (λ none. absurd (some_batch c.1 none))
+      ]) no_line)
 
-    pub held_lines : (n : ℕ) → n ≡ length l → (e ≡ effect.Begin) ⊎ ((e ≡ effect.Change) × (r < h)) →
-        AreLines l r n effect.Nothing
-    held_lines n is by =
-        subst (λ (m : ℕ). AreLines l r m effect.Nothing) (sym is)
-        (lines_are l r (length l) effect.Nothing A (B ++ N) [] pending a.whole (λ _. elim by [
-          | inl b ↦ turns_all true (λ _. turns_by effect.Begin b refl true) (λ _. turns_by effect.Begin b refl false)
-          | inr c ↦ turns_all true (λ _. turns_by effect.Change c.0 refl true) (λ none. absurd (some_batch c.1 none))
-        ]) (no_line effect.Nothing refl))
+  closed_by : (e ≡ effect.Commit) ⊎ ((e ≡ effect.Change) × (h ≤ r)) → Turns false false (B ++ N)
+  closed_by (inl c) = turns_all false (λ _. turns_by effect.Commit c refl true) (λ _. turns_by effect.Commit c refl false)
+  closed_by (inr c) = turns_all false (λ some. absurd (some (none_batch c.1))) (λ _. turns_by effect.Change c.0 refl false)
 
-    closed_by : (e ≡ effect.Commit) ⊎ ((e ≡ effect.Change) × (h ≤ r)) → Turns false false (B ++ N)
-    closed_by (inl c) = turns_all false (λ _. turns_by effect.Commit c refl true) (λ _. turns_by effect.Commit c refl false)
-    closed_by (inr c) = turns_all false (λ some. absurd (some (none_batch c.1))) (λ _. turns_by effect.Change c.0 refl false)
+  pub ready_lines : (n : ℕ) → n ≡ length l → (e ≡ effect.Commit) ⊎ ((e ≡ effect.Change) × (h ≤ r)) →
+      AreLines l n n effect.Nothing
+  ready_lines n is by =
+      let whole : is_whole (A ++ (B ++ N)) ≡ true =
+      whole_join false [] A (B ++ N) a.whole ∙ ap (is_whole_from false []) (sym (append-nil (B ++ N))) ∙ (closed_by by).whole [] in
+      subst (λ (m : ℕ). AreLines l m m effect.Nothing) (sym is)
+      (lines_are l (length l) (length l) effect.Nothing (A ++ (B ++ N)) [] [] readied whole (λ some. absurd (some refl)) no_line)
 
-    pub ready_lines : (n : ℕ) → n ≡ length l → (e ≡ effect.Commit) ⊎ ((e ≡ effect.Change) × (h ≤ r)) →
-        AreLines l n n effect.Nothing
-    ready_lines n is by =
-        let whole : is_whole (A ++ (B ++ N)) ≡ true =
-        whole_join false [] A (B ++ N) a.whole ∙ ap (is_whole_from false []) (sym (append-nil (B ++ N))) ∙ (closed_by by).whole [] in
-        subst (λ (m : ℕ). AreLines l m m effect.Nothing) (sym is)
-        (lines_are l (length l) (length l) effect.Nothing (A ++ (B ++ N)) [] [] readied whole (λ some. absurd (some refl))
-        (no_line effect.Nothing refl))
+  -- ---- what waits then
 
-    -- ---- what waits then
+  of_parts : (m : List ℕ) (i j : ℕ) (X Y Z : List ℕ) → Parts m i j X Y Z → waits m i j ≡ pair X Y
+  of_parts m i j X Y Z p = let is = are m i j X Y Z p in λ k. pair (is.ready k) (is.batch k)
 
-    of_parts : (m : List ℕ) (i j : ℕ) (X Y Z : List ℕ) → Parts m i j X Y Z → waits m i j ≡ pair X Y
-    of_parts m i j X Y Z p = let is = are m i j X Y Z p in λ k. pair (is.ready k) (is.batch k)
+  pub cut_waits : waits (take h l) r h ≡ waits l r h
+  cut_waits = of_parts (take h l) r h _ _ [] cut
 
-    pub cut_waits : waits (take h l) r h ≡ waits l r h
-    cut_waits = of_parts (take h l) r h _ _ [] cut
+  pub cut_next : drop h (take h l) ≡ []
+  cut_next = (are (take h l) r h _ _ [] cut).next
 
-    pub cut_next : drop h (take h l) ≡ []
-    cut_next = (are (take h l) r h _ _ [] cut).next
+  pub dropped_waits : waits (take r l) r r ≡ pair (take r l) []
+  dropped_waits = of_parts (take r l) r r _ [] [] dropped
 
-    pub dropped_waits : waits (take r l) r r ≡ pair (take r l) []
-    dropped_waits = of_parts (take r l) r r _ [] [] dropped
+  held_waits : (n : ℕ) → n ≡ length l → waits l r n ≡ pair A (B ++ N)
+  held_waits n is = ap (waits l r) is ∙ of_parts l r (length l) A (B ++ N) [] pending
 
-    held_waits : (n : ℕ) → n ≡ length l → waits l r n ≡ pair A (B ++ N)
-    held_waits n is = ap (waits l r) is ∙ of_parts l r (length l) A (B ++ N) [] pending
+  ready_waits : (n : ℕ) → n ≡ length l → waits l n n ≡ pair (A ++ (B ++ N)) []
+  ready_waits n is =
+      ap (λ (m : ℕ). waits l m m) is ∙ of_parts l (length l) (length l) (A ++ (B ++ N)) [] [] readied
 
-    ready_waits : (n : ℕ) → n ≡ length l → waits l n n ≡ pair (A ++ (B ++ N)) []
-    ready_waits n is =
-        ap (λ (m : ℕ). waits l m m) is ∙ of_parts l (length l) (length l) (A ++ (B ++ N)) [] [] readied
+  not_empty : (x : List ℕ) → x ≢ [] → is_empty x ≡ false
+  not_empty [] some = absurd (some refl)
+  not_empty (b ∷ x) some = refl
 
-    not_empty : (x : List ℕ) → x ≢ [] → is_empty x ≡ false
-    not_empty [] some = absurd (some refl)
-    not_empty (b ∷ x) some = refl
+  as_effect : (k : Effect) → e ≡ k → (x : Waiting) → x ≡ concluded k N (pair A B) → x ≡ concluded e N (pair A B)
+  as_effect k is x same = same ∙ ap (λ (f : Effect). concluded f N (pair A B)) (sym is)
 
-    as_effect : (k : Effect) → e ≡ k → (x : Waiting) → x ≡ concluded k N (pair A B) → x ≡ concluded e N (pair A B)
-    as_effect k is x same = same ∙ ap (λ (f : Effect). concluded f N (pair A B)) (sym is)
+  pub opened_waits : (n : ℕ) → n ≡ length l → (e ≡ effect.Begin) ⊎ ((e ≡ effect.Change) × (r < h)) →
+      waits l r n ≡ concluded e (drop h l) (waits l r h)
+  opened_waits n len (inl is) = as_effect effect.Begin is _ (held_waits n len)
+  opened_waits n len (inr both) =
+      as_effect effect.Change both.0 _ (rw (not_empty B (some_batch both.1)) (held_waits n len))
 
-    pub opened_waits : (n : ℕ) → n ≡ length l → (e ≡ effect.Begin) ⊎ ((e ≡ effect.Change) × (r < h)) →
-        waits l r n ≡ concluded e (drop h l) (waits l r h)
-    opened_waits n len (inl is) = as_effect effect.Begin is _ (held_waits n len)
-    opened_waits n len (inr both) =
-        as_effect effect.Change both.0 _ (rw (not_empty B (some_batch both.1)) (held_waits n len))
+  pub readied_waits : (n : ℕ) → n ≡ length l → (e ≡ effect.Commit) ⊎ ((e ≡ effect.Change) × (h ≤ r)) →
+      waits l n n ≡ concluded e (drop h l) (waits l r h)
+  readied_waits n len (inl is) = as_effect effect.Commit is _ (ready_waits n len)
+  readied_waits n len (inr both) =
+      let none = none_batch both.1 in
+      as_effect effect.Change both.0 _
+      (ready_waits n len ∙ ap (λ (x : List ℕ). pair (A ++ (x ++ N)) []) none
+      ∙ ap (λ (x : List ℕ). if is_empty x then pair (A ++ N) [] else pair A (x ++ N)) (sym none))
 
-    pub readied_waits : (n : ℕ) → n ≡ length l → (e ≡ effect.Commit) ⊎ ((e ≡ effect.Change) × (h ≤ r)) →
-        waits l n n ≡ concluded e (drop h l) (waits l r h)
-    readied_waits n len (inl is) = as_effect effect.Commit is _ (ready_waits n len)
-    readied_waits n len (inr both) =
-        let none = none_batch both.1 in
-        as_effect effect.Change both.0 _
-        (ready_waits n len ∙ ap (λ (x : List ℕ). pair (A ++ (x ++ N)) []) none
-        ∙ ap (λ (x : List ℕ). if is_empty x then pair (A ++ N) [] else pair A (x ++ N)) (sym none))
-
-    pub all_fronts : (n : ℕ) → n ≡ length l → (e ≡ effect.Commit) ⊎ ((e ≡ effect.Change) × (h ≤ r)) → (front : List ℕ) →
-        IsFront (take n l) front → IsFront (take r l) front ⊎ (front ≡ take n l)
-    all_fronts n is by front f =
-        let same : take n l ≡ A ++ (B ++ N) =
-        ap (λ (m : ℕ). take m l) is ∙ (are l (length l) (length l) _ [] [] readied).ready in
-        subst (λ (x : List ℕ). IsFront A front ⊎ (front ≡ x)) (sym same)
-        (front_either A (B ++ N) front a.whole (closed_by by) (subst (λ (x : List ℕ). IsFront x front) same f))
+  pub all_fronts : (n : ℕ) → n ≡ length l → (e ≡ effect.Commit) ⊎ ((e ≡ effect.Change) × (h ≤ r)) → (front : List ℕ) →
+      IsFront (take n l) front → IsFront (take r l) front ⊎ (front ≡ take n l)
+  all_fronts n is by front f =
+      let same : take n l ≡ A ++ (B ++ N) =
+      ap (λ (m : ℕ). take m l) is ∙ (are l (length l) (length l) _ [] [] readied).ready in
+      subst (λ (x : List ℕ). IsFront A front ⊎ (front ≡ x)) (sym same)
+      (front_either A (B ++ N) front a.whole (closed_by by) (subst (λ (x : List ℕ). IsFront x front) same f))

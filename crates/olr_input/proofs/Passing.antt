@@ -3,6 +3,7 @@ use Rattle.std.proofs.Common.{◌≡◌, ◌∙◌, ◌≤◌, ◌<◌, ◌+◌,
 use Rattle.std.proofs.Common.{refl, sym, ap, subst, Ok, Err, arith, length-drop}
 use Rattle.std.proofs.KnownBytes.{Appends-nil, Appends-trans}
 use Rattle.std.proofs.Math.Seq.{take-add}
+use Rattle.std.proofs.lemmas.Bool.{both_ways}
 use Rattle.std.proofs.lemmas.List.{append-nil, append_assoc, take-append-drop}
 use Rattle.olr_input.specs.Buffers.{pending, Sends}
 use Rattle.olr_input.specs.Gates.{is_closed, ready, Storing, None_sent, None_ready, All_stored, Cut_off}
@@ -21,14 +22,11 @@ still_open : (b c : Bool) → (b ≡ true → c ≡ true) → c ≡ false → b 
 still_open true c h e = absurd (let never : true ≡ false = sym (h refl) ∙ e in cc)
 still_open false c h e = refl
 
-both_none : (x y : List ℕ) → x ≡ [] → y ≡ [] → x ++ y ≡ []
-both_none x y e f = (λ i. e i ++ f i)
-
 module _ {J : Type 0} (stored : J → List ℕ) (may_leave : J → List ℕ → Type 0) where
   storing_trans : (g h i : Gate J) (x y : List ℕ) → Storing stored may_leave g h x → Storing stored may_leave h i y →
       Storing stored may_leave g i (x ++ y)
   storing_trans g h i x y (None_sent j r s c) (None_sent k q t d) =
-      None_sent (k ∙ j) (q ∙ r) (both_none x y s t) (λ closed. d (c closed))
+      None_sent (k ∙ j) (q ∙ r) (λ n. s n ++ t n) (λ closed. d (c closed))
   storing_trans g h i x y (None_sent j r s c) (None_ready o k a b) =
       None_ready (still_open (is_closed g) (is_closed h) c o) (k ∙ j) (sym r ∙ a) b
   storing_trans g h i x y (None_sent j r s c) (All_stored o k only b) =
@@ -37,7 +35,7 @@ module _ {J : Type 0} (stored : J → List ℕ) (may_leave : J → List ℕ → 
       Cut_off (still_open (is_closed g) (is_closed h) c o)
       (subst (λ (a : J). MayHaveStored stored may_leave a (ready g) i.journal) j
       (subst (λ (a : List ℕ). MayHaveStored stored may_leave h.journal a i.journal) r may))
-      (λ none. some (r ∙ none)) (both_none x y s t) d
+      (λ none. some (r ∙ none)) (λ n. s n ++ t n) d
   storing_trans g h i x y (None_ready o j a b) (None_sent k q t d) = None_ready o (k ∙ j) a (q ∙ b)
   storing_trans g h i x y (None_ready o j a b) (None_ready p k c d) = None_ready o (k ∙ j) a d
   storing_trans g h i x y (None_ready o j a b) (All_stored p k only d) =
@@ -52,122 +50,108 @@ module _ {J : Type 0} (stored : J → List ℕ) (may_leave : J → List ℕ → 
   storing_trans g h i x y (All_stored o k only b) (Cut_off p may some t d) = absurd (some b)
   storing_trans g h i x y (Cut_off o may some s c) (None_sent j q t d) =
       Cut_off o (subst (λ (a : J). MayHaveStored stored may_leave g.journal (ready g) a) (sym j) may) some
-      (both_none x y s t) (d c)
-  storing_trans g h i x y (Cut_off o may some s c) (None_ready p j a b) =
-      absurd (let never : true ≡ false = sym c ∙ p in cc)
-  storing_trans g h i x y (Cut_off o may some s c) (All_stored p k only b) =
-      absurd (let never : true ≡ false = sym c ∙ p in cc)
-  storing_trans g h i x y (Cut_off o may some s c) (Cut_off p may2 some2 t d) =
-      absurd (let never : true ≡ false = sym c ∙ p in cc)
+      (λ n. s n ++ t n) (d c)
+  storing_trans g h i x y (Cut_off o may some s c) (None_ready p j a b) = absurd (both_ways (is_closed h) p c)
+  storing_trans g h i x y (Cut_off o may some s c) (All_stored p k only b) = absurd (both_ways (is_closed h) p c)
+  storing_trans g h i x y (Cut_off o may some s c) (Cut_off p may2 some2 t d) = absurd (both_ways (is_closed h) p c)
 
   same_trans : (g h i : Gate J) → SameBatch g h → SameBatch h i → SameBatch g i
   same_trans g h i a b =
       record { batches = b.batches ∙ a.batches; line = b.line ∙ a.line; effects = b.effects ∙ a.effects }
 
-  pub same_refl : (g : Gate J) → SameBatch g g
-  same_refl g = record { batches = refl; line = refl; effects = refl }
+  -- the first n bytes of a text passed
+  pub record Passed {W : Type 0} (contents : W → Known) (g : Gate J) (o : Buffered W) (h : Gate J) (p : Buffered W)
+      (text : List ℕ) (n : ℕ) : Type 0 where
+    pub within : n ≤ length text
+    pub front : Passes stored may_leave contents g o h p (take n text)
 
-  module _ {W : Type 0} (contents : W → Known) where
-    abbrev Through : Gate J → Buffered W → Gate J → Buffered W → List ℕ → Type 0
-    Through g o h p text = Passes stored may_leave contents g o h p text
+module _ {J W : Type 0} {stored : J → List ℕ} {may_leave : J → List ℕ → Type 0} {contents : W → Known} where
+  passes_trans : {g h i : Gate J} {o p q : Buffered W} {x y : List ℕ} → Passes stored may_leave contents g o h p x →
+      Passes stored may_leave contents h p i q y → Passes stored may_leave contents g o i q (x ++ y)
+  passes_trans {g} {h} {i} {o} {p} {q} {x} {y} a b =
+      record {
+        sent = a.sent ++ b.sent;
+        storing = storing_trans stored may_leave g h i a.sent b.sent a.storing b.storing;
+        others = same_trans stored may_leave g h i a.others b.others;
+        due = b.due ∙ a.due;
+        device = Appends-trans (contents o.device) (contents p.device) (contents q.device) a.sent b.sent a.device b.device;
+        bytes = sym (append_assoc (pending o) x y) ∙ ap (λ (l : List ℕ). l ++ y) a.bytes
+            ∙ append_assoc a.sent (pending p) y ∙ ap (λ (l : List ℕ). a.sent ++ l) b.bytes
+            ∙ sym (append_assoc a.sent b.sent (pending q));
+      }
 
-    pub passes_trans : (g h i : Gate J) (o p q : Buffered W) (x y : List ℕ) → Through g o h p x → Through h p i q y →
-        Through g o i q (x ++ y)
-    passes_trans g h i o p q x y a b =
-        record {
-          sent = a.sent ++ b.sent;
-          storing = storing_trans g h i a.sent b.sent a.storing b.storing;
-          others = same_trans g h i a.others b.others;
-          due = b.due ∙ a.due;
-          device = Appends-trans (contents o.device) (contents p.device) (contents q.device) a.sent b.sent a.device b.device;
-          bytes = sym (append_assoc (pending o) x y) ∙ ap (λ (l : List ℕ). l ++ y) a.bytes
-              ∙ append_assoc a.sent (pending p) y ∙ ap (λ (l : List ℕ). a.sent ++ l) b.bytes
-              ∙ sym (append_assoc a.sent b.sent (pending q));
-        }
+  -- bytes are held back
+  passes_held : {g : Gate J} {o p : Buffered W} {x : List ℕ} → p.device ≡ o.device → pending p ≡ pending o ++ x →
+      Passes stored may_leave contents g o g p x
+  passes_held {g} {o} {p} {x} d e =
+      record {
+        sent = [];
+        storing = None_sent refl refl refl (λ c. c);
+        others = record { batches = refl; line = refl; effects = refl };
+        due = refl;
+        device = subst (λ (w : W). Appends (contents o.device) (contents w) []) (sym d) (Appends-nil (contents o.device));
+        bytes = sym e;
+      }
 
-    -- bytes are held back
-    pub passes_held : (g : Gate J) (o p : Buffered W) (x : List ℕ) → p.device ≡ o.device → pending p ≡ pending o ++ x →
-        Through g o g p x
-    passes_held g o p x d e =
-        record {
-          sent = [];
-          storing = None_sent refl refl refl (λ c. c);
-          others = same_refl g;
-          due = refl;
-          device = subst (λ (w : W). Appends (contents o.device) (contents w) []) (sym d) (Appends-nil (contents o.device));
-          bytes = sym e;
-        }
+  pub passes_none : {g : Gate J} {o p : Buffered W} → p.device ≡ o.device → pending p ≡ pending o →
+      Passes stored may_leave contents g o g p []
+  passes_none {g} {o} d e = passes_held d (e ∙ sym (append-nil (pending o)))
 
-    pub passes_none : (g : Gate J) (o p : Buffered W) → p.device ≡ o.device → pending p ≡ pending o → Through g o g p []
-    passes_none g o p d e = passes_held g o p [] d (e ∙ sym (append-nil (pending o)))
+  -- what is held back is sent
+  pub passes_sent : {g h : Gate J} {o p : Buffered W} → ((sent : List ℕ) → Storing stored may_leave g h sent) →
+      SameBatch g h → compaction h ≡ compaction g → Sends (contents o.device) (pending o) (contents p.device) (pending p)
+      → Passes stored may_leave contents g o h p []
+  passes_sent {g} {h} {o} keeps same due s =
+      record { sent = s.0; storing = keeps s.0; others = same; due = due; device = s.1; bytes = append-nil (pending o) ∙ s.2 }
 
-    -- what is held back is sent
-    pub passes_sent : (g h : Gate J) (o p : Buffered W) → ((sent : List ℕ) → Storing stored may_leave g h sent) →
-        SameBatch g h → compaction h ≡ compaction g → Sends (contents o.device) (pending o) (contents p.device) (pending p)
-        → Through g o h p []
-    passes_sent g h o p keeps same due s =
-        record {
-          sent = s.0;
-          storing = keeps s.0;
-          others = same;
-          due = due;
-          device = s.1;
-          bytes = append-nil (pending o) ∙ s.2;
-        }
+  -- or can't be
+  pub passes_stored : {g h : Gate J} {o : Buffered W} → Storing stored may_leave g h [] → SameBatch g h →
+      compaction h ≡ compaction g → Passes stored may_leave contents g o h o []
+  passes_stored {g} {h} {o} keeps same due =
+      record {
+        sent = [];
+        storing = keeps;
+        others = same;
+        due = due;
+        device = Appends-nil (contents o.device);
+        bytes = append-nil (pending o);
+      }
 
-    -- or can't be
-    pub passes_stored : (g h : Gate J) (o : Buffered W) → Storing stored may_leave g h [] → SameBatch g h →
-        compaction h ≡ compaction g → Through g o h o []
-    passes_stored g h o keeps same due =
-        record {
-          sent = [];
-          storing = keeps;
-          others = same;
-          due = due;
-          device = Appends-nil (contents o.device);
-          bytes = append-nil (pending o);
-        }
+  pub passed_more : {g h i : Gate J} {o p q : Buffered W} {text : List ℕ} {n : ℕ} (k : ℕ) →
+      Passed stored may_leave contents g o h p text n → k ≤ length (rest_from text n) →
+      Passes stored may_leave contents h p i q (take k (rest_from text n)) → Passed stored may_leave contents g o i q text (n + k)
+  passed_more {g} {h} {i} {o} {p} {q} {text} {n} k a l b =
+      record {
+        within = (let f = a.within in grind (arith, rest_is, length-drop));
+        front = rw take-add
+            (passes_trans a.front (subst (λ (r : List ℕ). Passes stored may_leave contents h p i q (take k r)) (rest_is text n) b));
+      }
 
-    -- the first n bytes of a text passed
-    pub record Passed (g : Gate J) (o : Buffered W) (h : Gate J) (p : Buffered W) (text : List ℕ) (n : ℕ) : Type 0 where
-      pub within : n ≤ length text
-      pub front : Through g o h p (take n text)
+  pub passed_front : {g h i : Gate J} {o p q : Buffered W} {text : List ℕ} {n : ℕ} →
+      Passed stored may_leave contents g o h p text n → n < length text → Passes stored may_leave contents h p i q [] →
+      PassesAll stored may_leave contents g o i q text (Err Write)
+  passed_front {g} {h} {i} {o} {p} {q} {text} {n} a more b = (
+    take n text,
+    drop n text,
+    sym (take-append-drop n text),
+    (λ none. let size = length-drop n text in let nothing : length (drop n text) ≡ 0 = ap length none in omega arith),
+    subst (λ (t : List ℕ). Passes stored may_leave contents g o i q t) (append-nil (take n text)) (passes_trans a.front b),
+    refl,
+  )
 
-    pub passed_more : (g h i : Gate J) (o p q : Buffered W) (text : List ℕ) (n k : ℕ) → Passed g o h p text n →
-        k ≤ length (rest_from text n) → Through h p i q (take k (rest_from text n)) → Passed g o i q text (n + k)
-    passed_more g h i o p q text n k a l b =
-        record {
-          within = (let f = a.within in grind (arith, rest_is, length-drop));
-          front = rw take-add (passes_trans g h i o p q (take n text) (take k (drop n text)) a.front
-              (subst (λ (r : List ℕ). Through h p i q (take k r)) (rest_is text n) b));
-        }
+  -- a second try, after what was held back is sent
+  pub some_after : {g h : Gate J} {n p : Buffered W} (o q : Buffered W) (k : ℕ) (text : List ℕ) (r : Result ℕ RunFault) →
+      n.device ≡ o.device → pending n ≡ pending o ++ take k text → k ≤ 0 → Passes stored may_leave contents g n h p []
+      → q.device ≡ p.device → IfOk r (λ i. i ≤ length text) → IfOk r (λ i. pending q ≡ pending p ++ take i text)
+      → OnErr r (pending q ≡ pending p) → IfErr r (λ e. e ≡ Write) → PassesSome stored may_leave contents g o h q text r
+  some_after {g} {h} {n} {p} o q k text r d e none sent f bound more nothing fault = by_result r bound more nothing fault
+    where
+      first : Passes stored may_leave contents g o g n []
+      first =
+          passes_none d (e ∙ ap (λ (x : List ℕ). pending o ++ x) (let zero_is : k ≡ 0 = omega arith in ap (λ (j : ℕ). take j text) zero_is)
+          ∙ append-nil (pending o))
 
-    pub passed_front : (g h i : Gate J) (o p q : Buffered W) (text : List ℕ) (n : ℕ) → Passed g o h p text n →
-        n < length text → Through h p i q [] → PassesAll stored may_leave contents g o i q text (Err Write)
-    passed_front g h i o p q text n a more b = (
-      take n text,
-      drop n text,
-      sym (take-append-drop n text),
-      (λ none. let size = length-drop n text in let nothing : length (drop n text) ≡ 0 = ap length none in omega arith),
-      subst (λ (t : List ℕ). Through g o i q t) (append-nil (take n text)) (passes_trans g h i o p q (take n text) [] a.front b),
-      refl,
-    )
-
-    -- a second try, after what was held back is sent
-    pub some_after : (g h : Gate J) (o n p q : Buffered W) (k : ℕ) (text : List ℕ) (r : Result ℕ RunFault) →
-        n.device ≡ o.device → pending n ≡ pending o ++ take k text → k ≤ 0 → Through g n h p [] → q.device ≡ p.device
-        → IfOk r (λ i. i ≤ length text) → IfOk r (λ i. pending q ≡ pending p ++ take i text) → OnErr r (pending q ≡ pending p)
-        → IfErr r (λ e. e ≡ Write) → PassesSome stored may_leave contents g o h q text r
-    some_after g h o n p q k text r d e none sent f bound more nothing fault = by_result r bound more nothing fault
-      where
-        first : Through g o g n []
-        first =
-            passes_none g o n d (e ∙ ap (λ (x : List ℕ). pending o ++ x) (let zero_is : k ≡ 0 = omega arith in ap (λ (j : ℕ). take j text) zero_is)
-            ∙ append-nil (pending o))
-
-        by_result : (r : Result ℕ RunFault) → IfOk r (λ i. i ≤ length text) → IfOk r (λ i. pending q ≡ pending p ++ take i text) →
-            OnErr r (pending q ≡ pending p) → IfErr r (λ e. e ≡ Write) → PassesSome stored may_leave contents g o h q text r
-        by_result (Ok i) b m x y =
-            (b, passes_trans g g h o n q [] (take i text) first (passes_trans g h h n p q [] (take i text) sent (passes_held h p q (take i text) f m)))
-        by_result (Err z) b m x y =
-            (passes_trans g g h o n q [] [] first (passes_trans g h h n p q [] [] sent (passes_none h p q f x)), y)
+      by_result : (r : Result ℕ RunFault) → IfOk r (λ i. i ≤ length text) → IfOk r (λ i. pending q ≡ pending p ++ take i text) →
+          OnErr r (pending q ≡ pending p) → IfErr r (λ e. e ≡ Write) → PassesSome stored may_leave contents g o h q text r
+      by_result (Ok i) b m x y = (b, passes_trans first (passes_trans sent (passes_held f m)))
+      by_result (Err z) b m x y = (passes_trans first (passes_trans sent (passes_none f x)), y)

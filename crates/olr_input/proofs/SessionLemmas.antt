@@ -47,7 +47,7 @@ reads_left s t (Some xs) (Some ys) failed found fields h = by_next (next_record 
 
 module _ {R : Type 0} (remaining : R → Known) (old new : Reader R) where
   ready : IsPlain old → Ready old
-  ready plain = elim (cases_Bool (took_first old)) [ | inl e ↦ inl e | inr e ↦ inr (inr (plain.no_header, plain.none e)) ]
+  ready plain = elim (cases_Bool (took_first old)) [ inl e ↦ inl e | inr e ↦ inr (inr (plain.no_header, plain.none e)) ]
 
   pub read_left : (found : Bool) (fields : List (List ℕ)) → StaysPlain old → has_failed new ≡ has_failed old →
       (has_failed old ≡ true → found ≡ false)

@@ -176,8 +176,8 @@ line_for e (word ∷ fs) is stored clean =
           (ap (stays_open o) (body_is word fs) ∙ stays_for e word fs is stored o);
     }
 
-pub no_line : (e : Effect) → has_line e ≡ false → IsLineFor e []
-no_line e none = record { none = λ _. refl; turns = λ stored. absurd (let never : true ≡ false = sym stored ∙ none in cc) }
+pub no_line : IsLineFor effect.Nothing []
+no_line = record { none = λ _. refl; turns = λ stored. absurd (cc stored) }
 
 -- ---- fields
 

@@ -62,8 +62,7 @@ abbrev pub is_due : ℕ → Bool → Effect → Compaction → Bool
 is_due len accepted effect c = c.is_wanted || (accepted && is_compact effect) || nat_le c.next_from len
 
 abbrev pub concluded_compaction : ℕ → Bool → Effect → Compaction → Compaction
-concluded_compaction len accepted effect c =
-    record { is_wanted = is_due len accepted effect c; next_from = c.next_from; compacted_from = c.compacted_from }
+concluded_compaction len accepted effect c = record c { is_wanted = is_due len accepted effect c }
 
 -- twice a length, and the least length at least
 abbrev pub twice : ℕ → ℕ → ℕ
@@ -76,8 +75,7 @@ first_from len least = if nat_le least len then twice len least else least
 
 -- after the records were given, or could not be
 abbrev pub put_off : ℕ → Compaction → Compaction
-put_off len c =
-    record { is_wanted = false; next_from = twice len c.compacted_from; compacted_from = c.compacted_from }
+put_off len c = record c { is_wanted = false; next_from = twice len c.compacted_from }
 
 -- ---- what passes
 
@@ -166,11 +164,3 @@ pub record LostLine {J : Type 0} (g h : Gate J) : Type 0 where
   pub untouched : Untouched g h
   pub due : compaction h ≡ compaction g
   pub waits : waiting h.unstored ≡ waiting g.unstored
-
--- the line of a record that was read was taken, or there was none
-abbrev pub TakesFound : {J : Type 0} → Gate J → Result Bool RunFault → List (List ℕ) → Gate J → Result Bool RunFault →
-    Type 0
-TakesFound g (Ok true) fields h (Ok found) = (found ≡ true) × TookLine g fields h
-TakesFound g (Ok true) fields h (Err e) = (e ≡ fault.Memory) × LostLine g h
-TakesFound g (Ok false) fields h r = (r ≡ Ok false) × (h ≡ g)
-TakesFound g (Err e) fields h r = (r ≡ Err e) × (h ≡ g)

@@ -10,6 +10,7 @@ use Rattle.std.specs.Prelude.{◌≡◌, ◌+◌, ◌^◌, ◌<◌, ◌⊎◌, �
 use Rattle.std.specs.Prelude.{codes, Option, Some, None, ⊤}
 use Rattle.std.specs.Bool.{MatchBool}
 use Rattle.std.specs.List.{list_any}
+use Rattle.std.specs.Option.{option_map_or}
 use Rattle.csv.specs.Machine.{Read, next_record}
 use Rattle.csv.specs.Reading.{default_config, strip_bom}
 use Rattle.csv.specs.declared.parser.State.TheVariants as st
@@ -56,13 +57,10 @@ is_rejected line = nat_lt most_in_line (length line) || is_quoted (state_after s
 abbrev pub formless : List (List ℕ)
 formless = codes "!" ∷ []
 
-abbrev pub read_fields : Option Read → List (List ℕ)
-read_fields None = []
-read_fields (Some p) = p.0
-
 unfoldable pub line_record : List ℕ → List (List ℕ)
 line_record line =
-    if is_rejected line then formless else read_fields (next_record default_config st.StartRecord [] [] line)
+    if is_rejected line then formless
+    else option_map_or (λ (p : Read). p.0) (next_record default_config st.StartRecord [] [] line) []
 
 abbrev pub line_records : List ℕ → List (List (List ℕ))
 line_records bytes = map line_record (lines_of (strip_bom bytes))

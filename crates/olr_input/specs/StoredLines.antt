@@ -9,7 +9,7 @@ use Rattle.std.specs.Prelude.{◌≡◌, ◌≢◌, ◌≤◌, ◌-◌, ◌==◌
 use Rattle.std.specs.Prelude.{◌∷◌, ◌++◌, length, take, drop, codes}
 use Rattle.std.specs.List.{list_all, list_any, join_with_byte}
 use Rattle.std.specs.Str.{bytes_eq}
-use Rattle.olr_input.specs.Journals.{stays_open, is_empty, is_whole, is_whole_from}
+use Rattle.olr_input.specs.Journals.{is_empty, is_whole, is_whole_from}
 use Rattle.olr_input.specs.declared.unstored.Effect.{Effect}
 use Rattle.olr_input.specs.declared.unstored.Effect.TheVariants as effect
 
@@ -52,7 +52,7 @@ has_line effect.Begin = true
 has_line effect.Commit = true
 has_line _ = false
 
--- whether it asks that the log be replaced
+-- whether the log is to be replaced
 abbrev pub is_compact : Effect → Bool
 is_compact effect.Compact = true
 is_compact _ = false

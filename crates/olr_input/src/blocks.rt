@@ -28,15 +28,6 @@ pub struct Blocks<R: Drop> {
     ghost lines: { HasLinesUpTo last_plain_end (take end bytes.items) },
 }
 
-/// The part of these bytes from a start to an end.
-fn part(bytes: &[u8], start: usize, end: usize) -> &[u8]
-    requires order { start ≤ end }
-    requires within { end ≤ length bytes.now }
-    ensures { result.now ≡ take (end - start) (drop start bytes.now) }
-{
-    &bytes[start..end]
-}
-
 impl<R: Read + Drop> Blocks<R> {
     ghost use Rattle.std.specs.Io.KnownBytes.{Keeps, Consumes, IsAtEnd};
     ghost use Rattle.olr_input.specs.Blocks.{block_of, bytes_from, input_left};
@@ -64,7 +55,7 @@ impl<R: Read + Drop> Blocks<R> {
     pub(crate) fn block(&self) -> &[u8]
         ensures { result.now ≡ block_of self.now }
     {
-        part(self.bytes.as_slice(), self.start, self.end)
+        &self.bytes.as_slice()[self.start..self.end]
     }
 
     /// Reads a block if nothing is left of the last one.

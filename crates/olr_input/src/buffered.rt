@@ -48,8 +48,8 @@ pub(crate) fn remove_front(bytes: &mut Vec<u8>, count: usize)
 const MOST_PENDING: usize = 1 << 16;
 
 impl<W: Write + Drop> Buffered<W> {
-    ghost use Rattle.std.specs.Prelude.{◌++◌, OnErr};
-    ghost use Rattle.olr_input.specs.Buffers.{pending, Sends};
+    ghost use Rattle.std.specs.Prelude.{◌++◌, IfErr, OnErr};
+    ghost use Rattle.olr_input.specs.Buffers.{pending, written, Sends};
 
     /// An output to this device. Every byte that it will hold has its place from the start.
     pub fn new(alloc: Global, device: W) -> Result<Buffered<W>, AllocError>
@@ -64,11 +64,12 @@ impl<W: Write + Drop> Buffered<W> {
     }
 
     /// Holds bytes back, and returns how many. Takes nothing of a text for which there is no room beside others, so that
-    /// texts leave whole if they are no longer than the room for all.
-    pub(crate) fn hold(&mut self, bytes: &[u8]) -> Result<usize, AllocError>
+    /// texts leave whole if they are no longer than the room for all. `Write` is the fault if an allocation fails.
+    pub(crate) fn hold(&mut self, bytes: &[u8]) -> Result<usize, RunFault>
         ensures bound { IfOk result (λ n. n ≤ length bytes.now) }
         ensures pending { IfOk result (λ n. pending self.new ≡ pending self.old ++ take n bytes.now) }
         ensures nothing { OnErr result (pending self.new ≡ pending self.old) }
+        ensures fault { IfErr result (λ e. e ≡ RunFault.Write) }
         ensures device { self.new.device ≡ self.old.device }
     {
         let room = MOST_PENDING - self.pending.len();
@@ -79,25 +80,38 @@ impl<W: Write + Drop> Buffered<W> {
         } else {
             0
         };
-        self.pending.extend_from_slice(&bytes[..taken])?;
+        if self.pending.extend_from_slice(&bytes[..taken]).is_err() {
+            return Err(RunFault::Write);
+        }
         Ok(taken)
     }
 
-    /// Sends what is pending, from its front on. After a failure the rest is still pending, and nothing more is sent.
-    pub(crate) fn send_pending(&mut self) -> io::Result<()>
+    /// Sends what is pending, from its front on. After a failure the rest is still pending, and nothing more is sent. `Write` is
+    /// the fault if it can't be sent.
+    pub(crate) fn send_pending(&mut self) -> Result<(), RunFault>
         ensures device { Sends (W.contents self.old.device) (pending self.old) (W.contents self.new.device) (pending self.new) }
         ensures sent { OnOk result (pending self.new ≡ []) }
+        ensures fault { IfErr result (λ e. e ≡ RunFault.Write) }
     {
         if self.failed {
-            return Err(io::Error::from(ErrorKind::BrokenPipe));
+            return Err(RunFault::Write);
         }
         let sent = send(&mut self.device, self.pending.as_slice());
         remove_front(&mut self.pending, sent);
         if !self.pending.is_empty() {
             self.failed = true;
-            return Err(io::Error::from(ErrorKind::BrokenPipe));
+            return Err(RunFault::Write);
         }
-        self.device.flush()
+        self.device.flush().map_err(|_| RunFault::Write)
+    }
+
+    /// Sends what is pending, as `flush` does. `Write` is the fault if it can't be sent.
+    pub fn send_all(&mut self) -> Result<(), RunFault>
+        ensures bytes { Keeps (written W.contents self.old) (written W.contents self.new) }
+        ensures sent { OnOk result (pending self.new ≡ []) }
+        ensures fault { IfErr result (λ e. e ≡ RunFault.Write) }
+    {
+        self.send_pending()
     }
 
     /// The device, which has what was sent.
@@ -116,7 +130,7 @@ impl<W: Write + Drop> Write for Buffered<W> {
     /// Holds bytes back. Takes nothing of a text for which there is no room beside others, so that texts leave whole if
     /// they are no longer than the room for all.
     fn write(&mut self, bytes: &[u8]) -> io::Result<usize> {
-        Ok(self.hold(bytes)?)
+        self.hold(bytes).map_err(|_| ErrorKind::OutOfMemory.into())
     }
 
     /// Sends what is pending.
@@ -125,22 +139,6 @@ impl<W: Write + Drop> Write for Buffered<W> {
         ensures sent { OnOk result (pending self.new ≡ []) }
     {
         self.send_pending()
-    }
-}
-
-impl<W: Write + Drop> Buffered<W> {
-    ghost use Rattle.std.specs.Prelude.{IfErr};
-    ghost use Rattle.olr_input.specs.Buffers.{pending, written};
-
-    /// Sends what is pending, as `flush` does. `Write` is the fault if it can't be sent.
-    pub fn send_all(&mut self) -> Result<(), RunFault>
-        ensures bytes { Keeps (written W.contents self.old) (written W.contents self.new) }
-        ensures sent { OnOk result (pending self.new ≡ []) }
-        ensures fault { IfErr result (λ e. e ≡ RunFault.Write) }
-    {
-        match self.flush() {
-            Ok(()) => Ok(()),
-            Err(_error) => Err(RunFault::Write),
-        }
+            .map_err(|_| ErrorKind::BrokenPipe.into())
     }
 }

@@ -1,9 +1,9 @@
 //! The gate through which the answers of a run with a log leave.
 
-ghost use Rattle.std.specs.Prelude.{◌≡◌, ◌≤◌, ◌++◌, ℕ, List, [], take, length, None, Ok, IfOk, IfErr, OnOk, OnErr, IsTrue, false, true};
+ghost use Rattle.std.specs.Prelude.{◌≡◌, ℕ, List, [], None, IfErr, OnOk, IsTrue, false, true};
 ghost use Rattle.csv.specs.Records.{fields_of};
 ghost use Rattle.olr_input.specs.Gates.{Storing, Passes, PassesSome, PassesAll, Untouched, SameBatch, ConcludedBy};
-ghost use Rattle.olr_input.specs.Gates.{TakesFound, Compacts, PutsOff, is_closed, ready, batch, compaction, asks};
+ghost use Rattle.olr_input.specs.Gates.{Compacts, PutsOff, is_closed, ready, batch, compaction, asks};
 ghost use Rattle.olr_input.specs.Gates.{first_from, concluded_compaction};
 ghost use Rattle.olr_input.specs.Gates as gates;
 ghost use Rattle.olr_input.specs.Journals as journals;
@@ -80,15 +80,7 @@ impl<J: Journal + Drop> Gate<J> {
     pub fn into_journal(self) -> J
         ensures { result ≡ self.journal }
     {
-        let Gate {
-            journal,
-            unstored,
-            fault: _,
-            compacted_from: _,
-            next_from: _,
-            is_wanted: _,
-        } = self;
-        drop(unstored);
+        let Gate { journal, .. } = self;
         journal
     }
 
@@ -100,7 +92,7 @@ impl<J: Journal + Drop> Gate<J> {
     }
 
     /// Takes the line of a record that will be answered next.
-    fn take(&mut self, fields: &ByteRecord) -> Result<(), AllocError>
+    pub fn take(&mut self, fields: &ByteRecord) -> Result<(), AllocError>
         ensures untouched { Untouched self.old self.new }
         ensures waiting { waiting self.new.unstored ≡ waiting self.old.unstored }
         ensures effect { OnOk result (self.new.unstored.effect ≡ effect_of (fields_of fields.now)) }
@@ -169,24 +161,6 @@ impl<J: Journal + Drop> Gate<J> {
             Ok(true) => self.unstored.forget_ready(),
             Ok(false) => self.journal.report_unreplaced(true),
             Err(error) => self.fault = Some(LogFault::Unwritten(error)),
-        }
-    }
-
-    /// Takes the line of a record that was read, if one was.
-    pub fn take_found(
-        &mut self,
-        found: Result<bool, RunFault>,
-        fields: &ByteRecord,
-    ) -> Result<bool, RunFault>
-        ensures { TakesFound self.old found (fields_of fields.now) self.new result }
-    {
-        match found {
-            Ok(true) => match self.take(fields) {
-                Ok(()) => Ok(true),
-                Err(_error) => Err(RunFault::Memory),
-            },
-            Ok(false) => Ok(false),
-            Err(fault) => Err(fault),
         }
     }
 
@@ -261,10 +235,7 @@ impl<J: Journal + Drop> Gate<J> {
         if !self.store() {
             return Err(RunFault::Write);
         }
-        match output.send_pending() {
-            Ok(()) => Ok(()),
-            Err(_error) => Err(RunFault::Write),
-        }
+        output.send_pending()
     }
 
     /// The same, if the source of the records may wait.
@@ -290,12 +261,12 @@ impl<J: Journal + Drop> Gate<J> {
     ) -> Result<usize, RunFault>
         ensures { PassesSome J.stored J.may_leave W.contents self.old output.old self.new output.new text.now result }
     {
-        let taken = hold(output, text)?;
+        let taken = output.hold(text)?;
         if taken > 0 {
             return Ok(taken);
         }
         self.send(output)?;
-        hold(output, text)
+        output.hold(text)
     }
 
     /// Holds back a text, or what is left of it once its first part was sent. `Write` is the fault if it can't be sent.
@@ -335,18 +306,4 @@ fn twice(len: usize, least: usize) -> usize
     ensures { result ≡ gates.twice len least }
 {
     len.saturating_mul(2).max(least)
-}
-
-/// Holds back as many bytes as there is room for. `Write` is the fault if an allocation fails.
-fn hold<W: Write + Drop>(output: &mut Buffered<W>, bytes: &[u8]) -> Result<usize, RunFault>
-    ensures bound { IfOk result (λ n. n ≤ length bytes.now) }
-    ensures pending { IfOk result (λ n. pending output.new ≡ pending output.old ++ take n bytes.now) }
-    ensures device { output.new.device ≡ output.old.device }
-    ensures nothing { OnErr result (pending output.new ≡ pending output.old) }
-    ensures fault { IfErr result (λ e. e ≡ RunFault.Write) }
-{
-    match output.hold(bytes) {
-        Ok(taken) => Ok(taken),
-        Err(_error) => Err(RunFault::Write),
-    }
 }

@@ -21,7 +21,7 @@ pub enum Input<R: Drop> {
 impl<R: Read + Drop> Input<R> {
     ghost use Rattle.olr_input.specs.Inputs.{InputLeft, input_records};
 
-    /// The records of an input, one for each line if that is asked for.
+    /// The records of an input, one for each line or as `csv` reads them.
     #[tactic(auto, using(crate::proofs::SessionLemmas::known_left))]
     pub fn new(alloc: Global, input: R, single: bool) -> Result<Input<R>, AllocError>
         ensures { IfOk result (λ i. IfSome (input_records single (R.remaining input)) (InputLeft R.remaining i)) }

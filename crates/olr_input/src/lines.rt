@@ -25,16 +25,9 @@ fn empty_lines_length(bytes: &[u8]) -> usize
     bytes.len()
 }
 
-/// The bytes after empty lines.
-fn after_empty_lines(bytes: &[u8]) -> &[u8]
-    ensures { has_line false bytes.now ≡ has_line true result.now }
-{
-    &bytes[empty_lines_length(bytes)..]
-}
-
 /// Whether a line that isn't empty ends in bytes.
 pub(crate) fn ends_any(bytes: &[u8]) -> bool {
-    memchr2(b'\n', b'\r', after_empty_lines(bytes)).is_some()
+    memchr2(b'\n', b'\r', &bytes[empty_lines_length(bytes)..]).is_some()
 }
 
 /// Whether these bytes of a line have its end, and no quote before it.

@@ -33,8 +33,7 @@ impl<S: Source + Drop, J: Journal + Drop> Logged<S, J> {
     pub fn into_gate(self) -> Gate<J>
         ensures { result ≡ self.gate }
     {
-        let Logged { source, gate } = self;
-        drop(source);
+        let Logged { gate, .. } = self;
         gate
     }
 }
@@ -50,8 +49,11 @@ impl<S: Source + Drop, W: Write + Drop, J: Journal + Drop> Session<Buffered<W>> 
         fields: &mut ByteRecord,
     ) -> Result<bool, RunFault> {
         self.gate.send_before(self.source.may_wait(), output)?;
-        let found = self.source.next(fields);
-        self.gate.take_found(found, fields)
+        if !self.source.next(fields)? {
+            return Ok(false);
+        }
+        self.gate.take(fields)?;
+        Ok(true)
     }
 
     fn answer(

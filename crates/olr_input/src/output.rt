@@ -46,8 +46,5 @@ pub fn flush<W: Write>(output: &mut W) -> Result<(), RunFault>
     ensures bytes { Keeps (W.contents output.old) (W.contents output.new) }
     ensures fault { IfErr result (λ e. e ≡ RunFault.Write) }
 {
-    match output.flush() {
-        Ok(()) => Ok(()),
-        Err(_error) => Err(RunFault::Write),
-    }
+    output.flush().map_err(|_| RunFault::Write)
 }

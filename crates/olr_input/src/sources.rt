@@ -28,26 +28,6 @@ pub trait Source {
     fn may_wait(&self) -> bool;
 }
 
-/// Reads the next record into `fields`. Returns false if there is none.
-#[tactic(auto, using(crate::proofs::SessionLemmas::stopped))]
-fn read_record<R: Read + Drop>(
-    reader: &mut Reader<R>,
-    fields: &mut ByteRecord,
-) -> Result<bool, RunFault>
-    requires { StaysPlain reader.old }
-    ensures takes { TakesLeft (csv_left R.remaining reader.old) (csv_left R.remaining reader.new)
-        (has_failed reader.new) result (fields_of fields.new) }
-    ensures plain { StaysPlain reader.new }
-{
-    match reader.read_byte_record(fields) {
-        Ok(found) => Ok(found),
-        Err(error) => Err(match error.kind() {
-            ErrorKind::OutOfMemory => RunFault::Memory,
-            _ => RunFault::Read,
-        }),
-    }
-}
-
 /// The records of an input, as `csv` reads them with its defaults: the first one is no header, and each may have any number
 /// of fields.
 #[derive(Drop)]
@@ -80,8 +60,15 @@ impl<R: Read + Drop> Source for Records<R> {
 
     ghost failed = { λ s. has_failed s.reader };
 
+    #[tactic(auto, using(crate::proofs::SessionLemmas::stopped))]
     fn next(&mut self, fields: &mut ByteRecord) -> Result<bool, RunFault> {
-        read_record(&mut self.reader, fields)
+        match self.reader.read_byte_record(fields) {
+            Ok(found) => Ok(found),
+            Err(error) => Err(match error.kind() {
+                ErrorKind::OutOfMemory => RunFault::Memory,
+                _ => RunFault::Read,
+            }),
+        }
     }
 
     fn may_wait(&self) -> bool {

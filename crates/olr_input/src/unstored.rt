@@ -16,7 +16,7 @@ use std::mem;
 /// What a record does to a log, if it is accepted.
 #[derive(Clone, Copy, PartialEq, Eq)]
 pub enum Effect {
-    /// Nothing: it asks a question, or no command has its form.
+    /// Nothing: it is a question, or no command has its form.
     Nothing,
     /// It changes the map, the paths or the margin, at once or in the open batch.
     Change,
@@ -26,7 +26,7 @@ pub enum Effect {
     Commit,
     /// It drops them.
     Abort,
-    /// It asks that the log be replaced.
+    /// The log is to be replaced.
     Compact,
 }
 
@@ -213,33 +213,6 @@ impl Unstored {
         self.effect = Effect::Nothing;
     }
 
-    /// Notes the effect of a record that is not stored as a line.
-    fn note(&mut self, effect: Effect)
-        requires unstored { has_line effect ≡ false }
-        requires none { next_line self.old ≡ [] }
-        ensures waiting { waiting self.new ≡ waiting self.old }
-        ensures effect { self.new.effect ≡ effect }
-        ensures line { next_line self.new ≡ [] }
-    {
-        self.effect = effect;
-    }
-
-    /// Takes the line of a record of this effect, unless a field holds a line end.
-    fn add(&mut self, fields: &ByteRecord, effect: Effect) -> Result<(), AllocError>
-        requires none { next_line self.old ≡ [] }
-        requires nothing { self.old.effect ≡ Effect.Nothing }
-        requires effect { lines.word_effect (fields_of fields.now) ≡ effect }
-        requires stored { has_line effect ≡ true }
-        ensures waiting { waiting self.new ≡ waiting self.old }
-        ensures effect { OnOk result (self.new.effect ≡ lines.effect_of (fields_of fields.now)) }
-        ensures line { OnOk result (next_line self.new ≡ lines.stored_line (fields_of fields.now)) }
-    {
-        if add_line(&mut self.lines, fields)? {
-            self.effect = effect;
-        }
-        Ok(())
-    }
-
     /// Takes the line of a record that will be answered next, in the place of the last one that wasn't. After a failed
     /// allocation it has no line.
     pub fn take(&mut self, fields: &ByteRecord) -> Result<(), AllocError>
@@ -249,10 +222,13 @@ impl Unstored {
     {
         self.cut();
         let effect = word_effect(fields);
-        if has_line(effect) {
-            return self.add(fields, effect);
+        if !has_line(effect) {
+            self.effect = effect;
+            return Ok(());
         }
-        self.note(effect);
+        if add_line(&mut self.lines, fields)? {
+            self.effect = effect;
+        }
         Ok(())
     }
 
@@ -316,7 +292,7 @@ impl Unstored {
         }
     }
 
-    /// Whether the record whose line was taken last asks that the log be replaced.
+    /// Whether the record whose line was taken last lets the log be replaced.
     pub fn is_compact(&self) -> bool
         ensures { result ≡ lines.is_compact self.now.effect }
     {

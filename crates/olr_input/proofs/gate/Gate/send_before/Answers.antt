@@ -3,6 +3,4 @@ use Rattle.olr_input.proofs.Passing.{passes_none}
 use Rattle.olr_input.proofs.gate.Gate.send_before.Goals as goal
 
 pub returns-then-not-waits-clause-passes : goal.returns-then-not-waits-clause-passes
-returns-then-not-waits-clause-passes g c =
-    passes_none g.J.Journal.stored g.J.Journal.may_leave g.W.Write.contents c.args.self.now c.args.output.now
-    c.args.output.now refl refl
+returns-then-not-waits-clause-passes g c = passes_none refl refl

@@ -3,7 +3,6 @@ use Rattle.olr_input.proofs.gate.Gate.write_some.Goals as goal
 
 pub returns : goal.returns
 returns g c =
-    some_after g.J.Journal.stored g.J.Journal.may_leave g.W.Write.contents c.args.self.now c.send.new.self
-    c.args.output.now c.hold.new.output c.send.new.output c.hold-2.new.output c.in_ok-taken.taken c.args.text.now
-    c.hold-2.result c.hold.ensures.device c.in_ok-taken.ensures.pending c.if-taken-gt0.false c.send.ensures.passes
-    c.hold-2.ensures.device c.hold-2.ensures.bound c.hold-2.ensures.pending c.hold-2.ensures.nothing c.hold-2.ensures.fault
+    some_after c.args.output.now c.hold-2.new.self c.in_ok-taken.taken c.args.text.now c.hold-2.result c.hold.ensures.device
+    c.in_ok-taken.ensures.pending c.if-taken-gt0.false c.send.ensures.passes c.hold-2.ensures.device
+    c.hold-2.ensures.bound c.hold-2.ensures.pending c.hold-2.ensures.nothing c.hold-2.ensures.fault

@@ -1,15 +1,12 @@
-use Rattle.std.proofs.Common.{◌≡◌, ◌∙◌, ◌-◌, ◌≤◌, ℕ, List, [], Some, None, ap, sym, subst, length, take, drop, length-drop}
-use Rattle.std.proofs.Math.Seq.{take-length}
+use Rattle.std.proofs.Common.{◌≡◌, ◌∙◌, ◌-◌, ◌≤◌, ℕ, List, [], Some, None, ap, sym, subst, length, drop}
 use Rattle.csv.specs.Machine.{next_record}
 use Rattle.csv.specs.Reading.{default_config}
 use Rattle.csv.specs.Records.{fields_of}
 use Rattle.olr_input.specs.Machine.{csv_state}
 use Rattle.olr_input.specs.Sessions.{TakesOne}
 use Rattle.olr_input.proofs.CsvRecords.{Are, none_taken, one_taken}
+use Rattle.olr_input.proofs.Writing.{rest_is}
 use Rattle.olr_input.proofs.in_memory.InMemorySource.next.Goals as goal
-
-rest_is : (n : ℕ) (xs : List ℕ) → drop n xs ≡ take (length xs - n) (drop n xs)
-rest_is n xs = sym (ap (λ (k : ℕ). take k (drop n xs)) (sym (length-drop n xs)) ∙ take-length (drop n xs))
 
 pub returns-in-Ok-Some : goal.returns-in-Ok-Some
 returns-in-Ok-Some c =
@@ -21,9 +18,9 @@ returns-in-Ok-Some c =
     rw c.in-Ok-Some.field-0-is at c.in-Ok-Some.ensures in
     record {
       takes = rw c.if-self.false
-          (subst (λ (xs : List ℕ). TakesOne (Are (csv_state m.state) m.rest.now) (Are state xs) fields) (rest_is end m.rest.now)
+          (subst (λ (xs : List ℕ). TakesOne (Are (csv_state m.state) m.rest.now) (Are state xs) fields) (sym (rest_is m.rest.now end))
           (one_taken (csv_state m.state) state m.rest.now (drop end m.rest.now) fields one.1));
-      after = λ _. one.1 ∙ ap (λ (xs : List ℕ). Some (fields, state, xs)) (rest_is end m.rest.now);
+      after = λ _. one.1 ∙ ap (λ (xs : List ℕ). Some (fields, state, xs)) (sym (rest_is m.rest.now end));
     }
 
 pub returns-in-Ok-None-clause-takes : goal.returns-in-Ok-None-clause-takes
