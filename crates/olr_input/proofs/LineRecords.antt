@@ -110,15 +110,8 @@ after e = (in_field default_config e).0
 abbrev Stays : State × Action → Type 0
 Stays r = (is_end r.1 ≡ false) × (begun r.0 ≡ true)
 
-field_stays : (b : ℕ) (comma lf cr : Bool) → (b == 44) ≡ comma → (b == 10) ≡ lf → (b == 13) ≡ cr →
-    is_line_end b ≡ false → Stays (in_field default_config b)
-field_stays b true lf cr c l r h = rw c (refl, refl)
-field_stays b false true cr c l r h = absurd (grind arith)
-field_stays b false false true c l r h = absurd (grind arith)
-field_stays b false false false c l r h = rw (c, l, r) (refl, refl)
-
 in_field_stays : (b : ℕ) → is_line_end b ≡ false → Stays (in_field default_config b)
-in_field_stays b h = field_stays b _ _ _ refl refl refl h
+in_field_stays b h = (grind (arith, cases_Bool), grind (arith, cases_Bool))
 
 -- what holds in each state in a record
 by_begun : (P : State → Type 0) → P st.StartField → P st.InField → P st.InQuoted → P st.AfterQuote → (s : State) →

@@ -1,7 +1,7 @@
 -- Which lines of records are whole.
 use Rattle.std.proofs.Common.{◌≡◌, ◌∙◌, ◌==◌, ℕ, Bool, true, false, not, ◌&&◌, List, [], ◌∷◌, ◌++◌, length, refl, sym}
 use Rattle.std.proofs.Common.{◌≢◌, ap, subst, arith, ◌⊎◌, inl, inr, if◌then◌else◌, codes}
-use Rattle.std.proofs.lemmas.Bool.{cases_Bool, and_parts, and_right, both_ways}
+use Rattle.std.proofs.lemmas.Bool.{cases_Bool, and_parts, and_right, both_ways, eqb-true}
 use Rattle.std.proofs.lemmas.List.{append-nil, append_assoc, length-append, take-take, take_at}
 use Rattle.std.proofs.lemmas.List.Folds.{list_all-append}
 use Rattle.std.specs.List.{join_with_byte}
@@ -78,36 +78,25 @@ body_is word (f ∷ fs) = refl
 -- ---- words
 
 -- no word of a change begins as those of batches do
-not_b : (x : List ℕ) → is_change (98 ∷ x) ≡ false
-not_b x = refl
-
-not_c : (x : List ℕ) → is_change (99 ∷ x) ≡ false
-not_c x = refl
-
 begins_otherwise : (o : Bool) (b : ℕ) (x : List ℕ) → (b == 98) ≡ false → (b == 99) ≡ false → stays_open o (b ∷ x) ≡ o
 begins_otherwise true b x nb nc = rw (nb, nc) refl
 begins_otherwise false b x nb nc = rw nb refl
 
 change_stays : (o : Bool) (word rest : List ℕ) → is_change word ≡ true → stays_open o (word ++ rest) ≡ o
 change_stays o [] rest h = absurd cc
-change_stays o (b ∷ x) rest h = by_b (b == 98) refl
-  where
-    by_c : (c : Bool) → (b == 99) ≡ c → (b == 98) ≡ false → stays_open o (b ∷ x ++ rest) ≡ o
-    by_c true is nb = absurd (grind (arith, not_c x))
-    by_c false is nb = begins_otherwise o b (x ++ rest) nb is
-
-    by_b : (c : Bool) → (b == 98) ≡ c → stays_open o (b ∷ x ++ rest) ≡ o
-    by_b true is = absurd (grind (arith, not_b x))
-    by_b false is = by_c (b == 99) refl is
+change_stays o (b ∷ x) rest h = elim (cases_Bool (b == 98)) [
+  | inl is ↦ absurd (let never : true ≡ false = sym h ∙ ap (λ (n : ℕ). is_change (n ∷ x)) (eqb-true b 98 is) in cc)
+  | inr nb ↦ elim (cases_Bool (b == 99)) [
+    | inl is ↦ absurd (let never : true ≡ false = sym h ∙ ap (λ (n : ℕ). is_change (n ∷ x)) (eqb-true b 99 is) in cc)
+    | inr nc ↦ begins_otherwise o b (x ++ rest) nb nc
+  ]
+]
 
 -- ---- by the effect of a record
 
 commit_closes : (o : Bool) (rest : List ℕ) → stays_open o (codes "commit" ++ 44 ∷ rest) ≡ false
 commit_closes true rest = refl
 commit_closes false rest = refl
-
-begin_opens : (o : Bool) → stays_open o (codes "begin") ≡ true
-begin_opens o = refl
 
 -- what an effect says of the tests of a word by which it was chosen
 IsOf : (change begin commit : Bool) → Effect → Type 0
@@ -154,7 +143,7 @@ stays_for effect.Compact word fs is stored o = absurd cc
 stays_for effect.Change word fs is stored o = change_stays o word (body_rest fs) (by_word effect.Change word (length fs == 0) is)
 stays_for effect.Begin word [] is stored o =
     let both = and_parts (bytes_eq word (codes "begin")) true (by_word effect.Begin word true is) in
-    ap (λ (w : List ℕ). stays_open o (w ++ [])) (same_text word (codes "begin") both.0) ∙ begin_opens o
+    ap (λ (w : List ℕ). stays_open o (w ++ [])) (same_text word (codes "begin") both.0)
 stays_for effect.Begin word (f ∷ fs) is stored o =
     let both = and_parts (bytes_eq word (codes "begin")) false (by_word effect.Begin word false (ap (effect_by word) (sym (nonzero (length fs))) ∙ is)) in
     absurd (let no = both.1 in cc)

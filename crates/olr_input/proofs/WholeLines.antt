@@ -1,6 +1,7 @@
 -- Lines that are whole records.
-use Rattle.std.proofs.Common.{◌≡◌, ◌∙◌, ◌+◌, ◌-◌, ◌<◌, ◌≤◌, ℕ, ◌==◌, Bool, true, false, not, List, [], ◌∷◌, ◌++◌, length, Some}
-use Rattle.std.proofs.Common.{take, drop, zero, suc, inl, refl, ap, subst, arith}
+use Rattle.std.proofs.Common.{◌≡◌, ◌∙◌, ◌+◌, ◌-◌, ◌<◌, ◌≤◌, ℕ, ◌==◌, true, false, not, List, [], ◌∷◌, ◌++◌, length}
+use Rattle.std.proofs.Common.{take, drop, zero, suc, inl, inr, refl, ap, subst, arith}
+use Rattle.std.proofs.lemmas.Bool.{cases_Bool}
 use Rattle.std.proofs.lemmas.List.{append_assoc, drop-drop}
 use Rattle.memchr.specs.Find.{Passes, Nowhere, NoneBefore, is_byte, is_byte2, is_byte3}
 use Rattle.std.specs.Prelude.{slice_index}
@@ -27,23 +28,12 @@ record Parts (bytes : List ℕ) : Type 0 where
 
 line_parts : (bytes : List ℕ) → has_line true bytes ≡ true → Parts bytes
 line_parts [] h = absurd (grind arith)
-line_parts (b ∷ bytes) h = by_byte (b == default_config.quote) (is_line_end b) refl refl (line_parts bytes)
-  where
-    by_byte : (quote end : Bool) → (b == default_config.quote) ≡ quote → is_line_end b ≡ end →
-        (has_line true bytes ≡ true → Parts bytes) → Parts (b ∷ bytes)
-    by_byte true end q e more = absurd (grind arith)
-    by_byte false true q e more =
-        record {
-          line = [];
-          end = b;
-          rest = bytes;
-          splits = refl;
-          clean = refl;
-          ends = end_of b e;
-          unquoted = λ s p. p;
-        }
-    by_byte false false q e more =
-        let p = more (grind arith) in
+line_parts (b ∷ bytes) h = elim (cases_Bool (b == default_config.quote)) [
+  | inl q ↦ absurd (let no = rw q at h in cc)
+  | inr q ↦ elim (cases_Bool (is_line_end b)) [
+    | inl e ↦ record { line = []; end = b; rest = bytes; splits = refl; clean = refl; ends = end_of b e; unquoted = λ s p. p }
+    | inr e ↦
+        let p = line_parts bytes (rw (q, e) at h) in
         record {
           line = b ∷ p.line;
           end = p.end;
@@ -53,15 +43,19 @@ line_parts (b ∷ bytes) h = by_byte (b == default_config.quote) (is_line_end b)
           ends = p.ends;
           unquoted = λ s h. p.unquoted (step default_config s b).0 (step_plain s b h q);
         }
+  ]
+]
 
 pub whole_line : (bytes : List ℕ) → has_line false bytes ≡ true → IsWhole bytes
 whole_line [] h s at = absurd (grind arith)
-whole_line (b ∷ bytes) h s at = by_byte (b == default_config.quote) (is_line_end b) refl refl (whole_line bytes)
-  where
-    in_line : (q : (b == default_config.quote) ≡ false) → is_line_end b ≡ false → Parts bytes →
-        (fields : List (List ℕ)) × (t : State) × (rest : List ℕ)
-        × ((more : List ℕ) → next_record default_config s [] [] ((b ∷ bytes) ++ more) ≡ Some (fields, t, rest ++ more))
-    in_line q e p =
+whole_line (b ∷ bytes) h s at = elim (cases_Bool (b == default_config.quote)) [
+  | inl q ↦ absurd (let no = rw q at h in cc)
+  | inr q ↦ elim (cases_Bool (is_line_end b)) [
+    | inl e ↦
+        let w = whole_line bytes (rw (q, e) at h) st.StartRecord (inl refl) in
+        (w.0, w.1, w.2, λ more. skips s b (bytes ++ more) at (end_of b e) ∙ w.3 more)
+    | inr e ↦
+        let p = line_parts bytes (rw (q, e) at h) in
         let one = gives_one b p.line (no_end_more b p.line e p.clean) in
         let closed : is_quoted (state_after st.StartRecord (b ∷ p.line)) ≡ false =
         plain_not_quoted (state_after st.StartRecord (b ∷ p.line))
@@ -73,16 +67,8 @@ whole_line (b ∷ bytes) h s at = by_byte (b == default_config.quote) (is_line_e
               ∙ ap (λ (x : List ℕ). next_record default_config s [] [] (b ∷ x)) (append_assoc p.line (p.end ∷ p.rest) more)
               ∙ one.ended closed s at p.end (p.rest ++ more) p.ends,
         )
-
-    by_byte : (quote end : Bool) → (b == default_config.quote) ≡ quote → is_line_end b ≡ end →
-        (has_line false bytes ≡ true → IsWhole bytes)
-        → (fields : List (List ℕ)) × (t : State) × (rest : List ℕ)
-        × ((more : List ℕ) → next_record default_config s [] [] ((b ∷ bytes) ++ more) ≡ Some (fields, t, rest ++ more))
-    by_byte true end q e next = absurd (grind arith)
-    by_byte false true q e next =
-        let w = next (grind arith) st.StartRecord (inl refl) in
-        (w.0, w.1, w.2, λ more. skips s b (bytes ++ more) at (end_of b e) ∙ w.3 more)
-    by_byte false false q e next = in_line q e (line_parts bytes (grind arith))
+  ]
+]
 
 -- ---- the first byte that ends a line or is a quote
 
@@ -136,12 +122,9 @@ lines_from [] (suc n) k i none low end from = absurd (grind arith)
 lines_from (x ∷ xs) (suc n) zero zero none low end from = grind arith
 lines_from (x ∷ xs) (suc n) zero (suc i) none low end from = absurd (omega arith)
 lines_from (x ∷ xs) (suc n) (suc k) zero none low end from =
-    by_end (is_line_end x) refl (grind arith) (lines_from xs n k 0 (grind arith) (omega arith) end (omega arith))
-  where
-    by_end : (e : Bool) → is_line_end x ≡ e → (x == default_config.quote) ≡ false → has_line true xs ≡ true →
-        has_line true (x ∷ xs) ≡ true
-    by_end true e q rest = rw (q, e) refl
-    by_end false e q rest = rw (q, e) rest
+    let plain : (x == default_config.quote) ≡ false = grind arith in
+    let rest = lines_from xs n k 0 (grind arith) (omega arith) end (omega arith) in
+    elim (cases_Bool (is_line_end x)) [ inl e ↦ rw (plain, e) refl | inr e ↦ rw (plain, e) rest ]
 lines_from (x ∷ xs) (suc n) (suc k) (suc i) none low end from =
     lines_from xs n k i (grind arith) (omega arith) end (omega arith)
 
