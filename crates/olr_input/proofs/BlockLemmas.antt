@@ -1,9 +1,8 @@
 -- The blocks of an input.
-use Rattle.std.proofs.Common.{◌≡◌, ◌∙◌, ◌+◌, ◌-◌, ◌≤◌, ◌<◌, ℕ, List, [], ◌∷◌, ◌++◌, length, take, drop, Some, None, length-append}
-use Rattle.std.proofs.Common.{refl, sym, ap, subst, arith, length-take-le, min}
-use Rattle.std.proofs.lemmas.List.{append_assoc, take-append-drop, drop-drop, drop-take, take_at}
-use Rattle.std.specs.Io.KnownBytes.{Keeps, Consumes, IsAtEnd, prepend_known}
-use Rattle.olr_input.specs.Sessions.{Known}
+use Rattle.olr_input.proofs.Common.{◌≡◌, ◌∙◌, ◌+◌, ◌-◌, ◌≤◌, ◌<◌, ℕ, List, [], ◌∷◌, ◌++◌, length, take, drop, Some, None}
+use Rattle.olr_input.proofs.Common.{length-append, refl, sym, ap, subst, arith, min, append_assoc, take-append-drop, drop-drop}
+use Rattle.olr_input.proofs.Common.{drop-take, take_at, Keeps, Consumes, IsAtEnd, prepend_known, Known}
+use Rattle.std.proofs.Common.{length-take-le}
 
 pub consumes_stored : (a b c : Known) (out : List ℕ) → Keeps a b → Consumes b c out → Consumes a c out
 consumes_stored None b c out h k = tt

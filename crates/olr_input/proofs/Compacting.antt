@@ -1,11 +1,9 @@
 -- Records in the place of a log.
-use Rattle.std.proofs.Common.{◌≡◌, ◌∙◌, ◌⊎◌, ◌∷◌, ℕ, true, false, List, [], inl, refl, sym, ap, subst}
-use Rattle.std.specs.Prelude.{is_some, not, ◌&&◌}
-use Rattle.std.proofs.lemmas.Bool.{and_parts, not-true}
-use Rattle.olr_input.specs.Gates.{Untouched, Replacement, Replaced, Left_as_it_was, Compacts, asks, batch, is_closed}
-use Rattle.olr_input.specs.Journals.{Only, is_empty, is_whole}
+use Rattle.olr_input.proofs.Common.{◌≡◌, ◌∙◌, ◌⊎◌, ◌∷◌, ℕ, true, false, List, [], inl, refl, sym, ap, subst, is_some, ◌&&◌}
+use Rattle.olr_input.proofs.Common.{and_parts, not-true, Untouched, Replacement, is_closed, Only, is_empty, is_whole, Gate}
+use Rattle.std.specs.Prelude.{not}
+use Rattle.olr_input.specs.Gates.{Replaced, Left_as_it_was, Compacts, asks, batch}
 use Rattle.olr_input.specs.Unstored.{waiting}
-use Rattle.olr_input.specs.declared.gate.Gate.{Gate}
 use Rattle.olr_input.specs.declared.journal.Journal as journal
 
 none_of : (text : List ℕ) → is_empty text ≡ true → text ≡ []

@@ -1,16 +1,14 @@
 -- The effect of one byte on a record, and that a byte order mark is skipped.
-use Rattle.std.proofs.Common.{◌≡◌, ◌≤◌, ◌<◌, ◌+◌, ◌-◌, ◌++◌, ℕ, List, [], ◌∷◌, Some, None, true, false, refl, length}
-use Rattle.std.proofs.Common.{take, drop, sym, ap, ◌∙◌, arith, length-drop, get_or, get_or-drop, drop-cons, add-one}
-use Rattle.csv.specs.Machine.{step, ends_at_end, is_end, fields_after, field_after, next_record}
-use Rattle.csv.specs.Reading.{default_config, is_bom, strip_bom}
+use Rattle.olr_input.proofs.Common.{◌≡◌, ◌≤◌, ◌<◌, ◌+◌, ◌-◌, ◌++◌, ℕ, List, [], ◌∷◌, Some, None, true, false, refl, length}
+use Rattle.olr_input.proofs.Common.{take, drop, sym, ap, ◌∙◌, arith, length-drop, get_or, get_or-drop, drop-cons, add-one, step}
+use Rattle.olr_input.proofs.Common.{ends_at_end, is_end, fields_after, field_after, default_config, is_bom, csv_state}
+use Rattle.olr_input.proofs.Common.{drop-length, take-length, append-nil, append_assoc, take_more, if◌then◌else◌, State}
 use Rattle.csv.specs.declared.parser.State.TheVariants.{StartRecord}
-use Rattle.olr_input.specs.Machine.{csv_state, csv_action, csv_step}
+use Rattle.olr_input.specs.Machine.{csv_action, csv_step}
 use Rattle.olr_input.specs.declared.machine.Action.{Action}
 use Rattle.std.proofs.Math.ListN.{drop_of_length-le}
-use Rattle.std.proofs.Math.Seq.{drop-length, take-length}
-use Rattle.std.proofs.lemmas.List.{append-nil, append_assoc, take_more}
-use Rattle.std.specs.Prelude.{if◌then◌else◌}
-use Rattle.csv.specs.declared.parser.State.{State}
+use Rattle.csv.specs.Machine.{next_record}
+use Rattle.csv.specs.Reading.{strip_bom}
 use Rattle.csv.specs.declared.parser.Action.{Action as CsvAction}
 use Rattle.olr_input.specs.declared.machine.State.{State as Here}
 use Rattle.csv.specs.declared.parser.Action.TheVariants as act

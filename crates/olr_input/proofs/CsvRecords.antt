@@ -1,15 +1,11 @@
 -- The records of a text, one after another, as csv reads them.
-use Rattle.std.proofs.Common.{◌≡◌, ◌∙◌, ℕ, zero, ◌+◌, ◌<◌, ◌≤◌, true, false, List, [], ◌∷◌, ◌++◌, length, Option}
-use Rattle.std.proofs.Common.{Some, None, refl, sym, ap, subst, arith, suc}
-use Rattle.std.proofs.lemmas.Bool.{cases_Bool}
-use Rattle.std.proofs.lemmas.List.{append-nil}
-use Rattle.csv.specs.Machine.{step, Read, in_field, start_field, start_record, is_end, ends_at_end, fields_after}
-use Rattle.csv.specs.Machine.{field_after, next_record}
-use Rattle.csv.specs.Reading.{default_config, records_next, records_from, AreRecords, Reached, strip_bom}
-use Rattle.csv.specs.declared.parser.State.{State}
-use Rattle.csv.specs.declared.parser.Action.{Action}
+use Rattle.olr_input.proofs.Common.{◌≡◌, ◌∙◌, ℕ, zero, ◌+◌, ◌<◌, ◌≤◌, true, false, List, [], ◌∷◌, ◌++◌, length, Option, Some}
+use Rattle.olr_input.proofs.Common.{None, refl, sym, ap, subst, arith, suc, cases_Bool, append-nil, step, Read, in_field}
+use Rattle.olr_input.proofs.Common.{is_end, ends_at_end, fields_after, field_after, default_config, strip_bom, State, Action}
+use Rattle.olr_input.proofs.Common.{HasNone, TakesOne, csv_records}
+use Rattle.csv.specs.Machine.{start_field, start_record, next_record}
+use Rattle.csv.specs.Reading.{records_next, AreRecords, records_from, Reached}
 use Rattle.csv.specs.declared.parser.State.TheVariants as st
-use Rattle.olr_input.specs.Sessions.{HasNone, TakesOne, csv_records}
 
 -- after a record, the next has not begun
 Rests : State × Action → Type 0

@@ -1,3 +1,4 @@
+mod Common
 pub mod SessionLemmas
 pub mod CsvBytes
 pub mod CsvRecords

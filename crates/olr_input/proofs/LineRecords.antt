@@ -1,21 +1,15 @@
 -- The record that csv reads from a line.
-use Rattle.std.proofs.Common.{◌≡◌, ◌≢◌, ◌∙◌, ◌⊎◌, ℕ, Bool, true, false, zero, suc, List, [], ◌∷◌, ◌++◌, Some, None}
-use Rattle.std.proofs.Common.{inl, inr, refl, sym, ap, arith, length, take}
-use Rattle.std.proofs.lemmas.Bool.{cases_Bool, cond_both, eqb-true, or_cases}
+use Rattle.olr_input.proofs.Common.{◌≡◌, ◌≢◌, ◌∙◌, ◌⊎◌, ℕ, Bool, true, false, zero, suc, List, [], ◌∷◌, ◌++◌, Some, None, inl}
+use Rattle.olr_input.proofs.Common.{inr, refl, sym, ap, arith, length, take, cases_Bool, cond_both, eqb-true, or_cases, Passes}
+use Rattle.olr_input.proofs.Common.{Nowhere, NoneBefore, is_byte, is_byte2, step, in_field, is_end, fields_after, field_after}
+use Rattle.olr_input.proofs.Common.{line_feed, carriage_return, default_config, Action, State, HasNoEnd, formless, is_rejected}
+use Rattle.olr_input.proofs.Common.{BetweenRecords, is_line_end, is_quoted, state_after, list_any, take-length}
 use Rattle.std.specs.Prelude.{◌==◌}
-use Rattle.memchr.specs.Find.{Passes, Nowhere, NoneBefore, is_byte, is_byte2}
-use Rattle.csv.specs.Machine.{next_record, step, in_field, is_end, fields_after, field_after, line_feed, carriage_return}
-use Rattle.csv.specs.Reading.{default_config}
-use Rattle.csv.specs.declared.parser.Action.{Action}
+use Rattle.csv.specs.Machine.{next_record}
+use Rattle.olr_input.specs.LineRecords.{line_record}
 use Rattle.csv.specs.declared.parser.Action.TheVariants as act
-use Rattle.csv.specs.declared.parser.State.{State}
 use Rattle.csv.specs.declared.parser.State.TheVariants as st
-use Rattle.olr_input.specs.LineRecords.{HasNoEnd, formless, is_rejected, line_record}
-use Rattle.olr_input.specs.Lines.{BetweenRecords, is_line_end}
-use Rattle.olr_input.specs.Machine.{is_quoted, state_after}
 use Rattle.olr_input.proofs.CsvBytes.{of_byte}
-use Rattle.std.specs.List.{list_any}
-use Rattle.std.proofs.Math.Seq.{take-length}
 
 -- ---- bytes that don't end a line
 

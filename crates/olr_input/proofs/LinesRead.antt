@@ -1,19 +1,13 @@
 -- The records of the lines of an input, as they are read.
-use Rattle.std.proofs.Common.{◌≡◌, ◌≢◌, ◌∙◌, ◌+◌, ◌<◌, ◌≤◌, ℕ, Bool, true, false, List, [], ◌∷◌, ◌++◌}
-use Rattle.std.proofs.Common.{length, take, drop, map, Some, None, inl, inr, refl, sym, ap, subst, arith, length-append}
-use Rattle.std.proofs.Common.{get_or}
-use Rattle.std.proofs.lemmas.Bool.{cases_Bool, cond_both}
-use Rattle.std.proofs.lemmas.List.{append-nil, append_assoc, take-append-drop, map-append}
-use Rattle.std.specs.Prelude.{if◌then◌else◌}
-use Rattle.csv.specs.Reading.{strip_bom, is_bom}
-use Rattle.olr_input.specs.LineRecords.{HasNoEnd, if_any, lines_from, lines_of, most_in_line, is_rejected, formless}
-use Rattle.olr_input.specs.LineRecords.{line_record, unmarked, left_after, Kept, Finds, Steps}
-use Rattle.olr_input.specs.Lines.{is_line_end}
-use Rattle.olr_input.specs.Blocks.{block_of, input_left}
-use Rattle.olr_input.specs.Sessions.{Known}
+use Rattle.olr_input.proofs.Common.{◌≡◌, ◌≢◌, ◌∙◌, ◌+◌, ◌<◌, ◌≤◌, ℕ, Bool, true, false, List, [], ◌∷◌, ◌++◌, length, take, drop}
+use Rattle.olr_input.proofs.Common.{map, Some, None, inl, inr, refl, sym, ap, subst, arith, length-append, get_or, cases_Bool}
+use Rattle.olr_input.proofs.Common.{cond_both, append-nil, append_assoc, take-append-drop, map-append, if◌then◌else◌, is_bom}
+use Rattle.olr_input.proofs.Common.{HasNoEnd, if_any, is_rejected, formless, unmarked, Kept, Finds, is_line_end, block_of}
+use Rattle.olr_input.proofs.Common.{input_left, Known, IsAtEnd, prepend_known}
+use Rattle.olr_input.specs.LineRecords.{lines_of, most_in_line, line_record, left_after, Steps, lines_from}
 use Rattle.olr_input.specs.declared.blocks.Blocks.{Blocks}
 use Rattle.olr_input.specs.declared.line_records.LineRecords.{LineRecords}
-use Rattle.std.specs.Io.KnownBytes.{IsAtEnd, prepend_known}
+use Rattle.csv.specs.Reading.{strip_bom}
 use Rattle.olr_input.proofs.CsvBytes.{at, no_mark}
 use Rattle.olr_input.proofs.LineRecords.{IsEnd, end_of, no_end_parts, no_end_join, rejected_record}
 

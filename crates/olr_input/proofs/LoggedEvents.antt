@@ -1,14 +1,9 @@
 -- The events of a session with a log.
-use Rattle.std.proofs.Common.{◌≡◌, Bool, ℕ, List, Ok, Err}
-use Rattle.std.specs.Prelude.{Result}
-use Rattle.olr_input.specs.Gates.{PassesAll}
+use Rattle.olr_input.proofs.Common.{◌≡◌, Bool, ℕ, List, Ok, Err, Result, PassesAll, Known, Event, Writes, Buffered, RunFault}
+use Rattle.olr_input.proofs.Common.{Gate}
 use Rattle.olr_input.specs.LoggedRuns.{LogHappens, Concludes}
-use Rattle.olr_input.specs.Sessions.{Known, Event, Writes}
-use Rattle.olr_input.specs.declared.buffered.Buffered.{Buffered}
-use Rattle.olr_input.specs.declared.ends.RunFault.{RunFault}
-use Rattle.olr_input.specs.declared.gate.Gate.{Gate}
-use Rattle.olr_input.specs.declared.journal.Journal as journal
 use Rattle.olr_input.specs.declared.logged.Logged.{Logged}
+use Rattle.olr_input.specs.declared.journal.Journal as journal
 
 module _ {S W J : Type 0} (left : S → List (List (List ℕ)) → Type 0) (contents : W → Known) (j : journal.Ghosts J) where
   abbrev Happens : Logged S J × Buffered W → Event → Logged S J × Buffered W → Type 0

@@ -1,12 +1,9 @@
 -- The lines of a log that aren't stored yet, in three parts.
-use Rattle.std.proofs.Common.{◌≡◌, ◌∙◌, ◌≤◌, ◌<◌, ◌-◌, ◌+◌, ℕ, Bool, true, false, List, [], ◌∷◌, ◌++◌, length, take}
-use Rattle.std.proofs.Common.{drop, refl, sym, ap, ◌⊎◌, inl, inr, arith, length-append, length-drop}
-use Rattle.std.proofs.lemmas.List.{take-append-drop, take_at, drop_at, drop-drop, append-nil, append_assoc, length-take-le}
-use Rattle.std.proofs.Common.{◌≢◌, subst}
-use Rattle.olr_input.specs.Journals.{is_empty, is_whole, is_whole_from, IsFront}
-use Rattle.olr_input.specs.StoredLines.{AreLines, IsLineFor, Turns, Waiting, has_line, concluded, turned}
-use Rattle.std.specs.Prelude.{if◌then◌else◌}
-use Rattle.olr_input.specs.declared.unstored.Effect.{Effect}
+use Rattle.olr_input.proofs.Common.{◌≡◌, ◌∙◌, ◌≤◌, ◌<◌, ◌-◌, ◌+◌, ℕ, Bool, true, false, List, [], ◌∷◌, ◌++◌, length, take, drop}
+use Rattle.olr_input.proofs.Common.{refl, sym, ap, ◌⊎◌, inl, inr, arith, length-append, length-drop, take-append-drop, take_at}
+use Rattle.olr_input.proofs.Common.{drop_at, drop-drop, append-nil, append_assoc, length-take-le, ◌≢◌, subst, is_empty}
+use Rattle.olr_input.proofs.Common.{is_whole, is_whole_from, IsFront, IsLineFor, Turns, has_line, turned, if◌then◌else◌, Effect}
+use Rattle.olr_input.specs.StoredLines.{AreLines, Waiting, concluded}
 use Rattle.olr_input.specs.declared.unstored.Effect.TheVariants as effect
 use Rattle.olr_input.proofs.StoredLines.{no_line, turns_join, whole_join, front_either}
 

@@ -1,21 +1,10 @@
 -- What passes a gate, one part after another.
-use Rattle.std.proofs.Common.{◌≡◌, ◌∙◌, ◌≤◌, ◌<◌, ◌+◌, ℕ, Bool, true, false, List, [], ◌++◌, length, take, drop}
-use Rattle.std.proofs.Common.{refl, sym, ap, subst, Ok, Err, arith, length-drop}
-use Rattle.std.proofs.KnownBytes.{Appends-nil, Appends-trans}
-use Rattle.std.proofs.Math.Seq.{take-add}
-use Rattle.std.proofs.lemmas.Bool.{both_ways}
-use Rattle.std.proofs.lemmas.List.{append-nil, append_assoc, take-append-drop}
+use Rattle.olr_input.proofs.Common.{◌≡◌, ◌∙◌, ◌≤◌, ◌<◌, ◌+◌, ℕ, Bool, true, false, List, [], ◌++◌, length, take, drop, refl}
+use Rattle.olr_input.proofs.Common.{sym, ap, subst, Ok, Err, arith, length-drop, Appends-nil, Appends-trans, take-add}
+use Rattle.olr_input.proofs.Common.{both_ways, append-nil, append_assoc, take-append-drop, is_closed, Storing, PassesAll, IfOk}
+use Rattle.olr_input.proofs.Common.{IfErr, OnErr, Result, RunFault, MayHaveStored, Only, Known, Buffered, Gate, Write, Appends}
 use Rattle.olr_input.specs.Buffers.{pending, Sends}
-use Rattle.olr_input.specs.Gates.{is_closed, ready, Storing, None_sent, None_ready, All_stored, Cut_off}
-use Rattle.olr_input.specs.Gates.{SameBatch, Passes, PassesAll, PassesSome, compaction}
-use Rattle.std.specs.Prelude.{IfOk, IfErr, OnErr, Result}
-use Rattle.olr_input.specs.declared.ends.RunFault.{RunFault}
-use Rattle.olr_input.specs.Journals.{MayHaveStored, Only}
-use Rattle.olr_input.specs.Sessions.{Known}
-use Rattle.olr_input.specs.declared.buffered.Buffered.{Buffered}
-use Rattle.olr_input.specs.declared.gate.Gate.{Gate}
-use Rattle.olr_input.specs.declared.ends.RunFault.TheVariants.{Write}
-use Rattle.std.specs.Io.KnownBytes.{Appends}
+use Rattle.olr_input.specs.Gates.{ready, None_sent, None_ready, All_stored, Cut_off, SameBatch, Passes, PassesSome, compaction}
 use Rattle.olr_input.proofs.Writing.{rest_from, rest_is}
 
 still_open : (b c : Bool) → (b ≡ true → c ≡ true) → c ≡ false → b ≡ false

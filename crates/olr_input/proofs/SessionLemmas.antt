@@ -1,20 +1,16 @@
 -- Histories of sessions, and the reads of a csv reader.
-use Rattle.std.proofs.Common.{◌≡◌, ℕ, Bool, Ok, inl, inr, true, false, List, [], ◌∷◌, ◌++◌, length, Option, Some, None}
-use Rattle.std.proofs.Common.{◌∙◌, refl, sym, ap, subst, arith}
-use Rattle.csv.specs.Machine.{Read, next_record}
-use Rattle.csv.specs.Reading.{is_flexible, ExplainsRead, stops_reader, source_of, buffered_of, reader_source}
-use Rattle.csv.specs.Reading.{reader_state, default_config, has_failed, reader_trim, strip_bom, took_first, unread_of}
-use Rattle.csv.specs.Reading.{NextIs, ReadRecord, ReadsNext, Ready}
-use Rattle.csv.specs.declared.reader.Trim.TheVariants as trim
+use Rattle.olr_input.proofs.Common.{◌≡◌, ℕ, Bool, Ok, inl, inr, true, false, List, [], ◌∷◌, ◌++◌, length, Option, Some, None}
+use Rattle.olr_input.proofs.Common.{◌∙◌, refl, sym, ap, subst, arith, Read, next_record, default_config, strip_bom, State}
+use Rattle.olr_input.proofs.Common.{cases_Bool, option_map, IfSome, Known, Answer, Event, Took, Wrote, Compacted, History}
+use Rattle.olr_input.proofs.Common.{exchanges, IsPlain, AreKnown, BeginsWith, StaysPlain, TakesLeft, csv_left, csv_records}
+use Rattle.csv.specs.Reading.{is_flexible, ExplainsRead, stops_reader, source_of, buffered_of, reader_source, reader_state}
+use Rattle.csv.specs.Reading.{has_failed, reader_trim, took_first, unread_of, NextIs, ReadRecord, ReadsNext, Ready}
 use Rattle.csv.specs.declared.error.ErrorKind.{ErrorKind}
-use Rattle.csv.specs.declared.error.ErrorKind.TheVariants as kind
-use Rattle.csv.specs.declared.parser.State.{State}
-use Rattle.csv.specs.declared.parser.State.TheVariants as st
-use Rattle.std.proofs.lemmas.Bool.{cases_Bool}
-use Rattle.std.specs.Prelude.{option_map, IfSome}
 use Rattle.csv.specs.declared.reader.Reader.{Reader}
-use Rattle.olr_input.specs.Sessions.{Known, Answer, Event, Took, Wrote, Replacement, Compacted, History, exchanges, IsPlain}
-use Rattle.olr_input.specs.Sessions.{AreKnown, BeginsWith, StaysPlain, TakesLeft, csv_left, csv_records}
+use Rattle.olr_input.specs.Sessions.{Replacement}
+use Rattle.csv.specs.declared.reader.Trim.TheVariants as trim
+use Rattle.csv.specs.declared.error.ErrorKind.TheVariants as kind
+use Rattle.csv.specs.declared.parser.State.TheVariants as st
 use Rattle.olr_input.proofs.CsvRecords.{all_records, none_taken, one_taken}
 
 -- a reader that accepts any number of fields is stopped by each fault

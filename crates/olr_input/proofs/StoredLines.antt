@@ -1,18 +1,16 @@
 -- Which lines of records are whole.
-use Rattle.std.proofs.Common.{◌≡◌, ◌∙◌, ◌==◌, ℕ, Bool, true, false, not, ◌&&◌, List, [], ◌∷◌, ◌++◌, length, refl, sym}
-use Rattle.std.proofs.Common.{◌≢◌, ap, subst, arith, ◌⊎◌, inl, inr, if◌then◌else◌, codes}
-use Rattle.std.proofs.lemmas.Bool.{cases_Bool, and_parts, and_right, both_ways, eqb-true}
-use Rattle.std.proofs.lemmas.List.{append-nil, append_assoc, length-append, take-take, take_at}
+use Rattle.olr_input.proofs.Common.{◌≡◌, ◌∙◌, ◌==◌, ℕ, Bool, true, false, not, List, [], ◌∷◌, ◌++◌, length, refl, sym, ◌≢◌, ap}
+use Rattle.olr_input.proofs.Common.{subst, arith, ◌⊎◌, inl, inr, codes, cases_Bool, and_parts, and_right, both_ways, eqb-true}
+use Rattle.olr_input.proofs.Common.{append-nil, append_assoc, take-take, take_at, join_with_byte, ◌<◌, ◌≤◌, ◌+◌, zero, suc}
+use Rattle.olr_input.proofs.Common.{take, get_or, unwrap_or, Some, None, stays_open, is_empty, is_whole, is_whole_from, IsFront}
+use Rattle.olr_input.proofs.Common.{is_clean, effect_by, word_effect, has_line, line_of, Turns, turned, IsLineFor, Effect}
+use Rattle.std.proofs.Common.{◌&&◌, if◌then◌else◌}
+use Rattle.std.proofs.lemmas.List.{length-append}
 use Rattle.std.proofs.lemmas.List.Folds.{list_all-append}
-use Rattle.std.specs.List.{join_with_byte}
-use Rattle.std.proofs.Common.{◌<◌, ◌≤◌, ◌+◌, zero, suc, take, get_or, unwrap_or, Some, None}
-use Rattle.csv.specs.Records.{field_at}
 use Rattle.std.specs.Str.{bytes_eq}
 use Rattle.std.proofs.lemmas.Slice.Eq.{bytes_eq-Decides}
-use Rattle.olr_input.specs.Journals.{stays_open, is_empty, is_whole, is_whole_from, IsFront}
-use Rattle.olr_input.specs.StoredLines.{is_change, is_clean, is_clean_byte, effect_by, word_effect, has_line, line_of}
-use Rattle.olr_input.specs.StoredLines.{Turns, turned, IsLineFor}
-use Rattle.olr_input.specs.declared.unstored.Effect.{Effect}
+use Rattle.olr_input.specs.StoredLines.{is_change, is_clean_byte}
+use Rattle.csv.specs.Records.{field_at}
 use Rattle.olr_input.specs.declared.unstored.Effect.TheVariants as effect
 
 -- ---- one line

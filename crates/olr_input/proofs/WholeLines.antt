@@ -1,17 +1,11 @@
 -- Lines that are whole records.
-use Rattle.std.proofs.Common.{◌≡◌, ◌∙◌, ◌+◌, ◌-◌, ◌<◌, ◌≤◌, ℕ, ◌==◌, true, false, not, List, [], ◌∷◌, ◌++◌, length}
-use Rattle.std.proofs.Common.{take, drop, zero, suc, inl, inr, refl, ap, subst, arith}
-use Rattle.std.proofs.lemmas.Bool.{cases_Bool}
-use Rattle.std.proofs.lemmas.List.{append_assoc, drop-drop}
-use Rattle.memchr.specs.Find.{Passes, Nowhere, NoneBefore, is_byte, is_byte2, is_byte3}
-use Rattle.std.specs.Prelude.{slice_index}
-use Rattle.csv.specs.Machine.{next_record, step, line_feed, carriage_return}
-use Rattle.csv.specs.Reading.{default_config}
-use Rattle.csv.specs.declared.parser.State.{State}
+use Rattle.olr_input.proofs.Common.{◌≡◌, ◌∙◌, ◌+◌, ◌-◌, ◌<◌, ◌≤◌, ℕ, ◌==◌, true, false, not, List, [], ◌∷◌, ◌++◌, length, take}
+use Rattle.olr_input.proofs.Common.{drop, zero, suc, inl, inr, refl, ap, subst, arith, cases_Bool, append_assoc, drop-drop}
+use Rattle.olr_input.proofs.Common.{Passes, Nowhere, NoneBefore, is_byte, is_byte2, slice_index, next_record, step, line_feed}
+use Rattle.olr_input.proofs.Common.{carriage_return, default_config, State, HasNoEnd, is_line_end, is_quoted, state_after}
+use Rattle.memchr.specs.Find.{is_byte3}
+use Rattle.olr_input.specs.Lines.{HasLinesUpTo, IsWhole, has_line, has_quote}
 use Rattle.csv.specs.declared.parser.State.TheVariants as st
-use Rattle.olr_input.specs.LineRecords.{HasNoEnd}
-use Rattle.olr_input.specs.Lines.{HasLinesUpTo, IsWhole, has_line, has_quote, is_line_end}
-use Rattle.olr_input.specs.Machine.{is_quoted, state_after}
 use Rattle.olr_input.proofs.LineRecords.{IsEnd, after, end_of, gives_one, no_end_more, plain, plain_not_quoted}
 use Rattle.olr_input.proofs.LineRecords.{skips, step_plain, no_pass, none_pass}
 use Rattle.olr_input.proofs.Writing.{rest_is}

@@ -1,12 +1,9 @@
 -- Whether a text is whole, byte by byte.
-use Rattle.std.proofs.Common.{◌≡◌, ◌≢◌, ◌∙◌, ◌≤◌, ◌<◌, ◌-◌, ◌+◌, ℕ, Bool, false, not, List, [], ◌∷◌, length}
-use Rattle.std.proofs.Common.{take, drop, ◌==◌, refl, sym, ap, subst, arith, length-drop, length-take}
-use Rattle.std.proofs.Math.Seq.{drop-length}
-use Rattle.std.proofs.lemmas.Bool.{ne_eqb, eq-eqb}
+use Rattle.olr_input.proofs.Common.{◌≡◌, ◌≢◌, ◌∙◌, ◌≤◌, ◌<◌, ◌-◌, ◌+◌, ℕ, Bool, false, not, List, [], ◌∷◌, length, take, drop}
+use Rattle.olr_input.proofs.Common.{◌==◌, refl, sym, ap, subst, arith, length-drop, length-take, drop-length, ne_eqb, eq-eqb}
+use Rattle.olr_input.proofs.Common.{◌&&◌, is_empty, is_whole, is_whole_from, stays_open}
 use Rattle.std.specs.List.{slice_index}
-use Rattle.std.specs.Prelude.{◌&&◌}
 use Rattle.olr_input.proofs.CsvBytes.{at, empty, longer}
-use Rattle.olr_input.specs.Journals.{is_empty, is_whole, is_whole_from, stays_open}
 
 -- the bytes from one index to another
 abbrev pub line_at : List ℕ → ℕ → ℕ → List ℕ

@@ -1,12 +1,7 @@
 -- The bytes that are written so far.
-use Rattle.std.proofs.Common.{◌≡◌, ◌∙◌, ◌+◌, ◌-◌, ◌≤◌, ◌<◌, ℕ, List, [], length, take, drop, None, Some, Err, refl, ap}
-use Rattle.std.proofs.Common.{sym, arith, length-drop}
-use Rattle.std.proofs.KnownBytes.{Appends-trans, Appends-kept}
-use Rattle.std.proofs.Math.Seq.{take-add}
-use Rattle.std.proofs.lemmas.List.{append-nil, take-append-drop, take_all}
-use Rattle.std.specs.Io.KnownBytes.{Appends, Keeps}
-use Rattle.olr_input.specs.Sessions.{Known, WritesAll}
-use Rattle.olr_input.specs.declared.ends.RunFault.TheVariants.{Write}
+use Rattle.olr_input.proofs.Common.{◌≡◌, ◌∙◌, ◌+◌, ◌-◌, ◌≤◌, ◌<◌, ℕ, List, [], length, take, drop, None, Some, Err, refl, ap}
+use Rattle.olr_input.proofs.Common.{sym, arith, length-drop, Appends-trans, Appends-kept, take-add, append-nil}
+use Rattle.olr_input.proofs.Common.{take-append-drop, take_all, Appends, Keeps, Known, WritesAll, Write}
 
 -- the first n bytes
 pub record Written (before now : Known) (bytes : List ℕ) (n : ℕ) : Type 0 where

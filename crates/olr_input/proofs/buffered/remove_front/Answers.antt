@@ -1,7 +1,6 @@
-use Rattle.std.proofs.Common.{◌≡◌, ◌+◌, ◌-◌, length, take, drop, ap, ◌∙◌, arith, rules, length-drop}
-use Rattle.std.proofs.lemmas.List.{take_all, with_items_is, places}
+use Rattle.olr_input.proofs.Common.{◌≡◌, ◌+◌, ◌-◌, length, take, drop, ap, ◌∙◌, arith, rules, length-drop, take_all}
+use Rattle.olr_input.proofs.Common.{with_items_is, places, paste}
 use Rattle.std.proofs.lemmas.List.Edits.{take-paste}
-use Rattle.std.proofs.Math.Seq.{paste}
 use Rattle.olr_input.proofs.buffered.remove_front.Goals as goal
 
 pub returns : goal.returns

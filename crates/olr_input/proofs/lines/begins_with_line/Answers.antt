@@ -1,4 +1,4 @@
-use Rattle.std.proofs.Common.{◌+◌, ◌∙◌, ap, sym, true}
+use Rattle.olr_input.proofs.Common.{◌+◌, ◌∙◌, ap, sym, true}
 use Rattle.olr_input.specs.Lines.{has_line}
 use Rattle.olr_input.proofs.WholeLines.{begins_at}
 use Rattle.olr_input.proofs.Writing.{rest_is}

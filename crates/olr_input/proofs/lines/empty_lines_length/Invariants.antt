@@ -1,4 +1,4 @@
-use Rattle.std.proofs.Common.{◌≡◌, drop, false}
+use Rattle.olr_input.proofs.Common.{◌≡◌, drop, false}
 use Rattle.olr_input.specs.Lines.{has_line}
 use Rattle.olr_input.proofs.lines.empty_lines_length.Given as goal
 

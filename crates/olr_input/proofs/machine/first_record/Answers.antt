@@ -1,5 +1,5 @@
 -- After each byte, the part that was read and the rest still make the same record.
-use Rattle.std.proofs.Common.{◌∙◌, arith}
+use Rattle.olr_input.proofs.Common.{◌∙◌, arith}
 use Rattle.olr_input.proofs.CsvBytes.{did, copied, skipped, field_ended, record_ended, text_ended, none_left}
 use Rattle.olr_input.proofs.machine.first_record.Goals.{in-Copy, in-Skip+in_ok-extend_from_slice-in-Skip}
 use Rattle.olr_input.proofs.machine.first_record.Goals.{in-EndField+in_ok-end_field-in-EndField}

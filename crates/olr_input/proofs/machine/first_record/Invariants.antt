@@ -1,8 +1,5 @@
-use Rattle.std.proofs.Common.{◌≡◌, ◌≤◌, ◌-◌, ◌++◌, [], take, drop}
-use Rattle.csv.specs.Machine.{next_record}
-use Rattle.csv.specs.Reading.{default_config}
-use Rattle.csv.specs.Records.{fields_of, partial_of}
-use Rattle.olr_input.specs.Machine.{csv_state}
+use Rattle.olr_input.proofs.Common.{◌≡◌, ◌≤◌, ◌-◌, ◌++◌, [], take, drop, next_record, default_config, fields_of, csv_state}
+use Rattle.csv.specs.Records.{partial_of}
 use Rattle.olr_input.proofs.machine.first_record.Given as goal
 
 -- the first record is the one that the fields so far, the bytes of the next field so far, and the remaining bytes make

@@ -1,6 +1,5 @@
-use Rattle.std.proofs.Common.{◌≡◌, drop}
+use Rattle.olr_input.proofs.Common.{◌≡◌, drop, csv_state, state_after}
 use Rattle.csv.specs.declared.parser.State.TheVariants as st
-use Rattle.olr_input.specs.Machine.{csv_state, state_after}
 use Rattle.olr_input.proofs.machine.state_after_line.Given as goal
 
 -- the remaining bytes lead from the state now to the last one

@@ -1,4 +1,4 @@
-use Rattle.std.proofs.Common.{length, ◌-◌}
+use Rattle.olr_input.proofs.Common.{length, ◌-◌}
 use Rattle.olr_input.proofs.Writing.{Written}
 use Rattle.olr_input.proofs.output.write_all.Given as goal
 

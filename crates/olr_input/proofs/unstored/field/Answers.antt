@@ -1,5 +1,4 @@
-use Rattle.csv.specs.Records.{fields_of}
-use Rattle.std.proofs.Common.{List, ℕ, [], unwrap_or, ap, ◌∙◌, Option}
+use Rattle.olr_input.proofs.Common.{fields_of, List, ℕ, [], unwrap_or, ap, ◌∙◌, Option}
 use Rattle.olr_input.proofs.StoredLines.{field_is}
 use Rattle.olr_input.proofs.unstored.field.Goals as goal
 

@@ -1,5 +1,4 @@
-use Rattle.std.proofs.Common.{◌≡◌, ◌++◌, take, vec_capacity, true}
-use Rattle.olr_input.specs.StoredLines.{is_clean}
+use Rattle.olr_input.proofs.Common.{◌≡◌, ◌++◌, take, vec_capacity, true, is_clean}
 use Rattle.olr_input.proofs.unstored.push_bytes.Given as goal
 
 abbrev pub invariant-loop-i : goal.invariant-loop-i

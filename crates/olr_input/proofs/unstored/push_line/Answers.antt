@@ -1,8 +1,5 @@
-use Rattle.std.proofs.Common.{◌∙◌, ◌<◌, ◌==◌, ◌++◌, ◌∷◌, [], ℕ, length, take, sym, ap, arith, vec_len, length-append}
-use Rattle.std.specs.Prelude.{if◌then◌else◌}
-use Rattle.std.specs.List.{join_with_byte}
-use Rattle.csv.specs.Records.{fields_of}
-use Rattle.olr_input.specs.StoredLines.{is_clean}
+use Rattle.olr_input.proofs.Common.{◌∙◌, ◌<◌, ◌==◌, ◌++◌, ◌∷◌, [], ℕ, length, take, sym, ap, arith, vec_len, length-append}
+use Rattle.olr_input.proofs.Common.{if◌then◌else◌, join_with_byte, fields_of, is_clean}
 use Rattle.olr_input.proofs.StoredLines.{text_more, clean_more, unclean, lines_stay}
 use Rattle.olr_input.proofs.unstored.push_line.Goals as goal
 

@@ -1,7 +1,4 @@
-use Rattle.std.proofs.Common.{◌≡◌, ◌<◌, ◌++◌, take, vec_len, vec_capacity, true}
-use Rattle.std.specs.List.{join_with_byte}
-use Rattle.csv.specs.Records.{fields_of}
-use Rattle.olr_input.specs.StoredLines.{is_clean}
+use Rattle.olr_input.proofs.Common.{◌≡◌, ◌<◌, ◌++◌, take, vec_len, vec_capacity, true, join_with_byte, fields_of, is_clean}
 use Rattle.olr_input.proofs.unstored.push_line.Given as goal
 
 abbrev pub invariant-loop-i : goal.invariant-loop-i

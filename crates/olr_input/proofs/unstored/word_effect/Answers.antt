@@ -1,6 +1,4 @@
-use Rattle.std.proofs.Common.{◌∙◌, ◌==◌, ℕ, ap, sym}
-use Rattle.csv.specs.Records.{fields_of}
-use Rattle.olr_input.specs.StoredLines.{effect_by}
+use Rattle.olr_input.proofs.Common.{◌∙◌, ◌==◌, ℕ, ap, sym, fields_of, effect_by}
 use Rattle.olr_input.proofs.StoredLines.{first_field, no_field}
 use Rattle.olr_input.proofs.unstored.word_effect.Goals as goal
 

@@ -1,4 +1,4 @@
-use Rattle.std.proofs.Common.{◌+◌, ◌∙◌, ℕ, Bool, sym, subst}
+use Rattle.olr_input.proofs.Common.{◌+◌, ◌∙◌, ℕ, Bool, sym, subst}
 use Rattle.olr_input.proofs.WholeTexts.{Reads, reads_byte, reads_line}
 use Rattle.olr_input.proofs.whole.is_whole.Goals.{then-text-i-eq10, else-text-i-eq10}
 use Rattle.olr_input.proofs.whole.is_whole.Goals as goal

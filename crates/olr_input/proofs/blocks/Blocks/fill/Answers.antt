@@ -1,6 +1,5 @@
-use Rattle.std.proofs.Common.{◌≡◌, ◌<◌, ◌-◌, ℕ, List, [], length, take, drop, rules, subst, sym}
-use Rattle.std.proofs.lemmas.List.{with_items_is, places}
-use Rattle.std.specs.Io.KnownBytes.{IsAtEnd, prepend_known}
+use Rattle.olr_input.proofs.Common.{◌≡◌, ◌<◌, ◌-◌, ℕ, List, [], length, take, drop, rules, subst, sym, with_items_is, places}
+use Rattle.olr_input.proofs.Common.{IsAtEnd, prepend_known}
 use Rattle.std.specs.Vec.{with_items}
 use Rattle.olr_input.proofs.BlockLemmas.{block_end}
 use Rattle.olr_input.proofs.blocks.Blocks.fill.Goals as goal

@@ -1,5 +1,4 @@
-use Rattle.std.proofs.Common.{◌≡◌, ◌≤◌, ◌∙◌, ◌++◌, length, take, drop, min, rules, ap}
-use Rattle.olr_input.specs.Blocks.{block_of}
+use Rattle.olr_input.proofs.Common.{◌≡◌, ◌≤◌, ◌∙◌, ◌++◌, length, take, drop, min, rules, ap, block_of}
 use Rattle.olr_input.proofs.BlockLemmas.{given_front, front_copied, none_given, has_room}
 use Rattle.olr_input.proofs.blocks.Blocks.give.Goals as goal
 

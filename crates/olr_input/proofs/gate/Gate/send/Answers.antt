@@ -1,5 +1,4 @@
-use Rattle.std.proofs.Common.{[], refl}
-use Rattle.std.proofs.lemmas.Bool.{both_ways}
+use Rattle.olr_input.proofs.Common.{[], refl, both_ways}
 use Rattle.olr_input.proofs.Passing.{passes_sent, passes_stored}
 use Rattle.olr_input.proofs.gate.Gate.send.Goals as goal
 

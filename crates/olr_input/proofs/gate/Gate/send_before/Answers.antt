@@ -1,4 +1,4 @@
-use Rattle.std.proofs.Common.{refl}
+use Rattle.olr_input.proofs.Common.{refl}
 use Rattle.olr_input.proofs.Passing.{passes_none}
 use Rattle.olr_input.proofs.gate.Gate.send_before.Goals as goal
 

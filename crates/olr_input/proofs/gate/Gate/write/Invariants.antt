@@ -1,4 +1,4 @@
-use Rattle.std.proofs.Common.{length, ◌-◌}
+use Rattle.olr_input.proofs.Common.{length, ◌-◌}
 use Rattle.olr_input.proofs.Passing.{Passed}
 use Rattle.olr_input.proofs.gate.Gate.write.Given as goal
 

@@ -1,6 +1,5 @@
-use Rattle.std.proofs.Common.{ℕ, List, sym, subst}
+use Rattle.olr_input.proofs.Common.{ℕ, List, sym, subst, csv_records}
 use Rattle.csv.specs.declared.parser.State.TheVariants as st
-use Rattle.olr_input.specs.Sessions.{csv_records}
 use Rattle.olr_input.proofs.CsvRecords.{Are, all_records}
 use Rattle.olr_input.proofs.in_memory.InMemory.new.Goals as goal
 

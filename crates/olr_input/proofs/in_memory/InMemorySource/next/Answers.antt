@@ -1,9 +1,5 @@
-use Rattle.std.proofs.Common.{◌≡◌, ◌∙◌, ◌-◌, ◌≤◌, ℕ, List, [], Some, None, ap, sym, subst, length, drop}
-use Rattle.csv.specs.Machine.{next_record}
-use Rattle.csv.specs.Reading.{default_config}
-use Rattle.csv.specs.Records.{fields_of}
-use Rattle.olr_input.specs.Machine.{csv_state}
-use Rattle.olr_input.specs.Sessions.{TakesOne}
+use Rattle.olr_input.proofs.Common.{◌≡◌, ◌∙◌, ◌-◌, ◌≤◌, ℕ, List, [], Some, None, ap, sym, subst, length, drop, next_record}
+use Rattle.olr_input.proofs.Common.{default_config, fields_of, csv_state, TakesOne}
 use Rattle.olr_input.proofs.CsvRecords.{Are, none_taken, one_taken}
 use Rattle.olr_input.proofs.Writing.{rest_is}
 use Rattle.olr_input.proofs.in_memory.InMemorySource.next.Goals as goal

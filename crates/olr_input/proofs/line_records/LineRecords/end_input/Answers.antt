@@ -1,6 +1,4 @@
-use Rattle.std.proofs.Common.{ℕ, List, false, refl, subst}
-use Rattle.olr_input.specs.LineRecords.{Finds, if_any, unmarked}
-use Rattle.csv.specs.Records.{fields_of}
+use Rattle.olr_input.proofs.Common.{ℕ, List, false, refl, subst, Finds, if_any, unmarked, fields_of}
 use Rattle.olr_input.proofs.LinesRead.{last_steps}
 use Rattle.olr_input.proofs.line_records.LineRecords.end_input.Goals as goal
 

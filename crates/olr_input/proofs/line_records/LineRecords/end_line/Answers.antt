@@ -1,6 +1,4 @@
-use Rattle.std.proofs.Common.{ℕ, List, take, ap, false, refl, subst}
-use Rattle.olr_input.specs.LineRecords.{Kept}
-use Rattle.csv.specs.Records.{fields_of}
+use Rattle.olr_input.proofs.Common.{ℕ, List, take, ap, false, refl, subst, Kept, fields_of}
 use Rattle.olr_input.proofs.LinesRead.{line_steps}
 use Rattle.olr_input.proofs.line_records.LineRecords.end_line.Goals as goal
 

@@ -1,7 +1,4 @@
-use Rattle.std.proofs.Common.{◌≡◌, ◌∙◌, ℕ, List, [], length, drop, ap, refl, rules}
-use Rattle.std.proofs.Math.Seq.{drop-length}
-use Rattle.olr_input.specs.Blocks.{block_of}
-use Rattle.olr_input.specs.LineRecords.{Kept}
+use Rattle.olr_input.proofs.Common.{◌≡◌, ◌∙◌, ℕ, List, [], length, drop, ap, refl, rules, drop-length, block_of, Kept}
 use Rattle.olr_input.proofs.LinesRead.{block_steps}
 use Rattle.olr_input.proofs.line_records.LineRecords.keep_block.Goals as goal
 

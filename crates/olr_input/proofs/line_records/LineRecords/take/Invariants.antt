@@ -1,5 +1,4 @@
-use Rattle.std.proofs.Common.{ℕ, List}
-use Rattle.olr_input.specs.LineRecords.{HasNoEnd, line_left}
+use Rattle.olr_input.proofs.Common.{ℕ, List, HasNoEnd, line_left}
 use Rattle.olr_input.proofs.line_records.LineRecords.take.Given as goal
 
 -- no record is taken yet

@@ -1,4 +1,4 @@
-use Rattle.std.proofs.Common.{refl}
+use Rattle.olr_input.proofs.Common.{refl}
 use Rattle.olr_input.proofs.LoggedEvents.{writes_logged}
 use Rattle.olr_input.proofs.logged.LoggedSessionBuffered.answer.Goals as goal
 

@@ -1,7 +1,4 @@
-use Rattle.std.proofs.Common.{◌≡◌, ◌∙◌, inl, inr, refl, subst, sym}
-use Rattle.std.proofs.lemmas.Result.{err_from_is_err_and}
-use Rattle.olr_input.specs.Gates.{LostLine, Untouched}
-use Rattle.olr_input.specs.Sessions.{IsOfTaking}
+use Rattle.olr_input.proofs.Common.{◌≡◌, ◌∙◌, inl, inr, refl, subst, sym, err_from_is_err_and, LostLine, Untouched, IsOfTaking}
 use Rattle.olr_input.specs.declared.ends.RunFault.TheVariants as fault
 use Rattle.olr_input.proofs.logged.LoggedSessionBuffered.take.Goals as goal
 

@@ -1,7 +1,4 @@
-use Rattle.std.proofs.Common.{◌∙◌, ap}
-use Rattle.csv.specs.Reading.{strip_bom}
-use Rattle.std.specs.Prelude.{option_map}
-use Rattle.olr_input.specs.Blocks.{input_left}
+use Rattle.olr_input.proofs.Common.{◌∙◌, ap, strip_bom, option_map, input_left}
 use Rattle.olr_input.proofs.SessionLemmas.{begins}
 use Rattle.olr_input.proofs.sources.Records.new.Goals as goal
 

@@ -1,5 +1,4 @@
-use Rattle.csv.specs.Records.{fields_of}
-use Rattle.olr_input.specs.Blocks.{input_left}
+use Rattle.olr_input.proofs.Common.{fields_of, input_left}
 use Rattle.olr_input.proofs.SessionLemmas.{read_left}
 use Rattle.olr_input.proofs.sources.RecordsSource.next.Goals as goal
 

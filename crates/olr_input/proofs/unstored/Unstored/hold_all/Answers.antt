@@ -1,4 +1,4 @@
-use Rattle.std.proofs.Common.{rules}
+use Rattle.olr_input.proofs.Common.{rules}
 use Rattle.olr_input.proofs.Parts.{held_lines, opened_waits}
 use Rattle.olr_input.proofs.unstored.Unstored.hold_all.Goals as goal
 

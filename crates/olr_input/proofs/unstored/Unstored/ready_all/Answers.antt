@@ -1,4 +1,4 @@
-use Rattle.std.proofs.Common.{rules}
+use Rattle.olr_input.proofs.Common.{rules}
 use Rattle.olr_input.proofs.Parts.{ready_lines, readied_waits, all_fronts}
 use Rattle.olr_input.proofs.unstored.Unstored.ready_all.Goals as goal
 

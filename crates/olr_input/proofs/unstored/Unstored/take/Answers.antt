@@ -1,7 +1,4 @@
-use Rattle.std.proofs.Common.{◌≡◌, ◌++◌, true, rules}
-use Rattle.csv.specs.Records.{fields_of}
-use Rattle.olr_input.specs.StoredLines.{has_line, is_clean, line_of, word_effect}
-use Rattle.std.specs.List.{join_with_byte}
+use Rattle.olr_input.proofs.Common.{◌≡◌, ◌++◌, true, rules, fields_of, has_line, is_clean, line_of, word_effect, join_with_byte}
 use Rattle.olr_input.proofs.StoredLines.{line_for}
 use Rattle.olr_input.proofs.Parts.{added_lines}
 use Rattle.olr_input.proofs.unstored.Unstored.take.Goals as goal
