@@ -3,7 +3,7 @@ pub mod Files
 pub mod States
 pub mod Scanning
 pub mod Reads
-pub mod Noting
+pub mod Tracing
 pub mod Outcomes
 pub mod Logs
 pub mod Places

@@ -1,10 +1,10 @@
-//! A file of the operating system. Each method makes one call of the system and notes it with its answer, whatever that is: this
+//! A file of the operating system. Each method makes one call of the system and adds it with its answer, whatever that is: this
 //! is read, and not proved.
 
 ghost use Rattle.std.specs.Prelude.{◌≡◌, ◌<◌, ◌≤◌, ◌^◌, [], ◌∷◌, length, IfOk};
 ghost use Rattle.sqlite_disk.specs.Events.{settled};
 
-use crate::noted::{Call, Noted, Part};
+use crate::traced::{Call, Traced};
 use crate::writes::BLOCK;
 use sqlite_disk::Calls;
 use std::os::unix::fs::FileExt;
@@ -17,7 +17,7 @@ const MOST: usize = (1 << 63) - 1;
 #[derive(Drop)]
 pub struct HostFile {
     file: fs::File,
-    calls: Noted,
+    calls: Traced,
 }
 
 impl HostFile {
@@ -29,7 +29,7 @@ impl HostFile {
         write_back(&file)?;
         file.sync_all()?;
         folder.sync_all()?;
-        let mut calls = Noted::none();
+        let mut calls = Traced::none();
         calls.add(&Call::Settled);
         Ok(HostFile { file, calls })
     }
@@ -89,41 +89,26 @@ impl Calls for HostFile {
 
     fn read_some(&mut self, at: usize, buf: &mut [u8]) -> io::Result<usize> {
         let answer = read(&self.file, at, buf);
-        self.calls.add(&Call::Read(Part {
-            at,
-            bytes: buf,
-            answer: &answer,
-        }));
+        self.calls.add(&Call::Read(at, buf, &answer));
         answer
     }
 
     fn read_under(&mut self, key: u64, want: u64, at: usize, buf: &mut [u8]) -> io::Result<usize> {
         let answer = read(&self.file, at, buf);
-        let part = Part {
-            at,
-            bytes: buf,
-            answer: &answer,
-        };
-        self.calls.add(&Call::ReadUnder { key, want, part });
+        self.calls
+            .add(&Call::ReadUnder(key, want, at, buf, &answer));
         answer
     }
 
     fn write_some(&mut self, at: usize, bytes: &[u8]) -> io::Result<usize> {
         let answer = write(&self.file, at, bytes);
-        self.calls.add(&Call::Written(Part {
-            at,
-            bytes,
-            answer: &answer,
-        }));
+        self.calls.add(&Call::Written(at, bytes, &answer));
         answer
     }
 
     fn resize(&mut self, len: usize) -> io::Result<()> {
         let answer = self.file.set_len(len as u64);
-        self.calls.add(&Call::Resized {
-            len,
-            answer: &answer,
-        });
+        self.calls.add(&Call::Resized(len, &answer));
         answer
     }
 

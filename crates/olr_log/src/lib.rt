@@ -5,13 +5,13 @@ mod changes;
 mod folder;
 mod host;
 mod log_file;
-mod noted;
 mod opened;
 mod opening;
 mod place;
 mod reads;
 mod scan;
 mod state;
+mod traced;
 mod writes;
 
 pub use folder::Folder;

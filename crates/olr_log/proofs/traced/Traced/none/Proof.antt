@@ -12,17 +12,17 @@ use denote.Steps.{nothing}
 use denote.Triple.Entry.{on_entry}
 use denote.Triple.Walked.{says, ends_at}
 use Rattle.std.proofs.raw_atomic.Walks.{proved}
-use Rattle.olr_log.specs.declared.noted.Noted.{Noted}
-use Rattle.olr_log.specs.contracts.noted.Noted as T
-use Rattle.olr_log.specs.contracts.noted.Noted.none.Key.{name as #it}
-use Rattle.olr_log.specs.contracts.noted.Noted.none as it
-use Rattle.olr_log.proofs.noted.Noted.none.Statement as stated
-use Rattle.olr_log.proofs.noted.Noted.none.Code as code
+use Rattle.olr_log.specs.declared.traced.Traced.{Traced}
+use Rattle.olr_log.specs.contracts.traced.Traced as T
+use Rattle.olr_log.specs.contracts.traced.Traced.none.Key.{name as #it}
+use Rattle.olr_log.specs.contracts.traced.Traced.none as it
+use Rattle.olr_log.proofs.traced.Traced.none.Statement as stated
+use Rattle.olr_log.proofs.traced.Traced.none.Code as code
 
 abbrev v : Val
 v = vstruct (vcons (vstruct vnil) vnil)
 
-abbrev r : Noted
+abbrev r : Traced
 r = record { marker = record {}; events = [] }
 
 pub none_spec : {M : Type 1} → stated.statement M

@@ -3,55 +3,41 @@
 ghost use Rattle.std.specs.Prelude.{◌≡◌, List, [], ◌∷◌};
 ghost use Rattle.std.specs.Borrow.{ftrue};
 ghost use Rattle.sqlite_disk.specs.Events.{Event};
-ghost use Rattle.olr_log.specs.Noting.{event_of};
+ghost use Rattle.olr_log.specs.Tracing.{event_of};
 
 use std::io;
 use std::marker::{Model, PhantomData};
 
-/// Bytes of a file, and how many of them were read or written.
-#[derive(Clone, Copy)]
-pub struct Part<'a> {
-    pub at: usize,
-    pub bytes: &'a [u8],
-    pub answer: &'a io::Result<usize>,
-}
-
-/// A call of the system on a file, with its answer.
+/// A call of the system on a file, with its answer: of bytes the offset, these bytes, and how many of them were read or written.
 #[derive(Clone, Copy)]
 pub enum Call<'a> {
     /// It was synced as it was opened.
     Settled,
     Measured(&'a io::Result<usize>),
-    Read(Part<'a>),
-    /// The same, of bytes that will be tested against a digest under a key.
-    ReadUnder {
-        key: u64,
-        want: u64,
-        part: Part<'a>,
-    },
-    Written(Part<'a>),
-    Resized {
-        len: usize,
-        answer: &'a io::Result<()>,
-    },
+    Read(usize, &'a [u8], &'a io::Result<usize>),
+    /// The same, behind a key and the digest under this key against which the bytes will be tested.
+    ReadUnder(u64, u64, usize, &'a [u8], &'a io::Result<usize>),
+    Written(usize, &'a [u8], &'a io::Result<usize>),
+    /// To this length.
+    Resized(usize, &'a io::Result<()>),
     Synced(&'a io::Result<()>),
 }
 
 #[derive(Drop)]
-pub struct Noted {
+pub struct Traced {
     marker: PhantomData<u8>,
     pub ghost events: { List Event },
 }
 
-impl Model for Noted {
+impl Model for Traced {
     ghost also_owns = { λ _. ftrue };
 }
 
-impl Noted {
-    pub(crate) fn none() -> Noted
+impl Traced {
+    pub(crate) fn none() -> Traced
         ensures { result.events ≡ [] }
     {
-        Noted {
+        Traced {
             marker: PhantomData,
         }
     }

@@ -24,31 +24,31 @@ use denote.Steps.{opens, closes, nothing}
 use denote.Triple.Entry.{on_entry}
 use denote.Triple.Walked.{says, Stays, stay_ref, stay_dropped, walk_of, AllGo, Goes-ref, Goes-dropped, ends_at}
 use Rattle.std.proofs.raw_atomic.Walks.{proved}
-use Rattle.olr_log.specs.declared.noted.Noted.{Noted}
-use Rattle.olr_log.specs.Noting.{event_of}
-use Rattle.olr_log.specs.contracts.noted.Noted as T
-use Rattle.olr_log.specs.contracts.noted.Noted.add.Key.{name as #it}
-use Rattle.olr_log.specs.contracts.noted.Noted.add as it
-use Rattle.olr_log.proofs.noted.Noted.add.Statement as stated
-use Rattle.olr_log.proofs.noted.Noted.add.Code as code
+use Rattle.olr_log.specs.declared.traced.Traced.{Traced}
+use Rattle.olr_log.specs.Tracing.{event_of}
+use Rattle.olr_log.specs.contracts.traced.Traced as T
+use Rattle.olr_log.specs.contracts.traced.Traced.add.Key.{name as #it}
+use Rattle.olr_log.specs.contracts.traced.Traced.add as it
+use Rattle.olr_log.proofs.traced.Traced.add.Statement as stated
+use Rattle.olr_log.proofs.traced.Traced.add.Code as code
 use denote.Builtin.{RefOf}
 use denote.Exit.{yes}
-use Rattle.olr_log.specs.declared.noted.Call.{Call}
-use Rattle.olr_log.specs.contracts.noted.Call as Noting
+use Rattle.olr_log.specs.declared.traced.Call.{Call}
+use Rattle.olr_log.specs.contracts.traced.Call as Calling
 
 abbrev Arg : Type 0
-Arg = MutBor Noted × (Bor Call × Unit {0})
+Arg = MutBor Traced × (Bor Call × Unit {0})
 
 abbrev stayed : Stays (it.ended).signature.params (it.ended).kept
 stayed = (stay_ref (0 ∷ []) tt (plain (λ _. T.the_row)), (stay_dropped _ yes, tt))
 
-module _ {M : Type 1} {𝓤 : Ura M} (𝓛 : Logic 𝓤) (at_mem : Memory → SProp 𝓤) (run : Routine → Fun 𝓤) (κ κ' κ'' : Lft) (q q' q'' : Share) (b o : ℕ) (γ : GName) (h : Noted) (k : Bor Call) (bounds : AllOutlive (it.ended).signature.lifetimes (it.ended).signature.outlives (κ, (κ', (κ'', tt)))) where
+module _ {M : Type 1} {𝓤 : Ura M} (𝓛 : Logic 𝓤) (at_mem : Memory → SProp 𝓤) (run : Routine → Fun 𝓤) (κ κ' κ'' : Lft) (q q' q'' : Share) (b o : ℕ) (γ : GName) (h : Traced) (k : Bor Call) (bounds : AllOutlive (it.ended).signature.lifetimes (it.ended).signature.outlives (κ, (κ', (κ'', tt)))) where
   open 𝓛 use {H, A}
 
   abbrev x : Arg
   x = (record { ref_ptr = (b, o); ghost_name = γ; now = h }, (k, tt))
 
-  abbrev h' : Noted
+  abbrev h' : Traced
   h' = record { marker = h.marker; events = event_of k.now ∷ h.events }
 
   abbrev at : List Val × (List Val × Unit {0})
@@ -67,7 +67,7 @@ module _ {M : Type 1} {𝓤 : Ura M} (𝓛 : Logic 𝓤) (at_mem : Memory → SP
   module _ (C : Calls 𝓤 H) (Λ : Loops 𝓤 H) where
     walk : ent 𝓤 (on_entry 𝓛 it.signature (κ, (κ', (κ'', tt))) (q, (q', (q'', tt))) x at) (WpFn 𝓤 H C Λ code.function (vptr b o ∷ vptr k.ref_ptr.0 k.ref_ptr.1 ∷ []) Post)
     walk =
-        qed 𝓛 ((‵ (flft κ q) ⊛ (‵ (flft κ' q') ⊛ (‵ (flft κ'' q'') ⊛ ‵ ftrue))) ∷ ‵ (owns (MutRef (named 0) κ T.the_row ∷ ShrRef (named 1) κ' (Noting.the_row (named_lft 3 2 tt (κ, (κ', (κ'', tt))))) ∷ []) x at) ∷ []) ∵ split ! $ move ! (2 ∷ []) $ fsplit ! $ fsplit3 ! $ drop ! $ move ! (0 ∷ 1 ∷ 3 ∷ []) $
+        qed 𝓛 ((‵ (flft κ q) ⊛ (‵ (flft κ' q') ⊛ (‵ (flft κ'' q'') ⊛ ‵ ftrue))) ∷ ‵ (owns (MutRef (named 0) κ T.the_row ∷ ShrRef (named 1) κ' (Calling.the_row (named_lft 3 2 tt (κ, (κ', (κ'', tt))))) ∷ []) x at) ∷ []) ∵ split ! $ move ! (2 ∷ []) $ fsplit ! $ fsplit3 ! $ drop ! $ move ! (0 ∷ 1 ∷ 3 ∷ []) $
         enter ! C Λ code.function (vptr b o ∷ vptr k.ref_ptr.0 k.ref_ptr.1 ∷ []) _ $
         alloc_all ! (λ l. pass_all ! refl ((tt, tt), ((tt, tt), tt)) $
         move ! (0 ∷ 1 ∷ 2 ∷ []) $ opens ! tt T.the_row {h = h} b o (λ vs.
@@ -77,11 +77,11 @@ module _ {M : Type 1} {𝓤 : Ura M} (𝓛 : Logic 𝓤) (at_mem : Memory → SP
         keep ! (0 ∷ 1 ∷ 2 ∷ 4 ∷ []) $ by ! exits))
 
 goes : {M : Type 1} {𝓤 : Ura M} (𝓛 : Logic 𝓤) → AllGo 𝓛 3 (it.signature).params (it.ended).kept stayed
-goes 𝓛 = (Goes-ref 𝓛 3 0 tt (plain (λ _. T.the_row)), (Goes-dropped 𝓛 3 (RefOf (1 ∷ []) tt (plain (λ κs. Noting.the_row (named_lft 3 2 tt κs))) (λ _. tt)) yes (λ κs x f. refl), tt))
+goes 𝓛 = (Goes-ref 𝓛 3 0 tt (plain (λ _. T.the_row)), (Goes-dropped 𝓛 3 (RefOf (1 ∷ []) tt (plain (λ κs. Calling.the_row (named_lft 3 2 tt κs))) (λ _. tt)) yes (λ κs x f. refl), tt))
 
 pub add_spec : {M : Type 1} → stated.statement M
 add_spec 𝓤 𝓛 𝓜 𝓡 wired =
     let 𝓣 = tables 𝓤 𝓛.H 𝓜 𝓡 𝓡.env in
     proved 𝓛 it.ended stayed (it.clauses 𝓛 𝓜.mem 𝓡.returns) 𝓜 𝓡 (goes 𝓛) #it code.function (code.unfolded 𝓤 𝓛.H 𝓜 𝓡 wired)
-    (λ κs. (mut_vals, (shr_vals, tt))) (λ κs. (mut_Tells (named 0) κs.0 T.the_row, (shr_Tells (named 1) κs.1.0 (Noting.the_row (named_lft 3 2 tt κs)), tt)))
+    (λ κs. (mut_vals, (shr_vals, tt))) (λ κs. (mut_Tells (named 0) κs.0 T.the_row, (shr_Tells (named 1) κs.1.0 (Calling.the_row (named_lft 3 2 tt κs)), tt)))
     (λ κs qs bounds a _ are. via 𝓤 _ (fst∗ 𝓤 _ (emp 𝓤)) (walk 𝓛 𝓜.mem 𝓡.returns κs.0 κs.1.0 κs.1.1.0 qs.0 qs.1.0 qs.1.1.0 a.0.ref_ptr.0 a.0.ref_ptr.1 a.0.ghost_name a.0.now a.1.0 bounds 𝓣.C 𝓣.Λ))
