@@ -5,6 +5,7 @@ use Rattle.sqlite_disk.specs.declared.Disk.{Ghosts}
 use Rattle.olr_log.specs.declared.folder.Folder as folder
 use Rattle.olr_log.specs.declared.log_file.LogFile.{LogFile}
 use Rattle.olr_log.specs.Texts.{text_of}
+use Rattle.olr_log.specs.Logs.{stored_of}
 use Rattle.olr_log.specs.Outcomes.{LeavesText, MayLeave}
 use Rattle.olr_log.specs.States.{Stands, stored_in, is_broken_in}
 use Rattle.olr_log.specs.declared.state.State.{State}
@@ -74,3 +75,10 @@ module _ {D F : Type 0} {d : Ghosts D} {f : folder.Ghosts F D} (log : LogFile D 
   -- a crash leaves its file, or the one that has become of it
   pub file_leaves : (now : D) → is_broken_in log.state ≡ false → (text : List ℕ) → MayLeave d.is_clean d.may_leave (f.may_lead log.folder) log.number now log.rival text → Leaves d now text
   file_leaves now alive text left = led_here d (f.may_lead log.folder) log.number now log.rival (log.led alive) text left
+
+  -- where that has the text that is stored, the next run begins with it
+  pub left_stored : (now : D) (state : State) → log.state ≡ state → is_broken_in state ≡ false →
+      Only (stored_in state (d.seen log.disk)) (Leaves d now) → (text : List ℕ) →
+      MayLeave d.is_clean d.may_leave (f.may_lead log.folder) log.number now log.rival text → text ≡ stored_of log
+  left_stored now state is alive known text left =
+      known text (file_leaves now (ap is_broken_in is ∙ alive) text left) ∙ sym (ap (λ (s : State). stored_in s (d.seen log.disk)) is)

@@ -1,5 +1,5 @@
 -- The longest front that counts.
-use Rattle.olr_input.proofs.StoredLines.{whole_join}
+use Rattle.olr_input.proofs.StoredLines.{empty_snoc, whole_join}
 use Rattle.std.proofs.Common.{◌≡◌, ◌⊎◌, inl, inr, ℕ, zero, suc, ◌+◌, ◌-◌, ◌≤◌, ◌<◌, Bool, true, false, List, [], ◌∷◌, ◌++◌, length, take, drop, get_or, refl, sym, ◌∙◌, ap, arith, length-append, append_assoc}
 use Rattle.std.specs.Prelude.{◌==◌, ◌&&◌, not, if◌then◌else◌}
 use Rattle.std.specs.List.{ends_with}
@@ -7,17 +7,13 @@ use Rattle.std.specs.Str.{bytes_eq}
 use Rattle.std.proofs.lemmas.List.{append-nil, take-append-le, take-append-drop}
 use Rattle.std.proofs.Math.Seq.{take-append-add, take-append_seam}
 use Rattle.std.proofs.lemmas.Bool.{cases_Bool, cases_eq, and_parts, and_left, cond-true, cond-false}
-use Rattle.olr_input.specs.Journals.{is_whole, is_whole_from, stays_open, is_empty, IsFront}
+use Rattle.olr_input.specs.Journals.{is_whole, is_whole_from, stays_open, IsFront}
 use Rattle.olr_log.specs.Texts.{ends_blank, ends_blank_behind, counts, longest_front, recovered}
 
 -- no text with a carriage return is whole
 pub return_ends : (o : Bool) (l x y : List ℕ) → is_whole_from o l (x ++ 13 ∷ y) ≡ false
 return_ends o l [] y = refl
 return_ends o l (b ∷ x) y = grind (arith, return_ends (stays_open o l) [] x y, return_ends o (l ++ b ∷ []) x y)
-
-pub empty_snoc : (l : List ℕ) (b : ℕ) → is_empty (l ++ b ∷ []) ≡ false
-empty_snoc [] b = refl
-empty_snoc (a ∷ l) b = refl
 
 -- whole records end in a line feed
 pub blank_append : (before : ℕ) (o : Bool) (l t : List ℕ) (a : ℕ) (y : List ℕ) → is_whole_from o l t ≡ true → 0 < length t → ends_blank_behind before (t ++ a ∷ y) ≡ ends_blank_behind 10 (a ∷ y)

@@ -9,7 +9,8 @@ use Rattle.olr_log.specs.Texts.{counts, ends_blank, ends_blank_behind, longest_f
 use Rattle.olr_log.specs.declared.scan.Scan.{Scan}
 use Rattle.olr_log.specs.Scanning.{StandsAt, Scanned}
 use Rattle.olr_log.proofs.Behind.{unpadded_return, unpadded_other}
-use Rattle.olr_log.proofs.Fronts.{recovered_stop, longest_within, empty_snoc}
+use Rattle.olr_input.proofs.StoredLines.{empty_snoc}
+use Rattle.olr_log.proofs.Fronts.{recovered_stop, longest_within}
 
 -- with one byte more, a text is recovered as a whole, or as before
 recovered_snoc : (x : List ℕ) (b : ℕ) → recovered (x ++ b ∷ []) ≡ (if counts (x ++ b ∷ []) then x ++ b ∷ [] else recovered x)
@@ -36,17 +37,14 @@ begins_front (a ∷ b ∷ c ∷ d ∷ []) = refl
 begins_front (a ∷ b ∷ c ∷ d ∷ e ∷ []) = refl
 begins_front (a ∷ b ∷ c ∷ d ∷ e ∷ f ∷ line) = refl
 
-commits_front : (line : List ℕ) → take 7 (take 8 line) ≡ take 7 line
-commits_front line = take-take 7 8 line (omega arith)
-
 empty_front : (line : List ℕ) → is_empty (take 8 line) ≡ is_empty line
 empty_front [] = refl
 empty_front (a ∷ line) = refl
 
-pub stays_front : (o : Bool) (line begun : List ℕ) → take 8 line ≡ begun → (bytes_eq begun (codes "begin") || o && not (bytes_eq (take 7 begun) (codes "commit,"))) ≡ stays_open o line
+stays_front : (o : Bool) (line begun : List ℕ) → take 8 line ≡ begun → stays_open o begun ≡ stays_open o line
 stays_front o line begun is =
     let f : Bool → List ℕ → Bool = λ p x. p || o && not (bytes_eq x (codes "commit,")) in
-    ap (λ (x : List ℕ). f (bytes_eq x (codes "begin")) (take 7 x)) (sym is) ∙ ap (λ (p : Bool). f p (take 7 (take 8 line))) (begins_front line) ∙ ap (λ (x : List ℕ). f (bytes_eq line (codes "begin")) x) (commits_front line)
+    ap (stays_open o) (sym is) ∙ (λ i. f (begins_front line i) (take-take 7 8 line (omega arith) i))
 
 -- the front of a line with one byte more
 pub front_more : (line begun : List ℕ) (b : ℕ) → take 8 line ≡ begun → length begun < 8 → take 8 (line ++ b ∷ []) ≡ begun ++ b ∷ []
@@ -159,10 +157,7 @@ module _ (s new : Scan) (x : List ℕ) (known : Scanned s x) (at : new.at ≡ s.
         stands = λ _. subst (λ (o : Bool). StandsAt o new.begun.items (x ++ b ∷ [])) (sym opened) (byte_stands s.is_open s.begun.items new.begun.items x b stands no_feed no_return (front stands.line stands.front));
       }
 
-  abbrev stays : Bool
-  stays = bytes_eq s.begun.items (codes "begin") || s.is_open && not (bytes_eq (take 7 s.begun.items) (codes "commit,"))
-
-  pub scanned_line : (b : ℕ) → b ≡ 10 → new.last ≡ s.at + 1 → new.is_over ≡ s.is_over → s.is_over ≡ false → new.is_open ≡ stays → new.begun.items ≡ []
+  pub scanned_line : (b : ℕ) → b ≡ 10 → new.last ≡ s.at + 1 → new.is_over ≡ s.is_over → s.is_over ≡ false → new.is_open ≡ stays_open s.is_open s.begun.items → new.begun.items ≡ []
       → new.found ≡ (if not new.is_open && not (is_empty s.begun.items) then s.at + 1 else s.found) → Scanned new (x ++ b ∷ [])
   scanned_line b is last same goes opened begun found =
       let stands = known.stands goes in

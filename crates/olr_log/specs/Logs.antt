@@ -5,16 +5,14 @@ use Rattle.sqlite_disk.specs.declared.Disk as disk
 use Rattle.olr_log.specs.declared.folder.Folder as folder
 use Rattle.olr_log.specs.declared.log_file.LogFile.{LogFile}
 use Rattle.olr_log.specs.declared.state.State.{State}
-use Rattle.olr_log.specs.declared.state.State.TheVariants.{Foreign, Opened, Ready, Broken}
+use Rattle.olr_log.specs.declared.state.State.TheVariants.{Opened}
 use Rattle.olr_log.specs.States.{stored_in, size_in, is_own_in, is_ready_in, is_broken_in}
 use Rattle.olr_log.specs.Outcomes.{MayLeave}
 
 -- what stands behind the text of an opened log, up to the last byte that isn't a carriage return
 abbrev pub left_over_in : State → List ℕ → List ℕ
-left_over_in (Foreign len) file = []
 left_over_in (Opened n last len) file = take (last - n) (drop (n + 1) file)
-left_over_in (Ready n len) file = []
-left_over_in Broken file = []
+left_over_in _ file = []
 
 module _ {D F : Type 0} {d : disk.Ghosts D} {f : folder.Ghosts F D} where
   abbrev pub stored_of : LogFile D F d f → List ℕ

@@ -27,21 +27,15 @@ size_in Broken = 0
 
 abbrev pub is_own_in : State → Bool
 is_own_in (Foreign len) = false
-is_own_in (Opened n last len) = true
-is_own_in (Ready n len) = true
-is_own_in Broken = true
+is_own_in _ = true
 
 abbrev pub is_ready_in : State → Bool
-is_ready_in (Foreign len) = false
-is_ready_in (Opened n last len) = false
 is_ready_in (Ready n len) = true
-is_ready_in Broken = false
+is_ready_in _ = false
 
 abbrev pub is_broken_in : State → Bool
-is_broken_in (Foreign len) = false
-is_broken_in (Opened n last len) = false
-is_broken_in (Ready n len) = false
 is_broken_in Broken = true
+is_broken_in _ = false
 
 module _ {D : Type 0} (d : Ghosts D) (disk : D) where
   -- The disk can be used, and has what was written. If it has done what it reported, its file has so many bytes, and is such a

@@ -5,50 +5,29 @@ use std::fs;
 use std::io::{self, Read};
 use std::os::unix::fs::FileExt;
 
-/// The bytes so far of a file.
-#[derive(Drop)]
-struct Front {
-    len: u64,
-    /// The length of the whole lines.
-    lines_len: u64,
-    /// The last byte is a carriage return.
-    is_return: bool,
-}
-
-impl Front {
-    /// Takes the next byte. Returns whether it shows that a carriage return before it ends no line.
-    fn takes(&mut self, byte: u8) -> bool {
-        if self.is_return && byte != b'\n' {
-            return true;
-        }
-        self.len = self.len.saturating_add(1);
-        self.is_return = byte == b'\r';
-        if byte == b'\n' {
-            self.lines_len = self.len;
-        }
-        false
-    }
-}
-
-/// How many bytes of a file have its records: of one that begins with an empty line the whole lines before its padding.
+/// How many bytes of a file have its records: of one that begins with an empty line the whole lines before its padding, which a
+/// carriage return begins that ends no line.
 fn records_len(file: &fs::File) -> io::Result<u64> {
     let mut block = [0u8; BLOCK];
-    let mut front = Front {
-        len: 0,
-        lines_len: 0,
-        is_return: false,
-    };
+    let mut len = 0u64;
+    let mut lines_len = 0;
+    let mut is_return = false;
     for _ in 0..u64::MAX {
-        let n = file.read_at(&mut block, front.len)?;
-        if n == 0 && front.is_return {
-            return Ok(front.lines_len);
+        let n = file.read_at(&mut block, len)?;
+        if n == 0 && is_return {
+            return Ok(lines_len);
         }
-        if n == 0 || (front.len == 0 && block[0] != b'\n') {
+        if n == 0 || (len == 0 && block[0] != b'\n') {
             return Ok(u64::MAX);
         }
         for i in 0..n {
-            if front.takes(block[i]) {
-                return Ok(front.lines_len);
+            if is_return && block[i] != b'\n' {
+                return Ok(lines_len);
+            }
+            len = len.saturating_add(1);
+            is_return = block[i] == b'\r';
+            if block[i] == b'\n' {
+                lines_len = len;
             }
         }
     }

@@ -28,7 +28,7 @@ pub type HostDisk<S> = Modelled<HostFile, S>;
 pub enum OpenError {
     /// There is no such file.
     Missing,
-    /// A new log was asked for, and the file is there.
+    /// The log was to be a new one, and the file is there.
     Exists,
     /// Another process uses the log. Its id, if it is known.
     InUse(Option<u32>),
@@ -87,24 +87,25 @@ fn takes_lock(file: &fs::File) -> io::Result<bool> {
     }
 }
 
-/// Where a descriptor of a standard stream is free, a file gets another one, so that no answer lands in it.
-fn above_streams(file: fs::File) -> io::Result<fs::File> {
+/// Opens a file, or makes it with this mode. Where a descriptor of a standard stream is free, the file gets another one, so that no
+/// answer lands in it.
+fn open_file(rt: &HostRuntime, name: &str, is_new: bool, mode: u32) -> io::Result<fs::File> {
+    let file = OpenOptions::new()
+        .read(true)
+        .write(true)
+        .create_new(is_new)
+        .mode(mode)
+        .open(rt, name)?;
     if file.as_raw_fd() <= 2 {
         return file.try_clone();
     }
     Ok(file)
 }
 
-fn unless_denied(outcome: io::Result<()>) -> io::Result<()> {
+/// An outcome, unless it is an error of this kind.
+fn unless(kind: io::ErrorKind, outcome: io::Result<()>) -> io::Result<()> {
     match outcome {
-        Err(error) if error.kind() == io::ErrorKind::PermissionDenied => Ok(()),
-        other => other,
-    }
-}
-
-fn unless_missing(outcome: io::Result<()>) -> io::Result<()> {
-    match outcome {
-        Err(error) if error.kind() == io::ErrorKind::NotFound => Ok(()),
+        Err(error) if error.kind() == kind => Ok(()),
         other => other,
     }
 }
@@ -112,21 +113,23 @@ fn unless_missing(outcome: io::Result<()>) -> io::Result<()> {
 impl LogFolder<'_> {
     /// Makes a file beside the log and locks it, with the log's mode, and its group and owner where this process may set them.
     fn make_beside(&self) -> io::Result<fs::File> {
-        unless_missing(fs::remove_file(self.rt, self.beside.as_str()))?;
-        let old = fs::metadata(self.rt, self.log.as_str())?;
-        let file = above_streams(
-            OpenOptions::new()
-                .read(true)
-                .write(true)
-                .create_new(true)
-                .mode(0o600)
-                .open(self.rt, self.beside.as_str())?,
+        unless(
+            io::ErrorKind::NotFound,
+            fs::remove_file(self.rt, self.beside.as_str()),
         )?;
+        let old = fs::metadata(self.rt, self.log.as_str())?;
+        let file = open_file(self.rt, self.beside.as_str(), true, 0o600)?;
         if !takes_lock(&file)? {
             return Err(io::ErrorKind::WouldBlock.into());
         }
-        unless_denied(fchown(&file, None, Some(old.gid())))?;
-        unless_denied(fchown(&file, Some(old.uid()), None))?;
+        unless(
+            io::ErrorKind::PermissionDenied,
+            fchown(&file, None, Some(old.gid())),
+        )?;
+        unless(
+            io::ErrorKind::PermissionDenied,
+            fchown(&file, Some(old.uid()), None),
+        )?;
         file.set_permissions(fs::Permissions::from_mode(old.mode() & 0o7777))?;
         Ok(file)
     }
@@ -139,13 +142,8 @@ impl LogFolder<'_> {
             } else {
                 format!(in self.rt.alloc(); "{}.dropped.{n}", self.log.as_str())?
             };
-            match OpenOptions::new()
-                .write(true)
-                .create_new(true)
-                .mode(0o600)
-                .open(self.rt, name.as_str())
-            {
-                Ok(file) => return Ok((above_streams(file)?, name)),
+            match open_file(self.rt, name.as_str(), true, 0o600) {
+                Ok(file) => return Ok((file, name)),
                 Err(error) if error.kind() == io::ErrorKind::AlreadyExists => {}
                 Err(error) => return Err(error),
             }
@@ -199,14 +197,12 @@ impl<S: Start> Folder<HostDisk<S>> for LogFolder<'_> {
     }
 
     fn is_in_place(&self, len: usize) -> bool {
-        match fs::metadata(self.rt, self.log.as_str()) {
-            Ok(found) => {
-                (found.dev(), found.ino()) == self.node
-                    && found.len() == len as u64
-                    && self.written.get().unwrap_or(time_of(&found)) == time_of(&found)
-            }
-            Err(_) => false,
-        }
+        let Ok(found) = fs::metadata(self.rt, self.log.as_str()) else {
+            return false;
+        };
+        (found.dev(), found.ino()) == self.node
+            && found.len() == len as u64
+            && self.written.get().unwrap_or(time_of(&found)) == time_of(&found)
     }
 
     fn note_written(&self) {
@@ -224,17 +220,12 @@ fn resolve(rt: &HostRuntime, path: &str, is_new: bool) -> Result<PathBuf, OpenEr
         Err(_) if !is_new => Err(OpenError::Missing),
         Err(error) => {
             let given = Path::new(path);
-            let Some(name) = given.file_name() else {
-                return Err(OpenError::Io(error));
-            };
+            let name = given.file_name().ok_or(error)?;
             let folder = match given.parent() {
-                Some(folder) if !folder.as_str().is_empty() => fs::canonicalize(
-                    rt,
-                    folder.as_str(),
-                )?,
-                _ => fs::canonicalize(rt, ".")?,
+                Some(folder) if !folder.as_str().is_empty() => folder.as_str(),
+                _ => ".",
             };
-            Ok(folder.join(rt.alloc(), name)?)
+            Ok(fs::canonicalize(rt, folder)?.join(rt.alloc(), name)?)
         }
     }
 }
@@ -250,13 +241,7 @@ fn holder(lock: &mut fs::File) -> Option<u32> {
 /// Opens the lock file of a log, or makes it. What has its name and is no file is refused and stays as it is, also if it is a link
 /// that was put there meanwhile.
 fn open_lock(rt: &HostRuntime, name: &str) -> io::Result<fs::File> {
-    let made = OpenOptions::new()
-        .read(true)
-        .write(true)
-        .create_new(true)
-        .mode(0o666)
-        .open(rt, name);
-    match made {
+    match open_file(rt, name, true, 0o666) {
         Err(error) if error.kind() == io::ErrorKind::AlreadyExists => {}
         made => return made,
     }
@@ -264,7 +249,7 @@ fn open_lock(rt: &HostRuntime, name: &str) -> io::Result<fs::File> {
     if !fs::symlink_metadata(rt, name)?.is_file() {
         return Err(other);
     }
-    let file = OpenOptions::new().read(true).write(true).open(rt, name)?;
+    let file = open_file(rt, name, false, 0o666)?;
     let named = fs::symlink_metadata(rt, name)?;
     if node_of(&file)? != (named.dev(), named.ino()) {
         return Err(other);
@@ -275,10 +260,7 @@ fn open_lock(rt: &HostRuntime, name: &str) -> io::Result<fs::File> {
 /// Locks the lock file of a log, and writes the process id to it.
 fn lock(rt: &HostRuntime, log: &str) -> Result<fs::File, OpenError> {
     let name = format!(in rt.alloc(); "{log}.lock")?;
-    let mut lock = match open_lock(rt, name.as_str()) {
-        Ok(file) => above_streams(file)?,
-        Err(error) => return Err(OpenError::Lock(error)),
-    };
+    let mut lock = open_lock(rt, name.as_str()).map_err(OpenError::Lock)?;
     if !takes_lock(&lock)? {
         return Err(OpenError::InUse(holder(&mut lock)));
     }
@@ -302,14 +284,7 @@ pub fn open_place<'a, S: Start>(
 {
     let log = resolve(rt, path, is_new)?;
     let lock = lock(rt, log.as_str())?;
-    let file = above_streams(
-        OpenOptions::new()
-            .read(true)
-            .write(true)
-            .create_new(is_new)
-            .mode(0o666)
-            .open(rt, log.as_str())?,
-    )?;
+    let file = open_file(rt, log.as_str(), is_new, 0o666)?;
     if !file.metadata()?.is_file() {
         return Err(OpenError::Io(io::ErrorKind::Unsupported.into()));
     }
@@ -317,11 +292,14 @@ pub fn open_place<'a, S: Start>(
         return Err(OpenError::InUse(None));
     }
     let beside = format!(in rt.alloc(); "{}.compacting", log.as_str())?;
-    unless_missing(fs::remove_file(rt, beside.as_str()))?;
-    let folder = match log.parent() {
-        Some(folder) => fs::open(rt, folder.as_str())?,
-        None => return Err(OpenError::Io(io::ErrorKind::Unsupported.into())),
-    };
+    unless(
+        io::ErrorKind::NotFound,
+        fs::remove_file(rt, beside.as_str()),
+    )?;
+    let parent = log
+        .parent()
+        .ok_or(io::Error::from(io::ErrorKind::Unsupported))?;
+    let folder = fs::open(rt, parent.as_str())?;
     let node = node_of(&file)?;
     let host = HostFile::settle(file, &folder)?;
     Ok((

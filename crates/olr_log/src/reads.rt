@@ -1,9 +1,9 @@
 //! Reads of a log that was opened.
 
-ghost use Rattle.std.specs.Prelude.{◌≡◌, ◌+◌, ◌^◌, ◌<◌, true, false, length, take, drop, IsTrue, IfOk, OnOk, ⊤};
+ghost use Rattle.std.specs.Prelude.{◌≡◌, ◌+◌, ◌^◌, ◌<◌, true, false, length, take, drop, IsTrue, IfOk, OnOk};
 ghost use Rattle.std.specs.Io.KnownBytes.{Appends};
 ghost use Rattle.olr_log.specs.Texts.{is_own};
-ghost use Rattle.olr_log.specs.States.{HasFile, Stands, is_broken_in, is_ready_in};
+ghost use Rattle.olr_log.specs.States.{Stands, is_broken_in, is_ready_in};
 ghost use Rattle.olr_log.specs.Reads.{OnlyReads};
 ghost use Rattle.olr_log.specs.Scanning.{Scanned};
 
@@ -30,22 +30,6 @@ pub fn begins_own<D: Disk>(disk: &mut D, len: usize) -> io::Result<bool>
     Ok(first[0] == b'\n')
 }
 
-/// Reads the next bytes into a block, for a scan.
-fn scan_block<D: Disk>(disk: &mut D, at: usize, block: &mut [u8], scan: &mut Scan) -> io::Result<()>
-    requires usable { IsTrue (D.Disk.is_usable disk.old) }
-    requires some { 0 < length block.old }
-    requires fits { at + length block.old < 2 ^ 64 }
-    requires place { at ≡ scan.old.at + 1 }
-    ensures reads { OnlyReads D.Disk disk.old disk.new }
-    ensures at { OnOk result (scan.new.at ≡ scan.old.at + length block.old) }
-    ensures text { OnOk result (Scanned scan.old (take scan.old.at (drop 1 (D.Disk.seen disk.old))) → D.Disk.is_clean disk.new ≡ true
-        → Scanned scan.new (take scan.new.at (drop 1 (D.Disk.seen disk.old)))) }
-{
-    disk.read_at(at, block)?;
-    scan.take(block)?;
-    Ok(())
-}
-
 /// Reads the next `n` bytes for a scan.
 fn scan_next<D: Disk>(
     alloc: Global,
@@ -64,7 +48,9 @@ fn scan_next<D: Disk>(
         → Scanned scan.new (take scan.new.at (drop 1 (D.Disk.seen disk.old)))) }
 {
     let mut block = vec![in alloc; 0u8; n]?;
-    scan_block(disk, at, &mut block, scan)
+    disk.read_at(at, &mut block)?;
+    scan.take(&block)?;
+    Ok(())
 }
 
 /// Finds the end of the whole records of a file of so many bytes, behind its first line.
@@ -86,14 +72,16 @@ pub fn find_end<D: Disk>(alloc: Global, disk: &mut D, len: usize) -> io::Result<
     Ok(scan)
 }
 
-/// Finds the end of the text of a file of so many bytes.
-fn find_text<D: Disk>(alloc: Global, disk: &mut D, len: usize) -> io::Result<State>
-    requires stands { HasFile D.Disk disk.old len (λ _. ⊤) }
+/// Syncs a file, and finds the end of its text.
+pub fn examine<D: Disk>(alloc: Global, disk: &mut D) -> io::Result<State>
+    requires { IsTrue (D.Disk.is_usable disk.old) }
     ensures seen { D.Disk.seen disk.new ≡ D.Disk.seen disk.old }
     ensures stands { IfOk result (λ state. Stands D.Disk disk.new state) }
     ensures unready { IfOk result (λ state. is_ready_in state ≡ false) }
     ensures unbroken { IfOk result (λ state. is_broken_in state ≡ false) }
 {
+    disk.sync()?;
+    let len = disk.len()?;
     if !begins_own(disk, len)? {
         return Ok(State::Foreign { len });
     }
@@ -105,20 +93,7 @@ fn find_text<D: Disk>(alloc: Global, disk: &mut D, len: usize) -> io::Result<Sta
     })
 }
 
-/// Syncs a file, and finds the end of its text.
-pub fn examine<D: Disk>(alloc: Global, disk: &mut D) -> io::Result<State>
-    requires { IsTrue (D.Disk.is_usable disk.old) }
-    ensures seen { D.Disk.seen disk.new ≡ D.Disk.seen disk.old }
-    ensures stands { IfOk result (λ state. Stands D.Disk disk.new state) }
-    ensures unready { IfOk result (λ state. is_ready_in state ≡ false) }
-    ensures unbroken { IfOk result (λ state. is_broken_in state ≡ false) }
-{
-    disk.sync()?;
-    let len = disk.len()?;
-    find_text(alloc, disk, len)
-}
-
-/// Reads bytes. Of none, the disk isn't asked.
+/// Reads bytes. If there are none, the disk isn't read.
 pub fn read_exact<D: Disk>(disk: &mut D, at: usize, bytes: &mut [u8]) -> io::Result<()>
     requires { IsTrue (D.Disk.is_usable disk.old) }
     ensures reads { OnlyReads D.Disk disk.old disk.new }

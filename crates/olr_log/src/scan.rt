@@ -1,9 +1,9 @@
 //! The end of the whole records of a text that is read in blocks.
 
-ghost use Rattle.std.specs.Prelude.{◌≡◌, ◌+◌, ◌^◌, ◌<◌, ◌≤◌, [], ◌∷◌, ◌++◌, List, ℕ, length, take, not, ◌&&◌, ◌||◌, if◌then◌else◌, codes, IfOk, OnOk};
-ghost use Rattle.std.specs.Str.{bytes_eq};
+ghost use Rattle.std.specs.Prelude.{◌≡◌, ◌+◌, ◌^◌, ◌<◌, ◌≤◌, [], ◌∷◌, ◌++◌, List, ℕ, length, not, ◌&&◌, if◌then◌else◌, IfOk, OnOk};
 ghost use Rattle.olr_input.specs.Journals.{is_empty};
 
+use olr_input::stays_open;
 use std::alloc::{AllocError, Global};
 
 /// How many bytes of a line tell what it is.
@@ -23,25 +23,6 @@ pub struct Scan {
     /// The end of what isn't a carriage return.
     pub last: usize,
     ghost ordered: { (found ≤ at) × (last ≤ at) },
-}
-
-fn begins_batch(begun: &[u8]) -> bool
-    ensures { result ≡ bytes_eq begun.now (codes "begin") }
-{
-    begun == b"begin".as_slice()
-}
-
-fn ends_batch(begun: &[u8]) -> bool
-    ensures { result ≡ bytes_eq (take 7 begun.now) (codes "commit,") }
-{
-    &begun[..7.min(begun.len())] == b"commit,".as_slice()
-}
-
-/// Whether a batch is open after a line.
-fn stays_open(is_open: bool, begun: &[u8]) -> bool
-    ensures { result ≡ (bytes_eq begun.now (codes "begin") || is_open && not (bytes_eq (take 7 begun.now) (codes "commit,"))) }
-{
-    begins_batch(begun) || is_open && !ends_batch(begun)
 }
 
 /// Whether whole records end with a line.

@@ -30,19 +30,13 @@ impl State {
     pub fn is_own(self) -> bool
         ensures { result ≡ is_own_in self }
     {
-        match self {
-            State::Foreign { .. } => false,
-            _ => true,
-        }
+        !matches!(self, State::Foreign { .. })
     }
 
     pub fn is_broken(self) -> bool
         ensures { result ≡ is_broken_in self }
     {
-        match self {
-            State::Broken => true,
-            _ => false,
-        }
+        matches!(self, State::Broken)
     }
 
     /// The length of the text, and 0 if it isn't known.

@@ -68,10 +68,11 @@ pub fn length_for(len: usize, at: usize, records: &[u8]) -> io::Result<usize>
         return Ok(len);
     }
     let added = len.clamp(BLOCK, MOST_ADDED).max(len / 10);
-    match needed.checked_add(added) {
-        Some(n) => Ok(n),
-        None => Err(io::ErrorKind::FileTooLarge.into()),
-    }
+    Ok(
+        needed
+            .checked_add(added)
+            .ok_or(io::ErrorKind::FileTooLarge)?,
+    )
 }
 
 /// Overwrites a range by carriage returns, and syncs, unless it is empty.
@@ -108,12 +109,13 @@ pub fn fill<D: Disk>(disk: &mut D, text: &[u8], returns: &[u8]) -> io::Result<us
     ensures stands { IfOk result (λ n. Stands D.Disk disk.new (State.Ready (length text.now) n)) }
     ensures stored { OnOk result (text_in (length text.now) (D.Disk.seen disk.new) ≡ text.now) }
 {
-    let Some(end) = text.len().checked_add(1) else {
-        return Err(io::ErrorKind::FileTooLarge.into());
-    };
-    let Some(len) = end.checked_add(returns.len()) else {
-        return Err(io::ErrorKind::FileTooLarge.into());
-    };
+    let end = text
+        .len()
+        .checked_add(1)
+        .ok_or(io::ErrorKind::FileTooLarge)?;
+    let len = end
+        .checked_add(returns.len())
+        .ok_or(io::ErrorKind::FileTooLarge)?;
     disk.set_len(0)?;
     disk.write_at(0, b"\n")?;
     disk.write_at(1, text)?;

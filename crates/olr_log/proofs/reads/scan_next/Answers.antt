@@ -1,16 +1,18 @@
-use Rattle.std.proofs.Common.{rules, ◌≡◌, ◌+◌, ℕ, List, ◌++◌, length, take, drop, sym, ◌∙◌, ap, subst}
+use Rattle.std.proofs.Common.{rules, ◌≡◌, ◌+◌, ◌<◌, ℕ, List, ◌++◌, length, take, drop, sym, ◌∙◌, ap, subst}
+use Rattle.std.proofs.lemmas.List.{with_items_is, places}
 use Rattle.sqlite_disk.specs.Disk.{Holds}
 use Rattle.olr_log.specs.Scanning.{Scanned}
 use Rattle.olr_log.proofs.Reading.{block_behind}
-use Rattle.olr_log.proofs.reads.scan_block.Goals as goal
+use Rattle.olr_log.proofs.reads.scan_next.Goals as goal
 
 pub returns-clause-text : goal.returns-clause-text
 returns-clause-text g c known clean =
     let seen = g.D.Disk.seen c.args.disk.now in
     let at = c.args.scan.now.at in
-    let bytes = c.read_at.new.buf in
-    let size : length bytes ≡ length c.args.block.now = search rules in
-    let holds : Holds seen c.args.at bytes = c.in_ok-read_at.ensures.read clean c.requires.some in
+    let bytes = c.deref.result.now in
+    let same : bytes ≡ c.read_at.new.buf = c.deref.ensures.value ∙ with_items_is c.in_ok-block.block c.read_at.new.buf (search (rules, places)) in
+    let some : 0 < length c.deref_mut.result.now = search rules in
+    let holds : Holds seen c.args.at bytes = subst (λ (x : List ℕ). Holds seen c.args.at x) (sym same) (c.in_ok-read_at.ensures.read clean some) in
     let next : c.take.new.self.at ≡ at + length bytes = search rules in
     let scanned : Scanned c.take.new.self (take at (drop 1 seen) ++ bytes) = c.in_ok-take.ensures.text (take at (drop 1 seen)) known in
     subst (λ (x : List ℕ). Scanned c.take.new.self x) (sym (block_behind seen bytes at c.args.at c.requires.place holds) ∙ ap (λ (n : ℕ). take n (drop 1 seen)) (sym next)) scanned

@@ -1,14 +1,10 @@
-use Rattle.std.proofs.Common.{◌≡◌, ◌∙◌, inr, sym, ap, refl, subst, List, ℕ}
+use Rattle.std.proofs.Common.{◌∙◌, inr, sym, ap, refl, subst, List, ℕ}
 use Rattle.olr_log.specs.Files.{IsPaddedText}
-use Rattle.olr_log.specs.Logs.{stored_of}
-use Rattle.olr_log.specs.Outcomes.{MayLeave}
 use Rattle.olr_log.specs.States.{is_broken_in, stored_in}
 use Rattle.olr_log.specs.declared.state.State.{State}
-use Rattle.olr_log.specs.declared.state.State.TheVariants.{Ready}
-use Rattle.olr_log.proofs.Crashes.{file_leaves, only_stored, stands_as}
+use Rattle.olr_log.specs.declared.state.State.TheVariants.{Opened, Ready}
+use Rattle.olr_log.proofs.Crashes.{left_stored, only_stored, stands_as}
 use Rattle.olr_log.proofs.OwnTexts.{padded_text}
-use Rattle.olr_log.proofs.log_file.LogFile.wipe_rest.Given.{Over}
-use Rattle.olr_log.proofs.log_file.LogFile.wipe_rest.Goals.{After-wipe}
 use Rattle.olr_log.proofs.log_file.LogFile.wipe_rest.Goals as goal
 
 pub returns-in-Ready-clause-padded : goal.returns-in-Ready-clause-padded
@@ -23,17 +19,13 @@ returns-in-Ready-clause-durable g c =
     let alive = ap is_broken_in c.in-Ready.is in
     only_stored g.D.Disk (g.F.Folder.may_lead self.folder) self.number self.disk self.rival self.state self.stands alive (self.led alive)
 
-cut_short : (g : Over) (c : After-wipe g) (text : List ℕ) → let self = c.args.self.now in
-    MayLeave g.D.Disk.is_clean g.D.Disk.may_leave (g.F.Folder.may_lead self.folder) self.number c.wipe.new.disk self.rival text → text ≡ stored_of self
-cut_short g c text left =
-    let self = c.args.self.now in
-    c.wipe.ensures.cut text (file_leaves self c.wipe.new.disk (ap is_broken_in c.in-Opened.is) text left) ∙ sym (ap (λ (s : State). stored_in s (g.D.Disk.seen self.disk)) c.in-Opened.is)
-
 pub returns-in_err-len-clause-cut : goal.returns-in_err-len-clause-cut
-returns-in_err-len-clause-cut g c text left = inr (cut_short g (goal.at.returns-in_err-len-clause-cut g c).After-wipe text left)
+returns-in_err-len-clause-cut g c text left =
+    inr (left_stored c.args.self.now c.wipe.new.disk (Opened c.in-Opened.text_len c.in-Opened.last c.in-Opened.len) c.in-Opened.is refl c.wipe.ensures.cut text left)
 
 pub returns-clause-cut : goal.returns-clause-cut
-returns-clause-cut g c text left = inr (cut_short g (goal.at.returns-clause-cut g c).After-wipe text left)
+returns-clause-cut g c text left =
+    inr (left_stored c.args.self.now c.wipe.new.disk (Opened c.in-Opened.text_len c.in-Opened.last c.in-Opened.len) c.in-Opened.is refl c.wipe.ensures.cut text left)
 
 pub returns-clause-padded : goal.returns-clause-padded
 returns-clause-padded g c clean =
