@@ -1,11 +1,9 @@
 -- What stands behind the text of an opened log.
-use Rattle.std.proofs.Common.{◌≡◌, inl, inr, ℕ, zero, suc, ◌+◌, ◌-◌, ◌≤◌, ◌<◌, true, false, List, [], ◌∷◌, ◌++◌, length, take, drop, get_or, refl, sym, ◌∙◌, ap, arith, length-drop, length-take}
-use Rattle.std.specs.Prelude.{◌==◌, ◌&&◌, if◌then◌else◌}
-use Rattle.std.proofs.lemmas.Bool.{cases_Bool, cases_lt, and_parts, and_left, and_right, cond-true, cond-false, eqb-true, ne_eqb}
-use Rattle.std.proofs.lemmas.List.{drop_all, drop-drop, drop-take, get_or-drop, length-take-le}
-use Rattle.olr_input.specs.Journals.{is_empty}
-use Rattle.olr_log.specs.Texts.{is_own, left_behind, text_of, unpadded}
-use Rattle.olr_log.specs.Files.{IsFound}
+use Rattle.olr_log.proofs.Common.{◌≡◌, inl, inr, ℕ, suc, ◌+◌, ◌-◌, ◌≤◌, ◌<◌, [], ◌∷◌, drop, refl, sym, ◌∙◌, ap, ◌==◌, ◌&&◌}
+use Rattle.olr_log.proofs.Common.{zero, true, false, List, ◌++◌, length, take, get_or, arith, ne_eqb, is_empty, is_own, IsFound}
+use Rattle.olr_log.proofs.Common.{length-drop, length-take, if◌then◌else◌, cases_Bool, cond-false, get_or-drop, length-take-le}
+use Rattle.olr_log.proofs.Common.{cases_lt, and_parts, and_left, and_right, cond-true, eqb-true, drop_all, drop-drop, drop-take}
+use Rattle.olr_log.specs.Texts.{unpadded, left_behind, text_of}
 
 empty_size : (x : List ℕ) → is_empty x ≡ true → length x ≡ 0
 empty_size [] is = refl

@@ -1,15 +1,9 @@
 -- What a crash leaves of a log while it is changed.
-use Rattle.std.proofs.Common.{◌≡◌, ◌⊎◌, inl, inr, ℕ, ◌+◌, true, false, List, Option, Some, sym, ◌∙◌, ap, subst, arith}
-use Rattle.sqlite_disk.specs.Disk.{Follows, Only}
-use Rattle.sqlite_disk.specs.declared.Disk.{Ghosts}
-use Rattle.olr_log.specs.declared.folder.Folder as folder
+use Rattle.olr_log.proofs.Common.{◌≡◌, ◌⊎◌, inl, inr, ℕ, ◌+◌, true, false, List, Option, Some, sym, ◌∙◌, ap, subst, arith}
+use Rattle.olr_log.proofs.Common.{Follows, Only, Ghosts, text_of, stored_of, LeavesText, MayLeave, Stands, stored_in}
+use Rattle.olr_log.proofs.Common.{is_broken_in, State, Foreign, Opened, Ready, Broken}
 use Rattle.olr_log.specs.declared.log_file.LogFile.{LogFile}
-use Rattle.olr_log.specs.Texts.{text_of}
-use Rattle.olr_log.specs.Logs.{stored_of}
-use Rattle.olr_log.specs.Outcomes.{LeavesText, MayLeave}
-use Rattle.olr_log.specs.States.{Stands, stored_in, is_broken_in}
-use Rattle.olr_log.specs.declared.state.State.{State}
-use Rattle.olr_log.specs.declared.state.State.TheVariants.{Foreign, Opened, Ready, Broken}
+use Rattle.olr_log.specs.declared.folder.Folder as folder
 use Rattle.olr_log.proofs.OwnTexts.{text_is, foreign_text}
 
 module _ {D : Type 0} (d : Ghosts D) where

@@ -1,14 +1,13 @@
 -- The longest front that counts.
-use Rattle.olr_input.proofs.StoredLines.{empty_snoc, whole_join}
-use Rattle.std.proofs.Common.{◌≡◌, ◌⊎◌, inl, inr, ℕ, zero, suc, ◌+◌, ◌-◌, ◌≤◌, ◌<◌, Bool, true, false, List, [], ◌∷◌, ◌++◌, length, take, drop, get_or, refl, sym, ◌∙◌, ap, arith, length-append, append_assoc}
-use Rattle.std.specs.Prelude.{◌==◌, ◌&&◌, not, if◌then◌else◌}
+use Rattle.olr_log.proofs.Common.{empty_snoc, whole_join, ◌≡◌, ◌⊎◌, inl, inr, ℕ, zero, suc, ◌+◌, ◌-◌, ◌≤◌, ◌<◌, Bool, true}
+use Rattle.olr_log.proofs.Common.{false, List, [], ◌∷◌, ◌++◌, length, take, drop, get_or, refl, sym, ◌∙◌, ap, arith}
+use Rattle.olr_log.proofs.Common.{length-append, append_assoc, ◌==◌, ◌&&◌, not, if◌then◌else◌, bytes_eq, append-nil}
+use Rattle.olr_log.proofs.Common.{take-append-le, cases_Bool, cases_eq, and_parts, and_left, cond-true, cond-false, is_whole}
+use Rattle.olr_log.proofs.Common.{is_whole_from, stays_open, IsFront, ends_blank, ends_blank_behind, counts, longest_front}
 use Rattle.std.specs.List.{ends_with}
-use Rattle.std.specs.Str.{bytes_eq}
-use Rattle.std.proofs.lemmas.List.{append-nil, take-append-le, take-append-drop}
+use Rattle.std.proofs.lemmas.List.{take-append-drop}
 use Rattle.std.proofs.Math.Seq.{take-append-add, take-append_seam}
-use Rattle.std.proofs.lemmas.Bool.{cases_Bool, cases_eq, and_parts, and_left, cond-true, cond-false}
-use Rattle.olr_input.specs.Journals.{is_whole, is_whole_from, stays_open, IsFront}
-use Rattle.olr_log.specs.Texts.{ends_blank, ends_blank_behind, counts, longest_front, recovered}
+use Rattle.olr_log.specs.Texts.{recovered}
 
 -- no text with a carriage return is whole
 pub return_ends : (o : Bool) (l x y : List ℕ) → is_whole_from o l (x ++ 13 ∷ y) ≡ false

@@ -1,3 +1,4 @@
+mod Common
 pub mod Fronts
 pub mod Padding
 pub mod Behind

@@ -1,12 +1,11 @@
 -- The text of the program's own file, after writes and after a crash within one.
-use Rattle.std.proofs.Common.{◌≡◌, ◌⊎◌, inl, inr, ⊎_elim, ℕ, suc, ◌+◌, ◌-◌, ◌≤◌, ◌<◌, max, true, false, List, [], ◌∷◌, ◌++◌, length, take, drop, get_or, replicate, refl, sym, ◌∙◌, ap, subst, arith, length-drop, take-append-drop}
-use Rattle.std.proofs.lemmas.Bool.{cases_lt, cases_eq, cond-true, cond-false, eqb-true}
-use Rattle.std.proofs.lemmas.List.{append-nil, take_all, get_or-take, get_or-drop, get_or-replicate, length-take-le, length-replicate, drop_more}
-use Rattle.std.proofs.lemmas.Grind.{same_number_lists}
-use Rattle.sqlite_disk.specs.Disk.{Holds, Torn, Mixed, Cut}
-use Rattle.olr_input.specs.Journals.{IsFront}
-use Rattle.olr_log.specs.Texts.{counts, is_own, recovered, text_of}
-use Rattle.olr_log.specs.Files.{text_in, HasText, IsFound, IsPadded, IsPaddedText, KeepsFirst, IsBlank}
+use Rattle.olr_log.proofs.Common.{◌≡◌, ◌⊎◌, inl, inr, ⊎_elim, ℕ, suc, ◌+◌, ◌-◌, ◌≤◌, ◌<◌, max, true, false, List, [], ◌∷◌, ◌++◌}
+use Rattle.olr_log.proofs.Common.{length, take, drop, get_or, replicate, refl, sym, ◌∙◌, ap, subst, arith, length-drop}
+use Rattle.olr_log.proofs.Common.{take-append-drop, cases_lt, cases_eq, cond-true, cond-false, eqb-true, append-nil, take_all}
+use Rattle.olr_log.proofs.Common.{get_or-take, get_or-drop, get_or-replicate, length-take-le, length-replicate, drop_more}
+use Rattle.olr_log.proofs.Common.{same_number_lists, Holds, Torn, Mixed, Cut, IsFront, counts, is_own, text_in, HasText}
+use Rattle.olr_log.proofs.Common.{IsFound, IsPadded, IsPaddedText, KeepsFirst, IsBlank}
+use Rattle.olr_log.specs.Texts.{recovered, text_of}
 use Rattle.olr_log.proofs.Fronts.{counts_append, recovered_append, recovered_counts, recovered_stop, recovered_same, recovered_spotted, short_none, spotted_from}
 use Rattle.olr_log.proofs.Behind.{returns_from}
 use Rattle.olr_log.proofs.Padding.{first_bytes, torn_keeps, keeps_take, written_front, written_reach, text_from, blank_more}

@@ -1,10 +1,8 @@
 -- The bytes of a file after writes.
-use Rattle.std.proofs.Common.{◌≡◌, inl, inr, ℕ, ◌+◌, ◌-◌, ◌≤◌, ◌<◌, List, [], ◌∷◌, ◌++◌, length, take, drop, get_or, replicate, refl, sym, ◌∙◌, ap, subst, arith, length-drop, take-add}
-use Rattle.std.proofs.lemmas.Bool.{cases_lt}
-use Rattle.std.proofs.lemmas.List.{get_or-take, get_or-drop, get_or-replicate, length-take-le, drop-append-le, drop-take}
-use Rattle.std.proofs.lemmas.Grind.{same_number_lists}
-use Rattle.sqlite_disk.specs.Disk.{Holds, Torn}
-use Rattle.olr_log.specs.Files.{text_in, KeepsFirst, IsBlank}
+use Rattle.olr_log.proofs.Common.{◌≡◌, inl, inr, ℕ, ◌+◌, ◌-◌, ◌≤◌, ◌<◌, List, [], ◌∷◌, ◌++◌, length, take, drop, get_or}
+use Rattle.olr_log.proofs.Common.{replicate, refl, sym, ◌∙◌, ap, subst, arith, length-drop, take-add, cases_lt, get_or-take}
+use Rattle.olr_log.proofs.Common.{get_or-drop, get_or-replicate, length-take-le, drop-append-le, drop-take, same_number_lists}
+use Rattle.olr_log.proofs.Common.{Holds, Torn, text_in, KeepsFirst, IsBlank}
 
 pub first_bytes : (n : ℕ) (a b : List ℕ) → n ≤ length a → n ≤ length b → ((i : ℕ) → i < n → get_or a i 0 ≡ get_or b i 0) → take n a ≡ take n b
 first_bytes n a b long_a long_b same =

@@ -1,10 +1,6 @@
 -- What reads leave of a disk.
-use Rattle.std.proofs.Common.{◌≡◌, ℕ, ◌+◌, List, ◌++◌, length, take, drop, refl, ◌∙◌, ap, arith, take-add}
-use Rattle.std.specs.Prelude.{IsTrue}
-use Rattle.std.proofs.lemmas.List.{drop-drop}
-use Rattle.sqlite_disk.specs.Disk.{Holds}
-use Rattle.sqlite_disk.specs.declared.Disk.{Ghosts}
-use Rattle.olr_log.specs.Reads.{OnlyReads}
+use Rattle.olr_log.proofs.Common.{◌≡◌, ℕ, ◌+◌, List, ◌++◌, length, take, drop, refl, ◌∙◌, ap, arith, take-add, IsTrue}
+use Rattle.olr_log.proofs.Common.{drop-drop, Holds, Ghosts, OnlyReads}
 use Rattle.olr_log.proofs.Padding.{bytes_at}
 
 pub OnlyReads-refl : {D : Type 0} (g : Ghosts D) (disk : D) → IsTrue (g.is_usable disk) → OnlyReads g disk disk

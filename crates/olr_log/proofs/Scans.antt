@@ -1,15 +1,12 @@
 -- One byte more of a text that is read for the end of its whole records.
-use Rattle.std.proofs.Common.{◌≡◌, ℕ, suc, ◌+◌, ◌≤◌, ◌<◌, Bool, true, false, List, [], ◌∷◌, ◌++◌, length, take, refl, sym, ◌∙◌, ap, subst, arith, length-append, length-take, append_assoc}
-use Rattle.std.specs.Prelude.{◌==◌, ◌&&◌, ◌||◌, not, if◌then◌else◌, codes}
-use Rattle.std.specs.Str.{bytes_eq}
-use Rattle.std.proofs.lemmas.List.{take-append-le, take-take, take_all}
-use Rattle.std.proofs.lemmas.Bool.{and_left, and_right, cond-true, cond-false, ne_eqb}
-use Rattle.olr_input.specs.Journals.{is_whole_from, stays_open, is_empty}
-use Rattle.olr_log.specs.Texts.{counts, ends_blank, ends_blank_behind, longest_front, recovered, unpadded}
+use Rattle.olr_log.proofs.Common.{◌≡◌, ℕ, suc, ◌+◌, ◌≤◌, ◌<◌, Bool, true, false, List, [], ◌∷◌, ◌++◌, length, take, refl, sym}
+use Rattle.olr_log.proofs.Common.{◌∙◌, ap, subst, arith, length-append, length-take, append_assoc, ◌==◌, ◌&&◌, ◌||◌, not}
+use Rattle.olr_log.proofs.Common.{if◌then◌else◌, codes, bytes_eq, take-append-le, take-take, take_all, and_left, and_right}
+use Rattle.olr_log.proofs.Common.{cond-true, cond-false, ne_eqb, is_whole_from, stays_open, is_empty, counts, ends_blank}
+use Rattle.olr_log.proofs.Common.{ends_blank_behind, longest_front, StandsAt, Scanned, empty_snoc}
+use Rattle.olr_log.specs.Texts.{unpadded, recovered}
 use Rattle.olr_log.specs.declared.scan.Scan.{Scan}
-use Rattle.olr_log.specs.Scanning.{StandsAt, Scanned}
 use Rattle.olr_log.proofs.Behind.{unpadded_return, unpadded_other}
-use Rattle.olr_input.proofs.StoredLines.{empty_snoc}
 use Rattle.olr_log.proofs.Fronts.{recovered_stop, longest_within}
 
 -- with one byte more, a text is recovered as a whole, or as before

@@ -1,12 +1,6 @@
-use Rattle.std.proofs.Common.{◌≡◌, ◌+◌, ◌-◌, ◌≤◌, List, ℕ, [], ◌++◌, length, true, refl, sym, ◌∙◌, ap, arith}
-use Rattle.std.specs.Prelude.{not}
+use Rattle.olr_log.proofs.Common.{◌≡◌, length, append-nil, IsFront, is_whole, counts, ends_blank, text_in, IsPadded, KeepsFirst}
+use Rattle.olr_log.proofs.Common.{◌+◌, ◌-◌, ◌≤◌, List, ℕ, [], ◌++◌, true, refl, sym, ◌∙◌, ap, arith, not, Mixed, Ready}
 use Rattle.std.proofs.lemmas.Bool.{and_from, not_from_false}
-use Rattle.std.proofs.lemmas.List.{append-nil}
-use Rattle.sqlite_disk.specs.Disk.{Mixed}
-use Rattle.olr_input.specs.Journals.{IsFront, is_whole}
-use Rattle.olr_log.specs.Texts.{counts, ends_blank}
-use Rattle.olr_log.specs.Files.{text_in, IsPadded, KeepsFirst}
-use Rattle.olr_log.specs.declared.state.State.TheVariants.{Ready}
 use Rattle.olr_log.proofs.Crashes.{Leaves, leaves_stored, leaves_next}
 use Rattle.olr_log.proofs.OwnTexts.{keeps_stopped, mixed_text, padded_behind, padded_more}
 use Rattle.olr_log.proofs.Padding.{keeps_take, text_more, text_same, torn_keeps, written_reach}

@@ -1,7 +1,4 @@
-use Rattle.std.proofs.Common.{◌≡◌, ◌+◌, sym, ◌∙◌}
-use Rattle.std.proofs.lemmas.Result.{on_ok_weaker}
-use Rattle.sqlite_disk.specs.Disk.{Cut}
-use Rattle.olr_log.specs.Files.{text_in}
+use Rattle.olr_log.proofs.Common.{◌≡◌, ◌+◌, sym, ◌∙◌, on_ok_weaker, Cut, text_in}
 use Rattle.olr_log.proofs.Crashes.{leaves_next}
 use Rattle.olr_log.proofs.OwnTexts.{cut_text, cut_twice_text, cut_twice_file}
 use Rattle.olr_log.proofs.changes.cut_off.Goals as goal

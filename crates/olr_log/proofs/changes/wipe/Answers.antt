@@ -1,7 +1,5 @@
-use Rattle.std.proofs.Common.{rules, ◌≡◌, ◌+◌, ◌≤◌, max, List, ℕ, [], ◌∷◌, length, true, refl, sym, ◌∙◌, arith}
-use Rattle.sqlite_disk.specs.Disk.{Mixed}
-use Rattle.olr_log.specs.Files.{text_in, IsPadded, KeepsFirst}
-use Rattle.olr_log.specs.declared.state.State.TheVariants.{Opened}
+use Rattle.olr_log.proofs.Common.{rules, ◌≡◌, ◌+◌, ◌≤◌, max, List, ℕ, [], ◌∷◌, length, true, refl, sym, ◌∙◌, arith, Mixed}
+use Rattle.olr_log.proofs.Common.{text_in, IsPadded, KeepsFirst, Opened}
 use Rattle.olr_log.proofs.Crashes.{Leaves, leaves_stored, leaves_next}
 use Rattle.olr_log.proofs.OwnTexts.{first_wiped, keeps_stopped, once_has, once_next, once_text, wiped}
 use Rattle.olr_log.proofs.changes.wipe.Given.{Over}

@@ -1,6 +1,5 @@
-use Rattle.std.proofs.Common.{rules, ◌≡◌, ◌+◌, ◌-◌, ◌≤◌, ℕ, List, [], length, take, drop, sym, ap, subst, arith, length-drop}
-use Rattle.std.proofs.lemmas.List.{take_all}
-use Rattle.olr_log.specs.Scanning.{Scanned}
+use Rattle.olr_log.proofs.Common.{rules, ◌≡◌, ◌+◌, ◌-◌, ◌≤◌, ℕ, List, [], length, take, drop, sym, ap, subst, arith}
+use Rattle.olr_log.proofs.Common.{length-drop, take_all, Scanned}
 use Rattle.olr_log.proofs.Reading.{OnlyReads-refl, OnlyReads-trans}
 use Rattle.olr_log.proofs.reads.find_end.Goals as goal
 

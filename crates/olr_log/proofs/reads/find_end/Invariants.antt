@@ -1,6 +1,4 @@
-use Rattle.std.proofs.Common.{◌≡◌, ◌+◌, ◌-◌, ◌≤◌, true, take, drop}
-use Rattle.olr_log.specs.Reads.{OnlyReads}
-use Rattle.olr_log.specs.Scanning.{Scanned}
+use Rattle.olr_log.proofs.Common.{◌≡◌, ◌+◌, ◌-◌, ◌≤◌, true, take, drop, OnlyReads, Scanned}
 use Rattle.olr_log.proofs.reads.find_end.Given as goal
 
 -- what is known of the bytes so far

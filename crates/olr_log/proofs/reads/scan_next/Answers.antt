@@ -1,7 +1,5 @@
-use Rattle.std.proofs.Common.{rules, ◌≡◌, ◌+◌, ◌<◌, ℕ, List, ◌++◌, length, take, drop, sym, ◌∙◌, ap, subst}
-use Rattle.std.proofs.lemmas.List.{with_items_is, places}
-use Rattle.sqlite_disk.specs.Disk.{Holds}
-use Rattle.olr_log.specs.Scanning.{Scanned}
+use Rattle.olr_log.proofs.Common.{rules, ◌≡◌, ◌+◌, ◌<◌, ℕ, List, ◌++◌, length, take, drop, sym, ◌∙◌, ap, subst, with_items_is}
+use Rattle.olr_log.proofs.Common.{places, Holds, Scanned}
 use Rattle.olr_log.proofs.Reading.{block_behind}
 use Rattle.olr_log.proofs.reads.scan_next.Goals as goal
 

@@ -1,6 +1,4 @@
-use Rattle.std.proofs.Common.{rules, ◌≡◌, ◌+◌, ◌-◌, ◌≤◌, ◌<◌, ℕ, length, take, ◌∙◌, subst, arith}
-use Rattle.std.proofs.lemmas.List.{length-take-le}
-use Rattle.olr_log.specs.Files.{IsBlank}
+use Rattle.olr_log.proofs.Common.{rules, ◌≡◌, ◌+◌, ◌-◌, ◌≤◌, ◌<◌, ℕ, length, take, ◌∙◌, subst, arith, length-take-le, IsBlank}
 use Rattle.olr_log.proofs.Padding.{KeepsFirst-trans, Torn-within, torn_keeps, blank_more, returns_at}
 use Rattle.olr_log.proofs.writes.blank.Goals as goal
 

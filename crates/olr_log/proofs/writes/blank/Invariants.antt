@@ -1,6 +1,5 @@
-use Rattle.std.proofs.Common.{◌≡◌, ◌-◌, ◌≤◌, ◌<◌, IsTrue}
-use Rattle.sqlite_disk.specs.Disk.{Torn, Follows}
-use Rattle.olr_log.specs.Files.{IsBlank, KeepsFirst}
+use Rattle.olr_log.proofs.Common.{◌≡◌, ◌-◌, ◌≤◌, ◌<◌, Torn, Follows, IsBlank, KeepsFirst}
+use Rattle.std.proofs.Common.{IsTrue}
 use Rattle.olr_log.proofs.writes.blank.Given as goal
 
 -- what is ensured, of the range so far

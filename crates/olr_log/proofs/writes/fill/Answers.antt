@@ -1,5 +1,4 @@
-use Rattle.std.proofs.Common.{rules, ◌≡◌, ◌+◌, length, sym, ◌∙◌, subst, arith, List, ℕ}
-use Rattle.olr_log.specs.Files.{text_in, IsPadded}
+use Rattle.olr_log.proofs.Common.{rules, ◌≡◌, ◌+◌, length, sym, ◌∙◌, subst, arith, List, ℕ, text_in, IsPadded}
 use Rattle.olr_log.proofs.OwnTexts.{filled}
 use Rattle.olr_log.proofs.writes.fill.Given.{Over}
 use Rattle.olr_log.proofs.writes.fill.Goals.{After-sync}

@@ -1,6 +1,4 @@
-use Rattle.std.proofs.Common.{inr, refl}
-use Rattle.std.proofs.lemmas.Result.{on_ok_weaker}
-use Rattle.olr_log.specs.declared.state.State.TheVariants.{Ready}
+use Rattle.olr_log.proofs.Common.{inr, refl, on_ok_weaker, Ready}
 use Rattle.olr_log.proofs.Crashes.{left_stored}
 use Rattle.olr_log.proofs.log_file.LogFile.close.Goals as goal
 

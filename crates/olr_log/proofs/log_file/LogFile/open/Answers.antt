@@ -1,10 +1,5 @@
-use Rattle.std.proofs.Common.{◌≡◌, None, true, false, sym, ◌∙◌, ap}
-use Rattle.sqlite_disk.specs.declared.Disk.{Ghosts}
-use Rattle.olr_log.specs.Texts.{left_behind, text_of}
-use Rattle.olr_log.specs.Logs.{left_over_in}
-use Rattle.olr_log.specs.States.{Stands, is_broken_in, is_ready_in}
-use Rattle.olr_log.specs.declared.state.State.{State}
-use Rattle.olr_log.specs.declared.state.State.TheVariants.{Foreign, Opened, Ready, Broken}
+use Rattle.olr_log.proofs.Common.{◌≡◌, None, true, false, sym, ◌∙◌, ap, Ghosts, left_behind, text_of, left_over_in, Stands}
+use Rattle.olr_log.proofs.Common.{is_broken_in, is_ready_in, State, Foreign, Opened, Ready, Broken}
 use Rattle.olr_log.proofs.Behind.{found_left, foreign_left}
 use Rattle.olr_log.proofs.Crashes.{only_stored, text_is_stored}
 use Rattle.olr_log.proofs.log_file.LogFile.open.Goals as goal

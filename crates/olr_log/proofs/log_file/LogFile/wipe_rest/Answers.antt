@@ -1,8 +1,5 @@
-use Rattle.std.proofs.Common.{◌∙◌, inr, sym, ap, refl, subst, List, ℕ}
-use Rattle.olr_log.specs.Files.{IsPaddedText}
-use Rattle.olr_log.specs.States.{is_broken_in, stored_in}
-use Rattle.olr_log.specs.declared.state.State.{State}
-use Rattle.olr_log.specs.declared.state.State.TheVariants.{Opened, Ready}
+use Rattle.olr_log.proofs.Common.{◌∙◌, inr, sym, ap, refl, subst, List, ℕ, IsPaddedText, is_broken_in, stored_in, State, Opened}
+use Rattle.olr_log.proofs.Common.{Ready}
 use Rattle.olr_log.proofs.Crashes.{left_stored, only_stored, stands_as}
 use Rattle.olr_log.proofs.OwnTexts.{padded_text}
 use Rattle.olr_log.proofs.log_file.LogFile.wipe_rest.Goals as goal

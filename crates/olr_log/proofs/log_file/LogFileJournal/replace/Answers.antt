@@ -1,9 +1,4 @@
-use Rattle.std.proofs.Common.{rules, ◌∙◌, inl, inr, length, None, refl, sym}
-use Rattle.std.specs.Prelude.{IsNone}
-use Rattle.sqlite_disk.specs.Disk.{Only}
-use Rattle.olr_log.specs.Files.{text_in}
-use Rattle.olr_log.specs.Outcomes.{MayLeave}
-use Rattle.olr_log.specs.declared.state.State.TheVariants.{Ready}
+use Rattle.olr_log.proofs.Common.{rules, ◌∙◌, inl, inr, length, None, refl, sym, IsNone, Only, text_in, MayLeave, Ready}
 use Rattle.olr_log.proofs.Crashes.{leaves_stored, led_either, led_less, only_stored}
 use Rattle.olr_log.proofs.log_file.LogFileJournal.replace.Given.{Over}
 use Rattle.olr_log.proofs.log_file.LogFileJournal.replace.Goals.{In-Ok}

@@ -1,10 +1,5 @@
-use Rattle.std.proofs.Common.{◌≡◌, ◌∙◌, ◌+◌, ◌++◌, inr, sym, ap, refl, List, ℕ, length}
-use Rattle.olr_input.specs.Journals.{IsFront}
-use Rattle.olr_log.specs.Logs.{stored_of}
-use Rattle.olr_log.specs.Outcomes.{MayLeave}
-use Rattle.olr_log.specs.States.{is_broken_in, stored_in}
-use Rattle.olr_log.specs.declared.state.State.{State}
-use Rattle.olr_log.specs.declared.state.State.TheVariants.{Ready}
+use Rattle.olr_log.proofs.Common.{◌≡◌, ◌∙◌, ◌+◌, ◌++◌, inr, sym, ap, refl, List, ℕ, length, IsFront, stored_of, MayLeave}
+use Rattle.olr_log.proofs.Common.{is_broken_in, stored_in, State, Ready}
 use Rattle.olr_log.proofs.Crashes.{file_leaves, only_stored}
 use Rattle.olr_log.proofs.log_file.LogFileJournal.store.Given.{Over}
 use Rattle.olr_log.proofs.log_file.LogFileJournal.store.Goals.{After-append}

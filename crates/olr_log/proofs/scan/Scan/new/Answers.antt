@@ -1,4 +1,4 @@
-use Rattle.std.proofs.Common.{[], sym, arith, refl}
+use Rattle.olr_log.proofs.Common.{[], sym, arith, refl}
 use Rattle.olr_log.specs.Texts.{recovered}
 use Rattle.olr_log.proofs.scan.Scan.new.Goals as goal
 

@@ -1,5 +1,4 @@
-use Rattle.std.proofs.Common.{◌≡◌, ◌+◌, ℕ, List, ◌++◌, take}
-use Rattle.olr_log.specs.Scanning.{Scanned}
+use Rattle.olr_log.proofs.Common.{◌≡◌, ◌+◌, ℕ, List, ◌++◌, take, Scanned}
 use Rattle.olr_log.proofs.scan.Scan.take.Given as goal
 
 -- the bytes so far are taken

@@ -1,4 +1,4 @@
-use Rattle.std.proofs.Common.{rules, refl, ◌∙◌}
+use Rattle.olr_log.proofs.Common.{rules, refl, ◌∙◌}
 use Rattle.olr_log.proofs.Scans.{scanned_return, scanned_over, scanned_byte, scanned_line, front_more, front_same}
 use Rattle.olr_log.proofs.scan.Scan.take_one.Goals as goal
 

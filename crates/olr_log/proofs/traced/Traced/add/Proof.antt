@@ -1,8 +1,9 @@
 -- Nothing is done in memory: the borrow is taken up, and given back with one more call in its list.
-use Rattle.std.proofs.Common.{ℕ, List, [], ◌∷◌, refl, MutBor}
+use Rattle.olr_log.proofs.Common.{ℕ, List, [], ◌∷◌, refl, MutBor, Val, vunit, vptr, tables, ◌$◌, ◌∵◌, !, qed, keep, join}
+use Rattle.olr_log.proofs.Common.{suffices, done, unit_lit, of_opd, returns, enter, alloc_all, pass_all, free_all, look_at}
+use Rattle.olr_log.proofs.Common.{sets, opens, closes, nothing, on_entry, says, ends_at, proved, Traced}
 use seplogic.Ra.Ura.{Ura}
 use mir.Syntax.{named}
-use mir.Val.{Val, vunit, vptr}
 use base.Logic.{SProp, ent, sep, emp, via, fst∗, id⊢}
 use base.Fml.{GName, Lft, Share, ftrue, flft, fobs, fbor}
 use prog.Memory.{Memory}
@@ -10,30 +11,23 @@ use prog.Routine.{Routine}
 use prog.Wp.{Calls, Loops, WpFn}
 use types.Logic.{Logic}
 use contract.Monad.{Fun}
-use contract.Running.{tables}
 use contract.Lifetimes.{AllOutlive}
-use types.Kit.{‵, ◌⊛◌, ◌$◌, ◌∵◌, !, qed, by, move, keep, drop, use1, split, join, fsplit, fsplit3, fjoin, fjoin3, feq_i, suffices, done}
-use types.Run.{unit_lit, of_opd, returns, enter}
+use types.Kit.{‵, ◌⊛◌, by, move, drop, use1, split, fsplit, fsplit3, fjoin, fjoin3, feq_i}
 use types.SemTy.{Body}
-use types.ByLocal.{alloc_all, pass_all, free_all, look_at, sets}
 use denote.RattleType.{owns}
 use denote.Memory.{mem}
 use denote.Ref.{Bor, MutRef, ShrRef, mut_vals, mut_Tells, shr_vals, shr_Tells}
 use denote.Signature.{plain, named_lft}
-use denote.Steps.{opens, closes, nothing}
-use denote.Triple.Entry.{on_entry}
-use denote.Triple.Walked.{says, Stays, stay_ref, stay_dropped, walk_of, AllGo, Goes-ref, Goes-dropped, ends_at}
-use Rattle.std.proofs.raw_atomic.Walks.{proved}
-use Rattle.olr_log.specs.declared.traced.Traced.{Traced}
+use denote.Triple.Walked.{Stays, stay_ref, stay_dropped, walk_of, AllGo, Goes-ref, Goes-dropped}
 use Rattle.olr_log.specs.Tracing.{event_of}
-use Rattle.olr_log.specs.contracts.traced.Traced as T
-use Rattle.olr_log.specs.contracts.traced.Traced.add.Key.{name as #it}
-use Rattle.olr_log.specs.contracts.traced.Traced.add as it
-use Rattle.olr_log.proofs.traced.Traced.add.Statement as stated
-use Rattle.olr_log.proofs.traced.Traced.add.Code as code
 use denote.Builtin.{RefOf}
 use denote.Exit.{yes}
 use Rattle.olr_log.specs.declared.traced.Call.{Call}
+use Rattle.olr_log.specs.contracts.traced.Traced.add.Key.{name as #it}
+use Rattle.olr_log.specs.contracts.traced.Traced as T
+use Rattle.olr_log.specs.contracts.traced.Traced.add as it
+use Rattle.olr_log.proofs.traced.Traced.add.Statement as stated
+use Rattle.olr_log.proofs.traced.Traced.add.Code as code
 use Rattle.olr_log.specs.contracts.traced.Call as Calling
 
 abbrev Arg : Type 0

@@ -1,20 +1,11 @@
 -- A value of no bytes, with no call in its list.
+use Rattle.olr_log.proofs.Common.{Val, vstruct, vcons, vnil, tables, raw, ◌$◌, ◌∵◌, !, qed, keep, join, suffices, done, no_more}
+use Rattle.olr_log.proofs.Common.{and_then, returns, enter, agg, alloc_all, pass_all, free_all, look_at, get, sets, pure_i}
+use Rattle.olr_log.proofs.Common.{nothing, on_entry, says, ends_at, proved, Traced}
 use mathlib.Core.Path.{refl}
 use mathlib.Core.List.{[], ◌∷◌}
-use mir.Val.{Val, vstruct, vcons, vnil}
-use contract.Running.{tables}
-use types.Kit.{raw, ◌$◌, ◌∵◌, !, qed, keep, join, suffices, done}
-use types.Run.{no_more, and_then, returns, enter}
-use types.Part.{agg}
-use types.ByLocal.{alloc_all, pass_all, free_all, look_at, get, sets}
-use denote.Shadow.{pure_i}
-use denote.Steps.{nothing}
-use denote.Triple.Entry.{on_entry}
-use denote.Triple.Walked.{says, ends_at}
-use Rattle.std.proofs.raw_atomic.Walks.{proved}
-use Rattle.olr_log.specs.declared.traced.Traced.{Traced}
-use Rattle.olr_log.specs.contracts.traced.Traced as T
 use Rattle.olr_log.specs.contracts.traced.Traced.none.Key.{name as #it}
+use Rattle.olr_log.specs.contracts.traced.Traced as T
 use Rattle.olr_log.specs.contracts.traced.Traced.none as it
 use Rattle.olr_log.proofs.traced.Traced.none.Statement as stated
 use Rattle.olr_log.proofs.traced.Traced.none.Code as code

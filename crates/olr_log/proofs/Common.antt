@@ -1,0 +1,39 @@
+-- The names that most proofs of olr_log cite, passed on from one place. Declares nothing.
+pub use Rattle.olr_input.proofs.StoredLines.{empty_snoc, whole_join}
+pub use Rattle.olr_input.specs.Journals.{IsFront, is_empty, is_whole, is_whole_from, stays_open}
+pub use Rattle.olr_log.specs.Files.{HasText, IsBlank, IsFound, IsPadded, IsPaddedText, KeepsFirst, text_in}
+pub use Rattle.olr_log.specs.Logs.{left_over_in, stored_of}
+pub use Rattle.olr_log.specs.Outcomes.{LeavesText, MayLeave}
+pub use Rattle.olr_log.specs.Reads.{OnlyReads}
+pub use Rattle.olr_log.specs.Scanning.{Scanned, StandsAt}
+pub use Rattle.olr_log.specs.States.{Stands, is_broken_in, is_ready_in, stored_in}
+pub use Rattle.olr_log.specs.Texts.{counts, ends_blank, ends_blank_behind, is_own, left_behind, longest_front, text_of}
+pub use Rattle.olr_log.specs.declared.state.State.TheVariants.{Broken, Foreign, Opened, Ready}
+pub use Rattle.olr_log.specs.declared.state.State.{State}
+pub use Rattle.olr_log.specs.declared.traced.Traced.{Traced}
+pub use Rattle.sqlite_disk.specs.Disk.{Cut, Follows, Holds, Mixed, Only, Torn}
+pub use Rattle.sqlite_disk.specs.declared.Disk.{Ghosts}
+pub use Rattle.std.proofs.Common.{Bool, List, MutBor, None, Option, Some, [], ap, append_assoc, arith, drop, false, get_or, inl}
+pub use Rattle.std.proofs.Common.{inr, length, length-append, length-drop, length-take, max, refl, replicate, rules, subst, suc}
+pub use Rattle.std.proofs.Common.{sym, take, take-add, take-append-drop, true, zero, ℕ, ⊎_elim, ◌++◌, ◌+◌, ◌-◌, ◌<◌, ◌∙◌, ◌∷◌}
+pub use Rattle.std.proofs.Common.{◌≡◌, ◌≤◌, ◌⊎◌}
+pub use Rattle.std.proofs.lemmas.Bool.{and_left, and_parts, and_right, cases_Bool, cases_eq, cases_lt, cond-false, cond-true}
+pub use Rattle.std.proofs.lemmas.Bool.{eqb-true, ne_eqb}
+pub use Rattle.std.proofs.lemmas.Grind.{same_number_lists}
+pub use Rattle.std.proofs.lemmas.List.{append-nil, drop-append-le, drop-drop, drop-take, drop_all, drop_more, get_or-drop}
+pub use Rattle.std.proofs.lemmas.List.{get_or-replicate, get_or-take, length-replicate, length-take-le, places, take-append-le}
+pub use Rattle.std.proofs.lemmas.List.{take-take, take_all, with_items_is}
+pub use Rattle.std.proofs.lemmas.Result.{on_ok_weaker}
+pub use Rattle.std.proofs.raw_atomic.Walks.{proved}
+pub use Rattle.std.specs.Prelude.{IsNone, IsTrue, codes, if◌then◌else◌, not, ◌&&◌, ◌==◌, ◌||◌}
+pub use Rattle.std.specs.Str.{bytes_eq}
+pub use contract.Running.{tables}
+pub use denote.Shadow.{pure_i}
+pub use denote.Steps.{closes, nothing, opens}
+pub use denote.Triple.Entry.{on_entry}
+pub use denote.Triple.Walked.{ends_at, says}
+pub use mir.Val.{Val, vcons, vnil, vptr, vstruct, vunit}
+pub use types.ByLocal.{alloc_all, free_all, get, look_at, pass_all, sets}
+pub use types.Kit.{!, done, join, keep, qed, raw, suffices, ◌$◌, ◌∵◌}
+pub use types.Part.{agg}
+pub use types.Run.{and_then, enter, no_more, of_opd, returns, unit_lit}
