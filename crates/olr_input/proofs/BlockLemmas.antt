@@ -1,18 +1,15 @@
 -- The blocks of an input.
 use Rattle.olr_input.proofs.Common.{◌≡◌, ◌∙◌, ◌+◌, ◌-◌, ◌≤◌, ◌<◌, ℕ, List, [], ◌∷◌, ◌++◌, length, take, drop, Some, None}
-use Rattle.olr_input.proofs.Common.{length-append, refl, sym, ap, subst, arith, min, append_assoc, take-append-drop, drop-drop}
+use Rattle.olr_input.proofs.Common.{length-append, refl, sym, ap, subst, arith, min, take-append-drop, drop-drop}
 use Rattle.olr_input.proofs.Common.{drop-take, take_at, Keeps, Consumes, IsAtEnd, prepend_known, Known}
 use Rattle.std.proofs.Common.{length-take-le}
+use Rattle.std.proofs.KnownBytes.{prepend_known-read}
 
 pub consumes_stored : (a b c : Known) (out : List ℕ) → Keeps a b → Consumes b c out → Consumes a c out
 consumes_stored None b c out h k = tt
 consumes_stored (Some xs) None c out h k = absurd h
 consumes_stored (Some xs) (Some ys) None out h k = k
 consumes_stored (Some xs) (Some ys) (Some zs) out h k = sym h ∙ k
-
-pub nothing_at_hand : (k : Known) (bytes : List ℕ) → prepend_known (take (0 - 0) (drop 0 bytes)) k ≡ k
-nothing_at_hand None bytes = refl
-nothing_at_hand (Some xs) bytes = refl
 
 pub block_read : (k l : Known) (before block : List ℕ) → before ≡ [] → Consumes k l block →
     Keeps (prepend_known before k) (prepend_known block l)
@@ -61,13 +58,9 @@ keeps_self (Some xs) = refl
 pub given_front : (k l : Known) (block later out : List ℕ) (n : ℕ) → l ≡ k → later ≡ drop n block → out ≡ take n block →
     Consumes (prepend_known block k) (prepend_known later l) out
 given_front k l block later out n same drops is =
-    subst (λ (x : Known). Consumes (prepend_known block k) (prepend_known later x) out) (sym same) (by_known k)
-  where
-    by_known : (k : Known) → Consumes (prepend_known block k) (prepend_known later k) out
-    by_known None = tt
-    by_known (Some xs) =
-        ap (λ (b : List ℕ). b ++ xs) (sym (take-append-drop n block)) ∙ append_assoc (take n block) (drop n block) xs
-        ∙ (λ i. sym is i ++ (sym drops i ++ xs))
+    let all : block ≡ out ++ later = sym (take-append-drop n block) ∙ (λ i. sym is i ++ sym drops i) in
+    let kept = subst (λ (x : Known). Keeps (prepend_known block k) (prepend_known block x)) (sym same) (keeps_self (prepend_known block k)) in
+    (prepend_known-read (prepend_known block k) l block later out ⊥ kept all (λ never. absurd never)).0
 
 -- none are given
 pub none_given : (k l : Known) (block later : List ℕ) (n m : ℕ) → l ≡ k → later ≡ drop n block → n ≡ min (length block) m →

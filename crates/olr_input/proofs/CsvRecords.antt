@@ -3,7 +3,7 @@ use Rattle.olr_input.proofs.Common.{◌≡◌, ◌∙◌, ℕ, zero, ◌+◌, �
 use Rattle.olr_input.proofs.Common.{None, refl, sym, ap, subst, arith, suc, cases_Bool, append-nil, step, Read, in_field}
 use Rattle.olr_input.proofs.Common.{is_end, ends_at_end, fields_after, field_after, default_config, strip_bom, State, Action}
 use Rattle.olr_input.proofs.Common.{HasNone, TakesOne, csv_records}
-use Rattle.csv.specs.Machine.{start_field, start_record, next_record}
+use Rattle.csv.specs.Machine.{next_record}
 use Rattle.csv.specs.Reading.{records_next, AreRecords, records_from, Reached}
 use Rattle.csv.specs.declared.parser.State.TheVariants as st
 
@@ -15,24 +15,16 @@ in_field_rests : (c : ℕ) → Rests (in_field default_config c)
 unfolding Rests
 in_field_rests c = grind (arith, cases_Bool)
 
-start_field_rests : (c : ℕ) → Rests (start_field default_config c)
-unfolding Rests
-start_field_rests c = grind (arith, cases_Bool, in_field_rests)
-
-start_record_rests : (c : ℕ) → Rests (start_record default_config c)
-unfolding Rests
-start_record_rests c = grind (arith, cases_Bool, start_field_rests)
-
 step_rests : (s : State) (c : ℕ) → Rests (step default_config s c)
 unfolding Rests
-step_rests st.StartRecord c = start_record_rests c
-step_rests st.StartField c = start_field_rests c
+step_rests st.StartRecord c = grind (arith, cases_Bool, in_field_rests)
+step_rests st.StartField c = grind (arith, cases_Bool, in_field_rests)
 step_rests st.InField c = in_field_rests c
 step_rests st.InQuoted c = grind (arith, cases_Bool)
 step_rests st.InEscape c = λ e. absurd cc
 step_rests st.AfterQuote c = grind (arith, cases_Bool, in_field_rests)
 step_rests st.InComment c = grind (arith, cases_Bool)
-step_rests st.AfterCr c = grind (arith, cases_Bool, start_record_rests)
+step_rests st.AfterCr c = grind (arith, cases_Bool, in_field_rests)
 
 -- the rest is no longer than the text, and no record has begun after the one that was read
 read_leaves : (s : State) (fields : List (List ℕ)) (field xs : List ℕ) (p : Read) →

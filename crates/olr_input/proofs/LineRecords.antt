@@ -1,8 +1,8 @@
 -- The record that csv reads from a line.
 use Rattle.olr_input.proofs.Common.{◌≡◌, ◌≢◌, ◌∙◌, ◌⊎◌, ℕ, Bool, true, false, zero, suc, List, [], ◌∷◌, ◌++◌, Some, None, inl}
 use Rattle.olr_input.proofs.Common.{inr, refl, sym, ap, arith, length, take, cases_Bool, cond_both, eqb-true, or_cases, Passes}
-use Rattle.olr_input.proofs.Common.{Nowhere, NoneBefore, is_byte, is_byte2, step, in_field, is_end, fields_after, field_after}
-use Rattle.olr_input.proofs.Common.{line_feed, carriage_return, default_config, Action, State, HasNoEnd, formless, is_rejected}
+use Rattle.olr_input.proofs.Common.{Nowhere, is_byte, step, in_field, is_end, fields_after, field_after}
+use Rattle.olr_input.proofs.Common.{default_config, Action, State, HasNoEnd, formless, is_rejected}
 use Rattle.olr_input.proofs.Common.{BetweenRecords, is_line_end, is_quoted, state_after, list_any, take-length}
 use Rattle.std.specs.Prelude.{◌==◌}
 use Rattle.csv.specs.Machine.{next_record}
@@ -37,15 +37,6 @@ none_pass test (x ∷ xs) (suc k) h =
 
 pub no_pass : (test : ℕ → Bool) (xs : List ℕ) → Nowhere (Passes test xs) 0 (length xs) → list_any test xs ≡ false
 no_pass test xs h = ap (list_any test) (sym (take-length xs)) ∙ none_pass test xs (length xs) h
-
-abbrev Ends : List ℕ → ℕ → Type 0
-Ends xs k = Passes (is_byte2 line_feed carriage_return) xs k
-
-pub end_found : (xs : List ℕ) (k : ℕ) → NoneBefore (Ends xs) 0 (length xs) k → HasNoEnd (take k xs)
-end_found xs k h = none_pass is_line_end xs k h.before
-
-pub no_end_found : (xs : List ℕ) → Nowhere (Ends xs) 0 (length xs) → HasNoEnd xs
-no_end_found xs h = no_pass is_line_end xs h
 
 -- ---- without a quote
 

@@ -1,13 +1,13 @@
 -- Lines that are whole records.
 use Rattle.olr_input.proofs.Common.{◌≡◌, ◌∙◌, ◌+◌, ◌-◌, ◌<◌, ◌≤◌, ℕ, ◌==◌, true, false, not, List, [], ◌∷◌, ◌++◌, length, take}
 use Rattle.olr_input.proofs.Common.{drop, zero, suc, inl, inr, refl, ap, subst, arith, cases_Bool, append_assoc, drop-drop}
-use Rattle.olr_input.proofs.Common.{Passes, Nowhere, NoneBefore, is_byte, is_byte2, slice_index, next_record, step, line_feed}
+use Rattle.olr_input.proofs.Common.{Passes, Nowhere, NoneBefore, is_byte2, slice_index, next_record, step, line_feed}
 use Rattle.olr_input.proofs.Common.{carriage_return, default_config, State, HasNoEnd, is_line_end, is_quoted, state_after}
 use Rattle.memchr.specs.Find.{is_byte3}
 use Rattle.olr_input.specs.Lines.{HasLinesUpTo, IsWhole, has_line, has_quote}
 use Rattle.csv.specs.declared.parser.State.TheVariants as st
 use Rattle.olr_input.proofs.LineRecords.{IsEnd, after, end_of, gives_one, no_end_more, plain, plain_not_quoted}
-use Rattle.olr_input.proofs.LineRecords.{skips, step_plain, no_pass, none_pass}
+use Rattle.olr_input.proofs.LineRecords.{skips, step_plain}
 use Rattle.olr_input.proofs.Writing.{rest_is}
 
 -- a line without quotes, its end, and what follows
@@ -96,15 +96,6 @@ no_line (x ∷ xs) h =
     ∙ no_line xs (λ j low high. h (suc j) (omega arith) (omega arith))
 
 -- ---- the last end of a line before a quote
-
-abbrev Quotes : List ℕ → ℕ → Type 0
-Quotes xs k = Passes (is_byte default_config.quote) xs k
-
-pub no_quote_before : (xs : List ℕ) (k : ℕ) → Nowhere (Quotes xs) 0 k → has_quote (take k xs) ≡ false
-no_quote_before xs k none = none_pass (is_byte default_config.quote) xs k none
-
-pub no_quote : (xs : List ℕ) → Nowhere (Quotes xs) 0 (length xs) → has_quote xs ≡ false
-no_quote xs none = no_pass (is_byte default_config.quote) xs none
 
 pub none_up_to : (xs : List ℕ) → HasLinesUpTo 0 xs
 none_up_to xs = record { each = λ i low. absurd (omega arith) }

@@ -7,9 +7,6 @@ use Rattle.olr_input.specs.declared.ends.Status.TheVariants as status
 
 abbrev pub exit_code : Result Status RunFault → ℕ
 exit_code (Ok status.AllAccepted) = 0
-exit_code (Ok status.SomeRefused) = 1
-exit_code (Ok status.Stopped) = 1
-exit_code (Err fault.Read) = 3
-exit_code (Err fault.Write) = 3
-exit_code (Err fault.TooMany) = 3
+exit_code (Ok _) = 1
 exit_code (Err fault.Memory) = 4
+exit_code (Err _) = 3

@@ -100,7 +100,7 @@ fn read_end(
 }
 
 /// The index of the first byte that ends a line.
-#[tactic(auto, using(crate::proofs::LineRecords::end_found, crate::proofs::LineRecords::no_end_found))]
+#[tactic(auto, using(crate::proofs::LineRecords::none_pass, crate::proofs::LineRecords::no_pass))]
 fn first_end(bytes: &[u8]) -> Option<usize>
     ensures { MatchOption result (HasNoEnd bytes.now) (λ i. (i < length bytes.now)
         × HasNoEnd (take i bytes.now) × (is_line_end (slice_index bytes.now i) ≡ true)) }

@@ -42,7 +42,7 @@ fn has_plain_end(line: &[u8]) -> bool
 }
 
 /// The bytes before the first quote.
-#[tactic(auto, using(crate::proofs::WholeLines::no_quote_before, crate::proofs::WholeLines::no_quote))]
+#[tactic(auto, using(crate::proofs::LineRecords::none_pass, crate::proofs::LineRecords::no_pass))]
 fn before_quote(bytes: &[u8]) -> &[u8]
     ensures within { length result.now ≤ length bytes.now }
     ensures front { result.now ≡ take (length result.now) bytes.now }

@@ -1,5 +1,5 @@
-use Rattle.olr_input.proofs.BlockLemmas.{nothing_at_hand}
+use Rattle.std.proofs.KnownBytes.{prepend_known-nil}
 use Rattle.olr_input.proofs.blocks.Blocks.new.Goals as goal
 
 pub returns-clause-left : goal.returns-clause-left
-returns-clause-left g c = nothing_at_hand (g.R.Read.remaining c.args.input) c.in_ok-vec.field-0.items
+returns-clause-left g c = prepend_known-nil (g.R.Read.remaining c.args.input)
