@@ -34,6 +34,6 @@ pub use denote.Triple.Entry.{on_entry}
 pub use denote.Triple.Walked.{ends_at, says}
 pub use mir.Val.{Val, vcons, vnil, vptr, vstruct, vunit}
 pub use types.ByLocal.{alloc_all, free_all, get, look_at, pass_all, sets}
-pub use types.Kit.{!, done, join, keep, qed, raw, suffices, ◌$◌, ◌∵◌}
+pub use types.Kit.{ !, done, join, keep, qed, raw, suffices, ◌$◌, ◌∵◌}
 pub use types.Part.{agg}
 pub use types.Run.{and_then, enter, no_more, of_opd, returns, unit_lit}

@@ -75,29 +75,24 @@ fn write_in_place<D: Disk + Drop, F: Folder<D>>(
             return Err(error);
         }
     };
-    match folder.put_in_place(number) {
-        Ok(None) => Ok(Made {
-            disk,
-            number,
-            len,
-            doubt: None,
-        }),
+    let doubt = match folder.put_in_place(number) {
+        Ok(None) => None,
         Ok(Some(error)) => {
             folder.remove_beside();
-            Err(error)
+            return Err(error);
         }
-        Err(error) => Ok(Made {
-            disk,
-            number,
-            len,
-            doubt: Some(error),
-        }),
-    }
+        Err(error) => Some(error),
+    };
+    Ok(Made {
+        disk,
+        number,
+        len,
+        doubt,
+    })
 }
 
 impl<D: Disk + Drop, F: Folder<D>> Journal for LogFile<D, F> {
-    ghost use Rattle.olr_log.specs.Logs.{stored_of, size_of, left_of, refusal_of, is_own_of, is_ready, is_broken_of};
-    ghost use Rattle.olr_log.specs.Logs.{is_clean};
+    ghost use Rattle.olr_log.specs.Logs.{stored_of, size_of, left_of, refusal_of, is_own_of, is_ready, is_broken_of, is_clean};
 
     ghost stored = { λ j. stored_in j.state (D.Disk.seen j.disk) };
 

@@ -9,7 +9,7 @@ ghost use Rattle.olr_log.specs.Files.{IsPaddedText};
 use crate::changes::{cut_off, wipe};
 use crate::folder::Folder;
 use crate::log_file::LogFile;
-use crate::reads::{copy_range, examine, read_exact};
+use crate::reads::{examine, read_exact};
 use crate::state::State;
 use crate::writes::{BLOCK, carriage_returns};
 use sqlite_disk::Disk;
@@ -95,7 +95,9 @@ impl<D: Disk + Drop, F: Folder<D>> LogFile<D, F> {
             State::Opened { text_len, last, .. } => {
                 let at = text_len.checked_add(1).ok_or(io::ErrorKind::FileTooLarge)?;
                 let n = last.saturating_sub(text_len);
-                copy_range(alloc, &mut self.disk, at, n, to)
+                let mut block = vec![in alloc; 0u8; n]?;
+                read_exact(&mut self.disk, at, &mut block)?;
+                to.write_all(&block)
             }
             State::Broken => Err(io::ErrorKind::InvalidInput.into()),
             _ => Ok(()),

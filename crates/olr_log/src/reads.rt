@@ -1,7 +1,6 @@
 //! Reads of a log that was opened.
 
 ghost use Rattle.std.specs.Prelude.{◌≡◌, ◌+◌, ◌^◌, ◌<◌, true, false, length, take, drop, IsTrue, IfOk, OnOk};
-ghost use Rattle.std.specs.Io.KnownBytes.{Appends};
 ghost use Rattle.olr_log.specs.Texts.{is_own};
 ghost use Rattle.olr_log.specs.States.{Stands, is_broken_in, is_ready_in};
 ghost use Rattle.olr_log.specs.Reads.{OnlyReads};
@@ -13,7 +12,6 @@ use crate::writes::BLOCK;
 use sqlite_disk::Disk;
 use std::alloc::Global;
 use std::io;
-use std::io::Write;
 
 /// Whether a file of so many bytes begins with an empty line.
 pub fn begins_own<D: Disk>(disk: &mut D, len: usize) -> io::Result<bool>
@@ -103,21 +101,4 @@ pub fn read_exact<D: Disk>(disk: &mut D, at: usize, bytes: &mut [u8]) -> io::Res
         return Ok(());
     }
     disk.read_at(at, bytes)
-}
-
-/// Copies `n` bytes of a file.
-pub fn copy_range<D: Disk, W: Write>(
-    alloc: Global,
-    disk: &mut D,
-    at: usize,
-    n: usize,
-    to: &mut W,
-) -> io::Result<()>
-    requires { IsTrue (D.Disk.is_usable disk.old) }
-    ensures reads { OnlyReads D.Disk disk.old disk.new }
-    ensures copied { OnOk result (D.Disk.is_clean disk.new ≡ true → Appends (W.contents to.old) (W.contents to.new) (take n (drop at (D.Disk.seen disk.old)))) }
-{
-    let mut block = vec![in alloc; 0u8; n]?;
-    read_exact(disk, at, &mut block)?;
-    to.write_all(&block)
 }
