@@ -1,9 +1,8 @@
 -- The blocks of an input.
 use Rattle.olr_input.proofs.Common.{◌≡◌, ◌∙◌, ◌+◌, ◌-◌, ◌≤◌, ◌<◌, ℕ, List, [], ◌∷◌, ◌++◌, length, take, drop, Some, None}
-use Rattle.olr_input.proofs.Common.{length-append, refl, sym, ap, subst, arith, min, take-append-drop, drop-drop}
-use Rattle.olr_input.proofs.Common.{drop-take, take_at, Keeps, Consumes, IsAtEnd, prepend_known, Known}
+use Rattle.olr_input.proofs.Common.{length-append, refl, sym, ap, subst, arith, min, take-append-drop, drop-drop, drop-take}
+use Rattle.olr_input.proofs.Common.{take_at, Keeps, Consumes, IsAtEnd, prepend_known, Known, prepend_known-read}
 use Rattle.std.proofs.Common.{length-take-le}
-use Rattle.std.proofs.KnownBytes.{prepend_known-read}
 
 pub consumes_stored : (a b c : Known) (out : List ℕ) → Keeps a b → Consumes b c out → Consumes a c out
 consumes_stored None b c out h k = tt

@@ -5,7 +5,7 @@ pub use Rattle.csv.specs.Reading.{default_config, is_bom, strip_bom}
 pub use Rattle.csv.specs.Records.{fields_of}
 pub use Rattle.csv.specs.declared.parser.Action.{Action}
 pub use Rattle.csv.specs.declared.parser.State.{State}
-pub use Rattle.memchr.specs.Find.{NoneBefore, Nowhere, Passes, is_byte, is_byte2}
+pub use Rattle.memchr.specs.Find.{NoneBefore, Nowhere, Passes, is_byte, is_byte2, is_byte3}
 pub use Rattle.olr_input.specs.Blocks.{block_of, input_left}
 pub use Rattle.olr_input.specs.Gates.{LostLine, PassesAll, Replacement, Storing, Untouched, is_closed}
 pub use Rattle.olr_input.specs.Journals.{IsFront, MayHaveStored, Only, is_empty, is_whole, is_whole_from, stays_open}
@@ -25,7 +25,7 @@ pub use Rattle.std.proofs.Common.{Bool, Err, List, None, Ok, Option, Some, [], a
 pub use Rattle.std.proofs.Common.{false, get_or, get_or-drop, inl, inr, length, length-append, length-drop, length-take, map}
 pub use Rattle.std.proofs.Common.{min, not, refl, rules, subst, suc, sym, take, true, unwrap_or, vec_capacity, vec_len, zero, ℕ}
 pub use Rattle.std.proofs.Common.{◌++◌, ◌+◌, ◌-◌, ◌<◌, ◌==◌, ◌∙◌, ◌∷◌, ◌≡◌, ◌≢◌, ◌≤◌, ◌⊎◌}
-pub use Rattle.std.proofs.KnownBytes.{Appends-kept, Appends-nil, Appends-trans}
+pub use Rattle.std.proofs.KnownBytes.{Appends-kept, Appends-nil, Appends-trans, prepend_known-nil, prepend_known-read}
 pub use Rattle.std.proofs.Math.Seq.{drop-length, paste, take-add, take-length}
 pub use Rattle.std.proofs.lemmas.Bool.{and_parts, and_right, both_ways, cases_Bool, cond_both, eq-eqb, eqb-true, ne_eqb}
 pub use Rattle.std.proofs.lemmas.Bool.{not-true, or_cases}

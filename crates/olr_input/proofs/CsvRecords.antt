@@ -3,8 +3,8 @@ use Rattle.olr_input.proofs.Common.{◌≡◌, ◌∙◌, ℕ, zero, ◌+◌, �
 use Rattle.olr_input.proofs.Common.{None, refl, sym, ap, subst, arith, suc, cases_Bool, append-nil, step, Read, in_field}
 use Rattle.olr_input.proofs.Common.{is_end, ends_at_end, fields_after, field_after, default_config, strip_bom, State, Action}
 use Rattle.olr_input.proofs.Common.{HasNone, TakesOne, csv_records}
-use Rattle.csv.specs.Machine.{next_record}
 use Rattle.csv.specs.Reading.{records_next, AreRecords, records_from, Reached}
+use Rattle.csv.specs.Machine.{next_record}
 use Rattle.csv.specs.declared.parser.State.TheVariants as st
 
 -- after a record, the next has not begun

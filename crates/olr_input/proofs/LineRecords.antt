@@ -1,9 +1,9 @@
 -- The record that csv reads from a line.
 use Rattle.olr_input.proofs.Common.{◌≡◌, ◌≢◌, ◌∙◌, ◌⊎◌, ℕ, Bool, true, false, zero, suc, List, [], ◌∷◌, ◌++◌, Some, None, inl}
 use Rattle.olr_input.proofs.Common.{inr, refl, sym, ap, arith, length, take, cases_Bool, cond_both, eqb-true, or_cases, Passes}
-use Rattle.olr_input.proofs.Common.{Nowhere, is_byte, step, in_field, is_end, fields_after, field_after}
-use Rattle.olr_input.proofs.Common.{default_config, Action, State, HasNoEnd, formless, is_rejected}
-use Rattle.olr_input.proofs.Common.{BetweenRecords, is_line_end, is_quoted, state_after, list_any, take-length}
+use Rattle.olr_input.proofs.Common.{Nowhere, is_byte, step, in_field, is_end, fields_after, field_after, default_config, Action}
+use Rattle.olr_input.proofs.Common.{State, HasNoEnd, formless, is_rejected, BetweenRecords, is_line_end, is_quoted, state_after}
+use Rattle.olr_input.proofs.Common.{list_any, take-length}
 use Rattle.std.specs.Prelude.{◌==◌}
 use Rattle.csv.specs.Machine.{next_record}
 use Rattle.olr_input.specs.LineRecords.{line_record}

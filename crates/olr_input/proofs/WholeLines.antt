@@ -1,9 +1,8 @@
 -- Lines that are whole records.
-use Rattle.olr_input.proofs.Common.{◌≡◌, ◌∙◌, ◌+◌, ◌-◌, ◌<◌, ◌≤◌, ℕ, ◌==◌, true, false, not, List, [], ◌∷◌, ◌++◌, length, take}
-use Rattle.olr_input.proofs.Common.{drop, zero, suc, inl, inr, refl, ap, subst, arith, cases_Bool, append_assoc, drop-drop}
-use Rattle.olr_input.proofs.Common.{Passes, Nowhere, NoneBefore, is_byte2, slice_index, next_record, step, line_feed}
-use Rattle.olr_input.proofs.Common.{carriage_return, default_config, State, HasNoEnd, is_line_end, is_quoted, state_after}
-use Rattle.memchr.specs.Find.{is_byte3}
+use Rattle.olr_input.proofs.Common.{◌≡◌, ◌∙◌, ◌+◌, ◌-◌, ◌<◌, ◌≤◌, not, [], ◌∷◌, zero, suc, inl, inr, refl, ap, step}
+use Rattle.olr_input.proofs.Common.{ℕ, cases_Bool, drop-drop, NoneBefore, is_byte2, line_feed, HasNoEnd, is_quoted, state_after}
+use Rattle.olr_input.proofs.Common.{◌==◌, true, List, ◌++◌, length, take, drop, subst, arith, Passes, Nowhere, State, is_byte3}
+use Rattle.olr_input.proofs.Common.{false, append_assoc, slice_index, next_record, carriage_return, default_config, is_line_end}
 use Rattle.olr_input.specs.Lines.{HasLinesUpTo, IsWhole, has_line, has_quote}
 use Rattle.csv.specs.declared.parser.State.TheVariants as st
 use Rattle.olr_input.proofs.LineRecords.{IsEnd, after, end_of, gives_one, no_end_more, plain, plain_not_quoted}

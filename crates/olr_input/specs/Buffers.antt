@@ -13,6 +13,5 @@ pending b = b.pending.items
 abbrev pub written : {W : Type 0} → (W → Known) → Buffered W → Known
 written contents b = append_known (contents b.device) (pending b)
 
--- the first of the bytes that were pending are sent
 abbrev pub Sends : Known → List ℕ → Known → List ℕ → Type 0
 Sends before pending later rest = (sent : List ℕ) × Appends before later sent × (pending ≡ sent ++ rest)

@@ -9,13 +9,9 @@
 --     PutsOff j g h      they could not be made
 --     TookLine g fields h, LostLine g h      the line of a record was taken, or could not be
 --     compaction g      when the log is replaced by the records of what is accepted
---     asks g      whether these records are asked for
---     is_due len accepted effect c      whether they are wanted after a record of this effect
---     first_from len least      the length from which on a log of so many bytes is replaced first
 --     put_off len c      the same after they were given, or could not be: the next time, the log has twice its length
 use Rattle.std.specs.Prelude.{◌≡◌, ◌≢◌, ◌≤◌, ◌*◌, ◌-◌, ◌^◌, ℕ, min, max, nat_le, Bool, true, false, not, ◌&&◌, ◌||◌}
-use Rattle.std.specs.Prelude.{if◌then◌else◌, List, [], ◌++◌, take, length, is_some}
-use Rattle.std.specs.Prelude.{Result, Ok, Err, ◌⊎◌}
+use Rattle.std.specs.Prelude.{if◌then◌else◌, List, [], ◌++◌, take, length, is_some, Result, Ok, Err, ◌⊎◌}
 use Rattle.std.specs.Io.KnownBytes.{Appends}
 use Rattle.olr_input.specs.Buffers.{pending}
 use Rattle.olr_input.specs.Journals.{IsFront, MayHaveStored, Only, is_empty, is_whole}
@@ -73,7 +69,6 @@ twice len least = max (min (len * 2) (2 ^ 64 - 1)) least
 abbrev pub first_from : ℕ → ℕ → ℕ
 first_from len least = if nat_le least len then twice len least else least
 
--- after the records were given, or could not be
 abbrev pub put_off : ℕ → Compaction → Compaction
 put_off len c = record c { is_wanted = false; next_from = twice len c.compacted_from }
 
@@ -151,7 +146,6 @@ pub record PutsOff {J : Type 0} (j : journal.Ghosts J) (g h : Gate J) : Type 0 w
   pub unstored : h.unstored ≡ g.unstored
   pub due : compaction h ≡ put_off (j.size g.journal) (compaction g)
 
--- the line of a record was taken
 pub record TookLine {J : Type 0} (g : Gate J) (fields : List (List ℕ)) (h : Gate J) : Type 0 where
   pub untouched : Untouched g h
   pub due : compaction h ≡ compaction g
@@ -159,7 +153,6 @@ pub record TookLine {J : Type 0} (g : Gate J) (fields : List (List ℕ)) (h : Ga
   pub effect : h.unstored.effect ≡ effect_of fields
   pub line : next_line h.unstored ≡ stored_line fields
 
--- or could not be taken
 pub record LostLine {J : Type 0} (g h : Gate J) : Type 0 where
   pub untouched : Untouched g h
   pub due : compaction h ≡ compaction g

@@ -32,7 +32,6 @@ pub record HasLinesUpTo (last : ℕ) (bytes : List ℕ) : Type 0 where
 abbrev pub BetweenRecords : State → Type 0
 BetweenRecords s = (s ≡ st.StartRecord) ⊎ (s ≡ st.AfterCr)
 
--- so to read it takes no byte that follows
 abbrev pub IsWhole : List ℕ → Type 0
 IsWhole bytes =
     (s : State) → BetweenRecords s → (fields : List (List ℕ)) × (t : State) × (rest : List ℕ)

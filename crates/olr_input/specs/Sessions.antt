@@ -9,9 +9,6 @@
 --         given, if they were asked for
 --     WritesAll before later bytes r      all of the bytes were written, or only the first of them
 --     TakesLeft old new failed r fields      what a call that takes a record says of the records that were left, and of those that are
---     JoinedLeft      the records that are left of a source, if there is one, and then those of another
---     PlainHappens      the events of a source and a writer whose bytes are known
---     IsPlain r, csv_left remaining r rs      a reader with csv's defaults, and the records that are left of it
 use Rattle.std.specs.Prelude.{◌≡◌, ◌≢◌, ◌^◌, ℕ, Bool, true, false, List, [], ◌∷◌, ◌++◌, Option, Some, None, Result, Ok, Err, ⊤, ◌⊎◌, IfSome}
 use Rattle.std.specs.Bool.{MatchBool}
 use Rattle.std.specs.Io.KnownBytes.{Appends, Keeps}

@@ -4,7 +4,6 @@
 --     stored_line fields      this line, if the record is stored in a log, or nothing
 --     Waiting      the lines that are ready to be stored, and those of the open batch, which wait for its commit
 --     concluded effect line w      the same after an accepted record
---     Turns from to text      after these lines a batch is open, or not
 use Rattle.std.specs.Prelude.{◌≡◌, ◌≢◌, ◌≤◌, ◌-◌, ◌==◌, ℕ, Bool, true, false, not, ◌&&◌, ◌||◌, if◌then◌else◌, List, []}
 use Rattle.std.specs.Prelude.{◌∷◌, ◌++◌, length, take, drop, codes}
 use Rattle.std.specs.List.{list_all, list_any, join_with_byte}

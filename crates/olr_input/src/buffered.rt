@@ -127,8 +127,7 @@ impl<W: Write + Drop> Write for Buffered<W> {
 
     ghost contents = { λ b. written W.contents b };
 
-    /// Holds bytes back. Takes nothing of a text for which there is no room beside others, so that texts leave whole if
-    /// they are no longer than the room for all.
+    /// Holds bytes back, as many as `hold` takes.
     fn write(&mut self, bytes: &[u8]) -> io::Result<usize> {
         self.hold(bytes).map_err(|_| ErrorKind::OutOfMemory.into())
     }

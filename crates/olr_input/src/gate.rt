@@ -2,9 +2,8 @@
 
 ghost use Rattle.std.specs.Prelude.{◌≡◌, ℕ, List, [], None, IfErr, OnOk, IsTrue, false, true};
 ghost use Rattle.csv.specs.Records.{fields_of};
-ghost use Rattle.olr_input.specs.Gates.{Storing, Passes, PassesSome, PassesAll, Untouched, SameBatch, ConcludedBy};
-ghost use Rattle.olr_input.specs.Gates.{Compacts, PutsOff, is_closed, ready, batch, compaction, asks};
-ghost use Rattle.olr_input.specs.Gates.{first_from, concluded_compaction};
+ghost use Rattle.olr_input.specs.Gates.{Storing, Passes, PassesSome, PassesAll, Untouched, SameBatch, ConcludedBy, Compacts};
+ghost use Rattle.olr_input.specs.Gates.{PutsOff, is_closed, ready, batch, compaction, asks, first_from, concluded_compaction};
 ghost use Rattle.olr_input.specs.Gates as gates;
 ghost use Rattle.olr_input.specs.Journals as journals;
 ghost use Rattle.olr_input.specs.declared.unstored.Effect.TheVariants as effect;

@@ -1,8 +1,7 @@
 //! Writing all bytes.
 
-ghost use Rattle.std.specs.Prelude.{◌≡◌, IfErr};
 ghost use Rattle.std.specs.Io.{WritesAtMost};
-ghost use Rattle.std.specs.Io.KnownBytes.{Keeps, WriteAppends};
+ghost use Rattle.std.specs.Io.KnownBytes.{WriteAppends};
 ghost use Rattle.olr_input.specs.Sessions.{WritesAll};
 
 use crate::ends::RunFault;
@@ -39,12 +38,4 @@ pub fn write_all<W: Write>(output: &mut W, bytes: &[u8]) -> Result<(), RunFault>
         written += taken;
     }
     Ok(())
-}
-
-/// Flushes a writer. `Write` is the fault if it fails.
-pub fn flush<W: Write>(output: &mut W) -> Result<(), RunFault>
-    ensures bytes { Keeps (W.contents output.old) (W.contents output.new) }
-    ensures fault { IfErr result (λ e. e ≡ RunFault.Write) }
-{
-    output.flush().map_err(|_| RunFault::Write)
 }

@@ -6,7 +6,7 @@ ghost use Rattle.csv.specs.Records.{fields_of};
 ghost use Rattle.olr_input.specs.Sessions.{Event, Given, Lacking, Compacted, Unasked, TakesNext, Writes, PlainHappens};
 
 use crate::ends::RunFault;
-use crate::output::{flush, write_all};
+use crate::output::write_all;
 use crate::sources::Source;
 use csv::ByteRecord;
 use std::io::Write;
@@ -53,7 +53,7 @@ fn flush_before<W: Write>(waits: bool, output: &mut W) -> Result<(), RunFault>
     if !waits {
         return Ok(());
     }
-    flush(output)
+    output.flush().map_err(|_| RunFault::Write)
 }
 
 /// The records of a source, whose answers are written at once and stored nowhere.

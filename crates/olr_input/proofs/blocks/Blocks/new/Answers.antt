@@ -1,4 +1,4 @@
-use Rattle.std.proofs.KnownBytes.{prepend_known-nil}
+use Rattle.olr_input.proofs.Common.{prepend_known-nil}
 use Rattle.olr_input.proofs.blocks.Blocks.new.Goals as goal
 
 pub returns-clause-left : goal.returns-clause-left
