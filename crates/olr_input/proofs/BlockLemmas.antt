@@ -58,7 +58,8 @@ pub given_front : (k l : Known) (block later out : List ℕ) (n : ℕ) → l ≡
     Consumes (prepend_known block k) (prepend_known later l) out
 given_front k l block later out n same drops is =
     let all : block ≡ out ++ later = sym (take-append-drop n block) ∙ (λ i. sym is i ++ sym drops i) in
-    let kept = subst (λ (x : Known). Keeps (prepend_known block k) (prepend_known block x)) (sym same) (keeps_self (prepend_known block k)) in
+    let kept = subst (λ (x : Known). Keeps (prepend_known block k) (prepend_known block x)) (sym same)
+    (keeps_self (prepend_known block k)) in
     (prepend_known-read (prepend_known block k) l block later out ⊥ kept all (λ never. absurd never)).0
 
 -- none are given

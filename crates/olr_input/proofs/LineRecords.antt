@@ -110,10 +110,12 @@ by_begun P start in_it in_quotes after_it s at = absurd cc
 step_stays : (s : State) (b : ℕ) → begun s ≡ true → is_line_end b ≡ false → Stays (step default_config s b)
 step_stays s b at h =
     by_begun (λ (t : State). Stays (step default_config t b))
-    (cond_both (b == 34) (st.InQuoted, act.Skip) (in_field default_config b) Stays (λ _. (refl, refl)) (λ _. in_field_stays b h))
+    (cond_both (b == 34) (st.InQuoted, act.Skip) (in_field default_config b) Stays (λ _. (refl, refl))
+    (λ _. in_field_stays b h))
     (in_field_stays b h)
     (cond_both (b == 34) (st.AfterQuote, act.Skip) (st.InQuoted, act.Copy) Stays (λ _. (refl, refl)) (λ _. (refl, refl)))
-    (cond_both (b == 34) (st.InQuoted, act.Copy) (in_field default_config b) Stays (λ _. (refl, refl)) (λ _. in_field_stays b h))
+    (cond_both (b == 34) (st.InQuoted, act.Copy) (in_field default_config b) Stays (λ _. (refl, refl))
+    (λ _. in_field_stays b h))
     s at
 
 -- ---- the record of a line

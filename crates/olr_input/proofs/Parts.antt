@@ -83,7 +83,8 @@ module _ {l : List ℕ} {r h : ℕ} {e : Effect} (a : AreLines l r h e) where
   with_line : (line : List ℕ) → Parts (take h l ++ line) r h A B line
   with_line line =
       record {
-        splits = ap (λ (x : List ℕ). x ++ line) (cut.splits ∙ ap (λ (x : List ℕ). A ++ x) (append-nil B)) ∙ append_assoc A B line;
+        splits = ap (λ (x : List ℕ). x ++ line) (cut.splits ∙ ap (λ (x : List ℕ). A ++ x) (append-nil B))
+            ∙ append_assoc A B line;
         first = all.first;
         second = all.second;
       }
@@ -174,9 +175,11 @@ module _ {l : List ℕ} {r h : ℕ} {e : Effect} (a : AreLines l r h e) where
       AreLines l n n effect.Nothing
   ready_lines n is by =
       let whole : is_whole (A ++ (B ++ N)) ≡ true =
-      whole_join false [] A (B ++ N) a.whole ∙ ap (is_whole_from false []) (sym (append-nil (B ++ N))) ∙ (closed_by by).whole [] in
+      whole_join false [] A (B ++ N) a.whole ∙ ap (is_whole_from false []) (sym (append-nil (B ++ N)))
+      ∙ (closed_by by).whole [] in
       subst (λ (m : ℕ). AreLines l m m effect.Nothing) (sym is)
-      (lines_are l (length l) (length l) effect.Nothing (A ++ (B ++ N)) [] [] readied whole (λ some. absurd (some refl)) no_line)
+      (lines_are l (length l) (length l) effect.Nothing (A ++ (B ++ N)) [] [] readied whole (λ some. absurd (some refl))
+      no_line)
 
   -- ---- what waits then
 

@@ -108,12 +108,14 @@ module _ {J W : Type 0} {stored : J → List ℕ} {may_leave : J → List ℕ �
 
   pub passed_more : {g h i : Gate J} {o p q : Buffered W} {text : List ℕ} {n : ℕ} (k : ℕ) →
       Passed stored may_leave contents g o h p text n → k ≤ length (rest_from text n) →
-      Passes stored may_leave contents h p i q (take k (rest_from text n)) → Passed stored may_leave contents g o i q text (n + k)
+      Passes stored may_leave contents h p i q (take k (rest_from text n)) →
+      Passed stored may_leave contents g o i q text (n + k)
   passed_more {g} {h} {i} {o} {p} {q} {text} {n} k a l b =
       record {
         within = (let f = a.within in grind (arith, rest_is, length-drop));
         front = rw take-add
-            (passes_trans a.front (subst (λ (r : List ℕ). Passes stored may_leave contents h p i q (take k r)) (rest_is text n) b));
+            (passes_trans a.front
+            (subst (λ (r : List ℕ). Passes stored may_leave contents h p i q (take k r)) (rest_is text n) b));
       }
 
   pub passed_front : {g h i : Gate J} {o p q : Buffered W} {text : List ℕ} {n : ℕ} →
@@ -137,8 +139,8 @@ module _ {J W : Type 0} {stored : J → List ℕ} {may_leave : J → List ℕ �
     where
       first : Passes stored may_leave contents g o g n []
       first =
-          passes_none d (e ∙ ap (λ (x : List ℕ). pending o ++ x) (let zero_is : k ≡ 0 = omega arith in ap (λ (j : ℕ). take j text) zero_is)
-          ∙ append-nil (pending o))
+          let zero_is : k ≡ 0 = omega arith in
+          passes_none d (e ∙ ap (λ (j : ℕ). pending o ++ take j text) zero_is ∙ append-nil (pending o))
 
       by_result : (r : Result ℕ RunFault) → IfOk r (λ i. i ≤ length text) → IfOk r (λ i. pending q ≡ pending p ++ take i text) →
           OnErr r (pending q ≡ pending p) → IfErr r (λ e. e ≡ Write) → PassesSome stored may_leave contents g o h q text r

@@ -290,8 +290,9 @@ front_either a x front whole turns h = elim (split_either a x front h.rest h.spl
     by_rest : (m rest : List ℕ) → front ≡ a ++ m → x ≡ m ++ rest → IsFront a front ⊎ (front ≡ a ++ x)
     by_rest m [] e f = inr (e ∙ ap (λ (y : List ℕ). a ++ y) (sym (f ∙ append-nil m)))
     by_rest m (b ∷ rest) e f =
-        let none = turns.firm m (b ∷ rest) f (λ never. cc never) (sym (whole_join false [] a m whole) ∙ ap is_whole (sym e) ∙ h.whole) in
-        inl (record { rest = []; splits = sym (append-nil front ∙ e ∙ ap (λ (y : List ℕ). a ++ y) none ∙ append-nil a); whole = h.whole })
+        let alone = sym (whole_join false [] a m whole) ∙ ap is_whole (sym e) ∙ h.whole in
+        let same = e ∙ ap (λ (y : List ℕ). a ++ y) (turns.firm m (b ∷ rest) f (λ never. cc never) alone) ∙ append-nil a in
+        inl (record { rest = []; splits = sym (append-nil front ∙ same); whole = h.whole })
 
 -- the first field
 pub first_field : (fs : List (List ℕ)) (word : List ℕ) → field_at fs 0 ≡ Some word →

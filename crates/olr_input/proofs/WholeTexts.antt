@@ -24,8 +24,8 @@ module _ (text : List ℕ) (is_open : Bool) (s i : ℕ) (a : Reads text is_open 
   reads_byte no_return no_feed =
       record {
         order = let order = a.order in omega (arith, order);
-        rest = subst (λ (l : List ℕ). is_whole text ≡ is_whole_from is_open l (drop (i + 1) text)) (sym (longer text s i a.order below))
-            (rw (ne_eqb _ _ no_return, ne_eqb _ _ no_feed) at now);
+        rest = subst (λ (l : List ℕ). is_whole text ≡ is_whole_from is_open l (drop (i + 1) text))
+            (sym (longer text s i a.order below)) (rw (ne_eqb _ _ no_return, ne_eqb _ _ no_feed) at now);
       }
 
   pub reads_line : slice_index text i ≡ 10 → Reads text (stays_open is_open (line_at text s i)) (i + 1) (i + 1)

@@ -75,4 +75,5 @@ module _ {D F : Type 0} {d : Ghosts D} {f : folder.Ghosts F D} (log : LogFile D 
       Only (stored_in state (d.seen log.disk)) (Leaves d now) → (text : List ℕ) →
       MayLeave d.is_clean d.may_leave (f.may_lead log.folder) log.number now log.rival text → text ≡ stored_of log
   left_stored now state is alive known text left =
-      known text (file_leaves now (ap is_broken_in is ∙ alive) text left) ∙ sym (ap (λ (s : State). stored_in s (d.seen log.disk)) is)
+      known text (file_leaves now (ap is_broken_in is ∙ alive) text left)
+      ∙ sym (ap (λ (s : State). stored_in s (d.seen log.disk)) is)

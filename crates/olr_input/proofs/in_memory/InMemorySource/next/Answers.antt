@@ -14,7 +14,8 @@ returns-in-Ok-Some c =
     rw c.in-Ok-Some.field-0-is at c.in-Ok-Some.ensures in
     record {
       takes = rw c.if-self.false
-          (subst (λ (xs : List ℕ). TakesOne (Are (csv_state m.state) m.rest.now) (Are state xs) fields) (sym (rest_is m.rest.now end))
+          (subst (λ (xs : List ℕ). TakesOne (Are (csv_state m.state) m.rest.now) (Are state xs) fields)
+          (sym (rest_is m.rest.now end))
           (one_taken (csv_state m.state) state m.rest.now (drop end m.rest.now) fields one.1));
       after = λ _. one.1 ∙ ap (λ (xs : List ℕ). Some (fields, state, xs)) (sym (rest_is m.rest.now end));
     }

@@ -18,11 +18,13 @@ returns-in-Ready-clause-durable g c =
 
 pub returns-in_err-len-clause-cut : goal.returns-in_err-len-clause-cut
 returns-in_err-len-clause-cut g c text left =
-    inr (left_stored c.args.self.now c.wipe.new.disk (Opened c.in-Opened.text_len c.in-Opened.last c.in-Opened.len) c.in-Opened.is refl c.wipe.ensures.cut text left)
+    let was = Opened c.in-Opened.text_len c.in-Opened.last c.in-Opened.len in
+    inr (left_stored c.args.self.now c.wipe.new.disk was c.in-Opened.is refl c.wipe.ensures.cut text left)
 
 pub returns-clause-cut : goal.returns-clause-cut
 returns-clause-cut g c text left =
-    inr (left_stored c.args.self.now c.wipe.new.disk (Opened c.in-Opened.text_len c.in-Opened.last c.in-Opened.len) c.in-Opened.is refl c.wipe.ensures.cut text left)
+    let was = Opened c.in-Opened.text_len c.in-Opened.last c.in-Opened.len in
+    inr (left_stored c.args.self.now c.wipe.new.disk was c.in-Opened.is refl c.wipe.ensures.cut text left)
 
 pub returns-clause-padded : goal.returns-clause-padded
 returns-clause-padded g c clean =
