@@ -237,7 +237,8 @@ path_fields_pass fs = tt
 -- what is known of a word, the fields after it, and the command that they are read as
 abbrev Fits : Field → List Field → Command → Type 0
 Fits w fs (Make x) = IsTrue (has_record x) × AllPlain (w ∷ fs)
-Fits w fs Report = (w ≡ codes "report") × (length fs ≡ 0)
+Fits w fs Report = w ∷ fs ≡ codes "report" ∷ []
+Fits w fs (Explain text) = w ∷ fs ≡ codes "explain" ∷ text ∷ []
 Fits w fs c = ⊤
 
 edit_fits : (w : Field) (r : List Field → Read Edit) → Plain w → ((fs : List Field) → IfOk (r fs) (EditOf fs)) →
@@ -312,7 +313,8 @@ forms_fit =
     also edit_fits (codes "drop-line") (one Drop_line number) refl
     (one_passes EditOf (Ranged 1 max32) Drop_line number (ranged 1 max32) (λ f n h. (h.0, (h.1, tt))))
     also path_fits (codes "path") Add_path refl (λ n p h. h)
-    also asked_fits (codes "explain") Explain (λ f. Ok f) (λ f g. tt)
+    also one_passes (Fits (codes "explain")) (λ f g. f ≡ g) Explain (λ f. Ok f) (λ f. refl)
+    (λ f g h. ap (λ (x : Field). codes "explain" ∷ x ∷ []) h)
     also path_fits (codes "repath") Set_path refl (λ n p h. h)
     also one_passes (Fits (codes "drop-path")) NameOf (λ n. Make (Drop_path n)) name name_of (λ f n h. (h.0, (refl, (h.1, tt))))
     also none_fits (codes "begin") Begin tt
@@ -322,7 +324,7 @@ forms_fit =
     also asked_fits (codes "show-node") Show_node number (λ f n. tt)
     also asked_fits (codes "show-line") Show_line number (λ f n. tt)
     also depends_fits (codes "depends")
-    also none_fits (codes "report") Report (refl, refl)
+    also none_fits (codes "report") Report refl
     also none_fits (codes "dump") Dump tt
     also none_fits (codes "compact") Compact tt
     also none_fits (codes "preview") Preview tt
@@ -349,13 +351,19 @@ pub report_record : (fs : List Field) → length fs ≡ 1 → slice_index_or fs 
 report_record (w ∷ []) one e = let is : w ≡ codes "report" = e in rw is refl
 report_record fs one e = absurd (omega arith)
 
-pub report_word : (fs : List Field) → read fs ≡ Ok Report → slice_index_or fs 0 [] ≡ codes "report"
-report_word [] e = absurd cc
-report_word (w ∷ fs) e = (fits w fs Report e).0
+pub report_is : (fs : List Field) → read fs ≡ Ok Report → fs ≡ codes "report" ∷ []
+report_is [] e = absurd cc
+report_is (w ∷ fs) e = fits w fs Report e
 
-pub report_len : (fs : List Field) → read fs ≡ Ok Report → length fs ≡ 1
-report_len [] e = absurd cc
-report_len (w ∷ fs) e = ap suc (fits w fs Report e).1
+-- one that decodes to `explain` is this word and the text
+pub explain_record : (fs : List Field) → length fs ≡ 2 → slice_index_or fs 0 [] ≡ codes "explain" →
+    read fs ≡ Ok (Explain (slice_index_or fs 1 []))
+explain_record (w ∷ t ∷ []) two e = let is : w ≡ codes "explain" = e in rw is refl
+explain_record fs two e = absurd (omega arith)
+
+pub explain_is : (fs : List Field) (text : Field) → read fs ≡ Ok (Explain text) → fs ≡ codes "explain" ∷ text ∷ []
+explain_is [] text e = absurd cc
+explain_is (w ∷ fs) text e = fits w fs (Explain text) e
 
 -- ---- its coordinates are in range
 

@@ -1,5 +1,5 @@
 //! Commands, decoded from records.
-ghost use Rattle.std.specs.Prelude.{◌≡◌, ◌↔◌, drop, IsTrue, Ok};
+ghost use Rattle.std.specs.Prelude.{◌≡◌, ◌↔◌, ℕ, List, drop, IsTrue, IfSome, IfNone, Ok};
 ghost use Rattle.csv.specs.Records.{fields_of};
 ghost use Rattle.olr_commands.specs.State.{Explain, Report, Commit};
 ghost use Rattle.olr_commands.specs.Words.{command_of};
@@ -27,8 +27,21 @@ pub fn read_command(alloc: Global, fields: &ByteRecord) -> Result<Command, ReadF
     read_by(alloc, field(fields, 0), fields)
 }
 
+/// The text of a record that decodes to the command `explain`, which isn't copied. None of any other record.
+#[tactic(auto, using(crate::proofs::ReadLemmas::explain_record, crate::proofs::ReadLemmas::explain_is))]
+pub fn text_to_explain(fields: &ByteRecord) -> Option<&[u8]>
+    ensures some { IfSome result (λ text. records.read (fields_of fields.now) ≡ Ok (Explain text.now)) }
+    ensures none { IfNone result ((text : List ℕ) → ¬ (records.read (fields_of fields.now) ≡ Ok (Explain text))) }
+{
+    if fields.len() == 2 && is(field(fields, 0), b"explain") {
+        Some(field(fields, 1))
+    } else {
+        None
+    }
+}
+
 /// Whether a record decodes to the command `report`.
-#[tactic(auto, using(crate::proofs::ReadLemmas::report_record, crate::proofs::ReadLemmas::report_len, crate::proofs::ReadLemmas::report_word))]
+#[tactic(auto, using(crate::proofs::ReadLemmas::report_record, crate::proofs::ReadLemmas::report_is))]
 pub fn is_report(fields: &ByteRecord) -> bool
     ensures { IsTrue result ↔ (records.read (fields_of fields.now) ≡ Ok Report) }
 {
