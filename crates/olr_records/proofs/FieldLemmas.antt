@@ -1,18 +1,14 @@
 -- Fields: the bytes of a field by its position, as text, and those that csv doesn't quote.
 --     Plain f      letters, digits, and marks that csv doesn't quote
 --     Where r P      what holds where a value is read
-use Rattle.olr_records.proofs.Common.{list_all, and_parts, nat_tests, is_name, is_name_byte, Field, AllByRecursion}
-use Rattle.olr_records.proofs.Common.{IfOk, IfSome, if◌then◌else◌, Read, coordinate, degrees, is_ascii_digit, name}
-use Rattle.olr_records.proofs.Common.{place}
-use Rattle.std.proofs.Common.{◌≡◌, ℕ, zero, suc, ◌<◌, Bool, true, false, List, [], ◌∷◌, unwrap_or, nat_le, refl, arith}
-use Rattle.std.proofs.Common.{rules, ◌&&◌, ◌++◌, ◌∙◌, ap, length, take, drop, Option, Some, None, ℤ, pos, not, ◌==◌}
-use Rattle.std.specs.Prelude.{slice_index_or, IsAscii, IsUtf8, option_map, neg_ℤ}
-use Rattle.std.specs.List.{prefix_len}
+use Rattle.olr_records.proofs.Common.{list_all, and_parts, nat_tests, is_name, is_name_byte, Field, AllByRecursion, IfOk}
+use Rattle.olr_records.proofs.Common.{IfSome, if◌then◌else◌, Read, coordinate, degrees, is_ascii_digit, name, place, ◌≡◌, ℕ}
+use Rattle.olr_records.proofs.Common.{zero, suc, ◌<◌, Bool, true, false, List, [], ◌∷◌, unwrap_or, nat_le, refl, arith, rules}
+use Rattle.olr_records.proofs.Common.{◌&&◌, ◌++◌, ◌∙◌, ap, length, take, drop, Option, Some, None, ℤ, pos, not, ◌==◌}
+use Rattle.olr_records.proofs.Common.{slice_index_or, IsAscii, IsUtf8, option_map, neg_ℤ, prefix_len, list_all-append, digits}
 use Rattle.std.proofs.lemmas.Str.{IsUtf8-from_ascii}
-use Rattle.std.proofs.lemmas.List.Folds.{list_all-append}
-use Rattle.csv.specs.Records.{field_at}
 use Rattle.olr_spec.specs.Degrees.{are_digits, whole, fraction, before_point, unsigned_degrees}
-use Rattle.olr_records.specs.Records.{digits}
+use Rattle.csv.specs.Records.{field_at}
 use Rattle.olr_records.proofs.TestLemmas.{all_weaker}
 
 -- past the last field there are no bytes

@@ -1,7 +1,7 @@
 -- Records by the positions of their fields.
 use Rattle.olr_records.proofs.Common.{Add_line, Set_line, Field, ◌⊛◌, number, numbers, amount, name, place, node_fields}
-use Rattle.olr_records.proofs.Common.{attributes, whole_line, line_record, set_line_record, path_fields}
-use Rattle.std.proofs.Common.{◌≡◌, ◌≤◌, List, [], ◌∷◌, length, drop, Ok, refl, arith}
+use Rattle.olr_records.proofs.Common.{attributes, whole_line, line_record, set_line_record, path_fields, ◌≡◌, ◌≤◌, List, []}
+use Rattle.olr_records.proofs.Common.{◌∷◌, length, drop, Ok, refl, arith}
 use Rattle.olr_records.proofs.LoopLemmas.{at}
 
 pub line-record : (fs : List Field) → 7 ≤ length fs

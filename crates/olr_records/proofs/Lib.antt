@@ -7,7 +7,6 @@ pub mod PartLemmas
 pub mod FormLemmas
 pub mod TextLemmas
 pub mod ReadLemmas
-pub mod PlainLemmas
 pub mod WrittenLemmas
 pub mod RecordLines
 pub mod RecordedLemmas

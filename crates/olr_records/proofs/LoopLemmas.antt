@@ -1,12 +1,11 @@
 -- Items of a record, read one after another.
 --     onto x y      the items of x, followed by those of y
 --     ItemsTo Returns view fs start k xs      the items of the fields from `start` up to k are read
-use Rattle.olr_records.proofs.Common.{IfOk, IsOkAnd, append-nil, length-drop, ShapePoint, Field, Read, Bad_form, ◌⊛◌}
-use Rattle.olr_records.proofs.Common.{items, point, shape, Gathers, ReadsBy, ReadFault, Memory, drop_all, Out_of_range}
-use Rattle.olr_records.proofs.Common.{⊤}
-use Rattle.std.proofs.Common.{◌≡◌, ℕ, ◌+◌, ◌<◌, ◌≤◌, List, [], ◌∷◌, ◌++◌, length, drop, Ok, Err, refl, sym, ap, ◌∙◌}
-use Rattle.std.proofs.Common.{append_assoc, arith, drop-cons}
-use Rattle.std.specs.Prelude.{slice_index_or, Result}
+use Rattle.olr_records.proofs.Common.{IfOk, IsOkAnd, append-nil, length-drop, ShapePoint, Field, Read, Bad_form, ◌⊛◌, items}
+use Rattle.olr_records.proofs.Common.{point, shape, Gathers, ReadsBy, ReadFault, Memory, drop_all, Out_of_range, ⊤, ◌≡◌, ℕ, ◌+◌}
+use Rattle.olr_records.proofs.Common.{◌<◌, ◌≤◌, List, [], ◌∷◌, ◌++◌, length, drop, Ok, Err, refl, sym, ap, ◌∙◌, append_assoc}
+use Rattle.olr_records.proofs.Common.{arith, drop-cons, slice_index_or}
+use Rattle.std.specs.Prelude.{Result}
 
 abbrev pub onto : {A : Type 0} → Read (List A) → Read (List A) → Read (List A)
 onto x y = Ok (λ xs ys. xs ++ ys) ⊛ x ⊛ y

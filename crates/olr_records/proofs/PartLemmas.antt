@@ -1,7 +1,7 @@
 -- Two parts of one record, where reading one of them or both may take memory.
 --     Part P view x r      r is x, seen through `view`, or out of memory, only if the value of x satisfies P
-use Rattle.olr_records.proofs.Common.{IsOkAnd, Field, Read, ◌⊛◌, Reads, Gathers, ReadFault, Memory, both}
-use Rattle.std.proofs.Common.{arith, ◌≡◌, Ok, Err, Result, sym, ap, subst}
+use Rattle.olr_records.proofs.Common.{IsOkAnd, Field, Read, ◌⊛◌, Reads, Gathers, ReadFault, Memory, both, arith, ◌≡◌, Ok, Err}
+use Rattle.olr_records.proofs.Common.{Result, sym, ap, subst}
 
 pub record Part {A B : Type 0} (P : B → Type 0) (view : A → B) (x : Read B) (r : Result A ReadFault) : Type 0 where
   pub is : Gathers P view x r

@@ -1,24 +1,21 @@
 -- A change that is read has a record, and its coordinates are in range.
-use Rattle.olr_records.proofs.Common.{IfOk, IfSome, if◌then◌else◌, ⊤, AllByRecursion, list_all, and_parts, eq-eqb}
-use Rattle.olr_records.proofs.Common.{nat_tests, Coord, is_coord, degrees, ShapePoint, Line, Edit, Add_node, Move_node}
-use Rattle.olr_records.proofs.Common.{Drop_node, Add_line, Set_line, Drop_line, Path, has_degrees_text, Change, On_map}
-use Rattle.olr_records.proofs.Common.{Add_path, Set_path, Drop_path, Make, is_name, Field, Read, ◌⊛◌, value_or_fault}
-use Rattle.olr_records.proofs.Common.{max32, number, amount, coordinate, place, name, numbers, point, shape}
-use Rattle.olr_records.proofs.Common.{node_fields, edit, node_record, line_between, attributes, whole_line}
-use Rattle.olr_records.proofs.Common.{line_record, set_line_record, path_fields, read, is_number, is_place, is_point}
-use Rattle.olr_records.proofs.Common.{are_attributes, is_named_path, has_record, Recorded, nat_abs, is_longitude}
-use Rattle.olr_records.proofs.Common.{is_latitude, unit7, are_coords, HasCoord, degrees-whole, Set_margin, Show_margin}
-use Rattle.olr_records.proofs.Common.{class}
-use Rattle.std.proofs.Common.{◌≡◌, ℕ, ℤ, Bool, true, false, List, [], ◌∷◌, Option, Some, None, Ok, Err, IsTrue, refl}
-use Rattle.std.proofs.Common.{subst, length, nat_le, ◌&&◌, pos, negsuc, arith, ◌%◌, sym, ap, suc}
+use Rattle.olr_records.proofs.Common.{IfOk, degrees, Change, On_map, is_name, number, amount, numbers, nat_abs, Option, Command}
+use Rattle.olr_records.proofs.Common.{IfSome, AllByRecursion, has_degrees_text, value_or_fault, set_line_record, are_attributes}
+use Rattle.olr_records.proofs.Common.{if◌then◌else◌, line_between, is_named_path, is_longitude, degrees-whole, slice_index_or}
+use Rattle.olr_records.proofs.Common.{⊤, ◌≡◌, ℕ, ℤ, true, List, [], ◌∷◌, Some, None, Ok, Err, refl, ◌&&◌, pos, ◌%◌, sym, ap}
+use Rattle.olr_records.proofs.Common.{list_all, nat_tests, is_coord, Move_node, Drop_node, Drop_line, Drop_path, ◌⊛◌, is_number}
+use Rattle.olr_records.proofs.Common.{and_parts, eq-eqb, coordinate, attributes, whole_line, has_record, are_coords, Set_margin}
+use Rattle.olr_records.proofs.Common.{Coord, Field, max32, place, point, shape, unit7, IsTrue, length, nat_le, negsuc, digits}
+use Rattle.olr_records.proofs.Common.{ShapePoint, node_fields, node_record, line_record, path_fields, is_latitude, Show_margin}
+use Rattle.olr_records.proofs.Common.{Line, Edit, Path, Make, Read, name, edit, read, class, Bool, false, subst, arith, codes}
+use Rattle.olr_records.proofs.Common.{Add_node, Add_line, Set_line, Add_path, Set_path, is_place, is_point, Recorded, HasCoord}
 use Rattle.std.proofs.lemmas.Result.{IfOk-at_ok, IfOk-weaker}
-use Rattle.std.specs.Prelude.{codes, slice_index_or}
-use Rattle.olr_commands.specs.State.{Command, Show, Show_node, Show_line, Depends, Report, Dump, Compact, Explain}
-use Rattle.olr_commands.specs.State.{Begin, Preview, Commit, Abort, Ambiguous, HasCoords, same_name}
+use Rattle.olr_commands.specs.State.{Show, Show_node, Show_line, Depends, Report, Dump, Compact, Explain, Begin, Preview}
+use Rattle.olr_commands.specs.State.{Commit, Abort, Ambiguous, HasCoords, same_name}
 use Rattle.olr_commands.proofs.NameLemmas.{same_is}
 use Rattle.olr_coords.specs.Bounds.{is_degrees}
-use Rattle.olr_records.specs.Records.{digits, longitude, latitude, one, none, path_record, forms, read_by}
-use Rattle.olr_records.specs.Records.{depends_record, few_nodes, ambiguous_record, margin_record}
+use Rattle.olr_records.specs.Records.{longitude, latitude, one, none, path_record, forms, read_by, depends_record, few_nodes}
+use Rattle.olr_records.specs.Records.{ambiguous_record, margin_record}
 use Rattle.olr_records.proofs.TestLemmas.{all_weaker, ◌also◌}
 use Rattle.olr_records.proofs.FieldLemmas.{Plain, AllPlain, digits_plain, name_plain, place_plain}
 
@@ -234,30 +231,53 @@ path_fields_pass fs = tt
 
 -- ---- commands
 
+-- what is known of the fields of a command
+abbrev pub KnownFields : List Field → Command → Type 0
+KnownFields fs (Make x) = AllPlain fs
+KnownFields fs Begin = AllPlain fs
+KnownFields fs (Commit n) = AllPlain fs
+KnownFields fs Report = fs ≡ codes "report" ∷ []
+KnownFields fs (Explain text) = fs ≡ codes "explain" ∷ text ∷ []
+KnownFields fs c = ⊤
+
 -- what is known of a word, the fields after it, and the command that they are read as
 abbrev Fits : Field → List Field → Command → Type 0
-Fits w fs (Make x) = IsTrue (has_record x) × AllPlain (w ∷ fs)
-Fits w fs Report = w ∷ fs ≡ codes "report" ∷ []
-Fits w fs (Explain text) = w ∷ fs ≡ codes "explain" ∷ text ∷ []
-Fits w fs c = ⊤
+Fits w fs c = Recorded c × KnownFields (w ∷ fs) c
 
 edit_fits : (w : Field) (r : List Field → Read Edit) → Plain w → ((fs : List Field) → IfOk (r fs) (EditOf fs)) →
     (fs : List Field) → IfOk (edit (r fs)) (Fits w fs)
 edit_fits w r p h fs =
     given (Fits w fs) (EditOf fs) (Ok (λ x. Make (On_map x))) (r fs) (h fs) (λ e k. (k.0, (p, k.1)))
 
-pub any_passes : {A : Type 0} (x : Read A) → IfOk x (λ _. ⊤)
+any_passes : {A : Type 0} (x : Read A) → IfOk x (λ _. ⊤)
 any_passes (Ok a) = tt
 any_passes (Err f) = tt
 
--- a command with a field, of whose value nothing is known
-asked_fits : {A : Type 0} (w : Field) (g : A → Command) (r : Field → Read A) →
-    ((f : Field) (a : A) → Fits w (f ∷ []) (g a)) → (fs : List Field) → IfOk (one g r fs) (Fits w fs)
-asked_fits w g r h fs = one_passes (Fits w) (λ _ _. ⊤) g r (λ f. any_passes (r f)) (λ f a _. h f a) fs
+-- commands of whose values nothing is known
+module _ (P : List Field → Command → Type 0) where
+  pub all_made : {A : Type 0} (g : A → Command) (r : List Field → Read A) → ((fs : List Field) (a : A) → P fs (g a)) →
+      (fs : List Field) → IfOk (Ok g ⊛ r fs) (P fs)
+  all_made g r h fs = given (P fs) (λ _. ⊤) (Ok g) (r fs) (any_passes (r fs)) (λ a _. h fs a)
 
-none_fits : (w : Field) (c : Command) → Fits w [] c → (fs : List Field) → IfOk (none c fs) (Fits w fs)
-none_fits w c h [] = h
-none_fits w c h fs = tt
+  pub all_asked : {A : Type 0} (g : A → Command) (r : Field → Read A) → ((f : Field) (a : A) → P (f ∷ []) (g a)) →
+      (fs : List Field) → IfOk (one g r fs) (P fs)
+  all_asked g r h fs = one_passes P (λ _ _. ⊤) g r (λ f. any_passes (r f)) (λ f a _. h f a) fs
+
+  pub all_alone : (c : Command) → P [] c → (fs : List Field) → IfOk (none c fs) (P fs)
+  all_alone c h [] = h
+  all_alone c h fs = tt
+
+  pub all_depend : ((fs : List Field) (nodes : List ℕ) → P fs (Depends nodes)) → (fs : List Field) →
+      IfOk (depends_record fs) (P fs)
+  all_depend h [] = tt
+  all_depend h (f ∷ fs) =
+      two (P (f ∷ fs)) (λ _. ⊤) (λ _. ⊤) (Ok (λ n nodes. Depends nodes)) (few_nodes (length (f ∷ fs))) (numbers (f ∷ fs))
+      (any_passes (few_nodes (length (f ∷ fs)))) (any_passes (numbers (f ∷ fs))) (λ n _ nodes _. h (f ∷ fs) nodes)
+
+  pub all_ambiguous : ((fs : List Field) (n : Option (List ℕ)) → P fs (Ambiguous n)) → (fs : List Field) →
+      IfOk (ambiguous_record fs) (P fs)
+  all_ambiguous h [] = h [] None
+  all_ambiguous h (f ∷ fs) = all_asked (λ n. Ambiguous (Some n)) name (λ g n. h (g ∷ []) (Some n)) (f ∷ fs)
 
 path_fits : (w : Field) (g : List ℕ → Path → Change) → Plain w →
     ((n : List ℕ) (p : Path) → IsTrue (is_named_path n p) → IsTrue (has_record (g n p))) → (fs : List Field) →
@@ -265,16 +285,6 @@ path_fits : (w : Field) (g : List ℕ → Path → Change) → Plain w →
 path_fits w g p h fs =
     given (Fits w fs) (PathOf fs) (Ok (λ q. Make (g q.0 q.1))) (path_fields fs) (path_fields_pass fs)
     (λ q k. (h q.0 q.1 k.0, (p, k.1)))
-
-depends_fits : (w : Field) (fs : List Field) → IfOk (depends_record fs) (Fits w fs)
-depends_fits w [] = tt
-depends_fits w (f ∷ fs) =
-    two (Fits w (f ∷ fs)) (λ _. ⊤) (λ _. ⊤) (Ok (λ n nodes. Depends nodes)) (few_nodes (length (f ∷ fs))) (numbers (f ∷ fs))
-    (any_passes (few_nodes (length (f ∷ fs)))) (any_passes (numbers (f ∷ fs))) (λ n _ nodes _. tt)
-
-ambiguous_fits : (w : Field) (fs : List Field) → IfOk (ambiguous_record fs) (Fits w fs)
-ambiguous_fits w [] = tt
-ambiguous_fits w (f ∷ fs) = asked_fits w (λ n. Ambiguous (Some n)) name (λ f n. tt) (f ∷ fs)
 
 margin_fits : (w : Field) → Plain w → (fs : List Field) → IfOk (margin_record fs) (Fits w fs)
 margin_fits w p (r ∷ c ∷ []) =
@@ -314,23 +324,23 @@ forms_fit =
     (one_passes EditOf (Ranged 1 max32) Drop_line number (ranged 1 max32) (λ f n h. (h.0, (h.1, tt))))
     also path_fits (codes "path") Add_path refl (λ n p h. h)
     also one_passes (Fits (codes "explain")) (λ f g. f ≡ g) Explain (λ f. Ok f) (λ f. refl)
-    (λ f g h. ap (λ (x : Field). codes "explain" ∷ x ∷ []) h)
+    (λ f g h. (tt, ap (λ (x : Field). codes "explain" ∷ x ∷ []) h))
     also path_fits (codes "repath") Set_path refl (λ n p h. h)
     also one_passes (Fits (codes "drop-path")) NameOf (λ n. Make (Drop_path n)) name name_of (λ f n h. (h.0, (refl, (h.1, tt))))
-    also none_fits (codes "begin") Begin tt
-    also asked_fits (codes "commit") Commit amount (λ f n. tt)
-    also none_fits (codes "abort") Abort tt
-    also asked_fits (codes "show") Show name (λ f n. tt)
-    also asked_fits (codes "show-node") Show_node number (λ f n. tt)
-    also asked_fits (codes "show-line") Show_line number (λ f n. tt)
-    also depends_fits (codes "depends")
-    also none_fits (codes "report") Report refl
-    also none_fits (codes "dump") Dump tt
-    also none_fits (codes "compact") Compact tt
-    also none_fits (codes "preview") Preview tt
-    also ambiguous_fits (codes "ambiguous")
+    also all_alone (Fits (codes "begin")) Begin (tt, (refl, tt))
+    also one_passes (Fits (codes "commit")) (AtMost max32) Commit amount (at_most max32) (λ f n h. (tt, (refl, (h.1, tt))))
+    also all_alone (Fits (codes "abort")) Abort (tt, tt)
+    also all_asked (Fits (codes "show")) Show name (λ f n. (tt, tt))
+    also all_asked (Fits (codes "show-node")) Show_node number (λ f n. (tt, tt))
+    also all_asked (Fits (codes "show-line")) Show_line number (λ f n. (tt, tt))
+    also all_depend (Fits (codes "depends")) (λ fs nodes. (tt, tt))
+    also all_alone (Fits (codes "report")) Report (tt, refl)
+    also all_alone (Fits (codes "dump")) Dump (tt, tt)
+    also all_alone (Fits (codes "compact")) Compact (tt, tt)
+    also all_alone (Fits (codes "preview")) Preview (tt, tt)
+    also all_ambiguous (Fits (codes "ambiguous")) (λ fs n. (tt, tt))
     also margin_fits (codes "margin") refl
-    also none_fits (codes "show-margin") Show_margin tt
+    also all_alone (Fits (codes "show-margin")) Show_margin (tt, tt)
     also tt
 
 fits : (w : Field) (fs : List Field) (c : Command) → read (w ∷ fs) ≡ Ok c → Fits w fs c
@@ -338,13 +348,11 @@ fits = of_forms Fits forms_fit
 
 pub read_recorded : (fields : List Field) (c : Command) → read fields ≡ Ok c → Recorded c
 read_recorded [] c e = absurd cc
-read_recorded (w ∷ fs) (Make x) e = (fits w fs (Make x) e).0
-read_recorded (w ∷ fs) c e = tt
+read_recorded (w ∷ fs) c e = (fits w fs c e).0
 
--- the fields of a change are plain
-pub change_plain : (fields : List Field) (x : Change) → read fields ≡ Ok (Make x) → AllPlain fields
-change_plain [] x e = absurd cc
-change_plain (w ∷ fs) x e = (fits w fs (Make x) e).1
+pub known_fields : (fields : List Field) (c : Command) → read fields ≡ Ok c → KnownFields fields c
+known_fields [] c e = absurd cc
+known_fields (w ∷ fs) c e = (fits w fs c e).1
 
 -- a record that decodes to `report` is this word alone
 pub report_record : (fs : List Field) → length fs ≡ 1 → slice_index_or fs 0 [] ≡ codes "report" → read fs ≡ Ok Report
@@ -352,8 +360,7 @@ report_record (w ∷ []) one e = let is : w ≡ codes "report" = e in rw is refl
 report_record fs one e = absurd (omega arith)
 
 pub report_is : (fs : List Field) → read fs ≡ Ok Report → fs ≡ codes "report" ∷ []
-report_is [] e = absurd cc
-report_is (w ∷ fs) e = fits w fs Report e
+report_is fs e = known_fields fs Report e
 
 -- one that decodes to `explain` is this word and the text
 pub explain_record : (fs : List Field) → length fs ≡ 2 → slice_index_or fs 0 [] ≡ codes "explain" →
@@ -362,8 +369,7 @@ explain_record (w ∷ t ∷ []) two e = let is : w ≡ codes "explain" = e in rw
 explain_record fs two e = absurd (omega arith)
 
 pub explain_is : (fs : List Field) (text : Field) → read fs ≡ Ok (Explain text) → fs ≡ codes "explain" ∷ text ∷ []
-explain_is [] text e = absurd cc
-explain_is (w ∷ fs) text e = fits w fs (Explain text) e
+explain_is fs text e = known_fields fs (Explain text) e
 
 -- ---- its coordinates are in range
 

@@ -1,15 +1,15 @@
 -- The text of records is split into their fields.
-use Rattle.olr_records.proofs.Common.{if◌then◌else◌, concat, and_parts, nat_tests, length-append, Add_node, Change}
-use Rattle.olr_records.proofs.Common.{On_map, is_name_byte, after_commas, fields_of_change, Field, has_record, joined}
-use Rattle.olr_records.proofs.Common.{list_any, join_with_byte, record_line, HaveRecords}
-use Rattle.std.proofs.Common.{◌≡◌, ℕ, zero, suc, ◌<◌, ◌≤◌, true, false, List, [], ◌∷◌, ◌++◌, length, map, Some, IsTrue}
-use Rattle.std.proofs.Common.{refl, arith}
-use Rattle.csv.specs.Machine.{next_record}
+use Rattle.olr_records.proofs.Common.{concat, and_parts, nat_tests, length-append, Change, Make, ne_eqb, AllByRecursion, ⊤}
+use Rattle.olr_records.proofs.Common.{is_name_byte, after_commas, fields_of_change, Field, joined, if◌then◌else◌, read}
+use Rattle.olr_records.proofs.Common.{list_any, join_with_byte, record_line, HaveRecords, list_all, ◌≡◌, ◌∙◌, ◌==◌, ◌+◌, ◌<◌}
+use Rattle.olr_records.proofs.Common.{◌≤◌, ℕ, zero, suc, false, true, List, [], ◌∷◌, ◌++◌, length, map, Some, Ok, refl, sym, ap}
+use Rattle.olr_records.proofs.Common.{subst, arith, fields_line, Command}
 use Rattle.csv.specs.Quoting.{needs_byte}
-use Rattle.csv.specs.Reading.{records, records_from, default_config, strip_bom}
-use Rattle.csv.specs.Writing.{read_back, default_writer, field_text, fields_text, row_text, quoted, is_blank}
+use Rattle.csv.specs.Reading.{records, default_config, records_from, strip_bom}
+use Rattle.csv.specs.Writing.{default_writer, field_text, row_text, quoted, fields_text, is_blank}
 use Rattle.csv.proofs.RoundTrip.{read-write}
-use Rattle.olr_records.proofs.ReadLemmas.{change_plain}
+use Rattle.csv.specs.Machine.{next_record}
+use Rattle.olr_records.proofs.ReadLemmas.{known_fields}
 use Rattle.olr_records.proofs.WrittenLemmas.{record_back}
 use Rattle.olr_records.proofs.FieldLemmas.{Plain, AllPlain}
 use Rattle.csv.specs.declared.parser.State.TheVariants as st
@@ -31,55 +31,92 @@ unfolding fields_text
 fields_are [] h = refl
 fields_are (f ∷ fs) h = λ i. 44 ∷ (field_is f h.0 i ++ fields_are fs h.1 i)
 
--- a record of two fields or more
-row_is : (fs : List Field) → 2 ≤ length fs → AllPlain fs →
-    row_text default_writer fs ≡ join_with_byte 44 fs ++ 10 ∷ []
+not_blank : (b : ℕ) (w : Field) (fs : List Field) → Plain (b ∷ w) → is_blank default_writer ((b ∷ w) ∷ fs) ≡ false
 unfolding is_blank
-row_is (f ∷ g ∷ fs) two h = grind (arith, field_is, fields_are, joined)
-row_is fs two h = absurd (omega arith)
+not_blank b w [] h = rw (field_is (b ∷ w) h) (ne_eqb (suc (length w)) 0 (λ z. cc z))
+not_blank b w (g ∷ fs) h = refl
 
-two_fields : (x : Change) → 2 ≤ length (fields_of_change x)
-two_fields (On_map (Add_node v p)) = omega arith
-two_fields x = omega arith
-
-read_as_fields : (fs : List Field) → 2 ≤ length fs → read_back fs ≡ fs
-read_as_fields [] two = absurd (omega arith)
-read_as_fields (f ∷ fs) two = refl
+row_is : (b : ℕ) (w : Field) (fs : List Field) → AllPlain ((b ∷ w) ∷ fs) →
+    row_text default_writer ((b ∷ w) ∷ fs) ≡ fields_line ((b ∷ w) ∷ fs)
+row_is b w fs h =
+    let body : field_text default_writer (b ∷ w) ++ fields_text default_writer fs ≡ (b ∷ w) ++ after_commas fs =
+    λ i. field_is (b ∷ w) h.0 i ++ fields_are fs h.1 i in
+    rw (not_blank b w fs h.0) (ap (λ (x : List ℕ). x ++ 10 ∷ []) (body ∙ sym (joined (b ∷ w) fs)))
 
 -- ---- as csv reads them
 
-read_as : (x : Change) (rest : List ℕ) → IsTrue (has_record x) →
-    next_record default_config st.StartRecord [] [] (record_line x ++ rest)
-    ≡ Some (fields_of_change x, st.StartRecord, rest)
-read_as x rest h =
-    grind (
-      arith,
-      two_fields x,
-      row_is (fields_of_change x),
-      change_plain (fields_of_change x) x (record_back x h),
-      read-write (fields_of_change x) rest,
-      read_as_fields (fields_of_change x),
-    )
+-- plain fields, of which the first is a word
+abbrev pub PlainRecord : List Field → Type 0
+PlainRecord ((b ∷ w) ∷ fs) = AllPlain ((b ∷ w) ∷ fs)
+PlainRecord _ = ⊥
 
-all_read : (n : ℕ) (xs : List Change) → length xs < n → HaveRecords xs →
-    records_from default_config n st.StartRecord (concat (map record_line xs)) ≡ map fields_of_change xs
+pub plain_record : (r : List Field) (c : Command) → read r ≡ Ok c → AllPlain r → PlainRecord r
+plain_record [] c e h = absurd cc
+plain_record ([] ∷ fs) c e h = absurd cc
+plain_record ((b ∷ w) ∷ fs) c e h = h
+
+all_read : (n : ℕ) (rs : List (List Field)) → length rs < n → AllByRecursion PlainRecord rs →
+    records_from default_config n st.StartRecord (concat (map fields_line rs)) ≡ rs
 unfolding records_from next_record
-all_read zero xs l h = absurd (omega arith)
+all_read zero rs l h = absurd (omega arith)
 all_read (suc n) [] l h = refl
-all_read (suc n) (x ∷ xs) l h = grind (arith, read_as, all_read n xs)
+all_read (suc n) (((b ∷ w) ∷ fs) ∷ rs) l h =
+    let rest = concat (map fields_line rs) in
+    let one : next_record default_config st.StartRecord [] [] (fields_line ((b ∷ w) ∷ fs) ++ rest)
+    ≡ Some ((b ∷ w) ∷ fs, st.StartRecord, rest) =
+    subst
+    (λ (x : List ℕ). next_record default_config st.StartRecord [] [] (x ++ rest) ≡ Some ((b ∷ w) ∷ fs, st.StartRecord, rest))
+    (row_is b w fs h.0) (read-write ((b ∷ w) ∷ fs) rest) in
+    rw one (ap (λ (x : List (List Field)). ((b ∷ w) ∷ fs) ∷ x) (all_read n rs (omega arith) h.1))
+all_read (suc n) (r ∷ rs) l h = absurd h.0
 
 -- the text has at least a byte for each record
-longer : (xs : List Change) → length xs ≤ length (concat (map record_line xs))
+longer : (rs : List (List Field)) → length rs ≤ length (concat (map fields_line rs))
 longer [] = omega arith
-longer (x ∷ xs) = grind (arith, length-append, longer xs)
+longer (r ∷ rs) =
+    let all = length-append (fields_line r) (concat (map fields_line rs)) in
+    let one = length-append (join_with_byte 44 r) (10 ∷ []) in let more = longer rs in omega arith
 
 -- it begins with a letter
-no_mark : (xs : List Change) → strip_bom (concat (map record_line xs)) ≡ concat (map record_line xs)
+abbrev BeginsPlain : List ℕ → Type 0
+BeginsPlain [] = ⊤
+BeginsPlain (b ∷ x) = is_name_byte b ≡ true
+
+no_mark_byte : (b : ℕ) → is_name_byte b ≡ true → (b == 239) ≡ false
+no_mark_byte b h = grind arith
+
+no_mark : (x : List ℕ) → BeginsPlain x → strip_bom x ≡ x
 unfolding strip_bom
-no_mark [] = refl
-no_mark (On_map (Add_node v p) ∷ xs) = refl
-no_mark xs = refl
+no_mark [] h = refl
+no_mark (b ∷ []) h = refl
+no_mark (b ∷ c ∷ []) h = refl
+no_mark (b ∷ c ∷ d ∷ x) h = rw (no_mark_byte b h) refl
+
+begins : (rs : List (List Field)) → AllByRecursion PlainRecord rs → BeginsPlain (concat (map fields_line rs))
+begins [] h = tt
+begins (((b ∷ w) ∷ []) ∷ rs) h = (and_parts (is_name_byte b) (list_all is_name_byte w) h.0.0).0
+begins (((b ∷ w) ∷ g ∷ fs) ∷ rs) h = (and_parts (is_name_byte b) (list_all is_name_byte w) h.0.0).0
+begins (r ∷ rs) h = absurd h.0
+
+pub lines_read : (rs : List (List Field)) → AllByRecursion PlainRecord rs →
+    records default_config (strip_bom (concat (map fields_line rs))) ≡ rs
+lines_read rs h =
+    let text = concat (map fields_line rs) in
+    let size = longer rs in
+    ap (records default_config) (no_mark text (begins rs h)) ∙ all_read (length text + 1) rs (omega arith) h
+
+-- ---- those of changes
+
+pub all_lines : (xs : List Change) → map record_line xs ≡ map fields_line (map fields_of_change xs)
+all_lines [] = refl
+all_lines (x ∷ xs) = ap (λ (ls : List (List ℕ)). record_line x ∷ ls) (all_lines xs)
+
+all_plain : (xs : List Change) → HaveRecords xs → AllByRecursion PlainRecord (map fields_of_change xs)
+all_plain [] h = tt
+all_plain (x ∷ xs) h =
+    let back = record_back x h.0 in
+    (plain_record (fields_of_change x) (Make x) back (known_fields (fields_of_change x) (Make x) back), all_plain xs h.1)
 
 pub records_split : (xs : List Change) → HaveRecords xs →
     records default_config (strip_bom (concat (map record_line xs))) ≡ map fields_of_change xs
-records_split xs h = grind (arith, longer, no_mark, all_read)
+records_split xs h = rw (all_lines xs) (lines_read (map fields_of_change xs) (all_plain xs h))

@@ -1,22 +1,19 @@
 -- Commands whose changes have records lead to contents that have records.
-use Rattle.olr_records.proofs.Common.{IfSome, Line, Add_path, Set_path, is_place, Recorded, cases_eq, MapFault, no_line}
-use Rattle.olr_records.proofs.Common.{list_all, is_coord, Add_node, Add_line, Set_line, Drop_path, Set_margin}
-use Rattle.olr_records.proofs.Common.{is_number, is_amount, AllByRecursion, is_name, are_attributes}
-use Rattle.olr_records.proofs.Common.{is_recordable_coord, is_recordable_shape, and_parts, Move_node, Drop_node}
-use Rattle.olr_records.proofs.Common.{Drop_line, has_record, IsRecorded, StaysRecorded, eq-eqb, Coord, Edit, Path}
-use Rattle.olr_records.proofs.Common.{Change, On_map, Make, ne_eqb, Map, start, end, edited}
-use Rattle.std.proofs.Common.{rules, arith, ◌≡◌, ℕ, Bool, true, List, [], ◌∷◌, ◌++◌, map, Option, Some, None}
-use Rattle.std.proofs.Common.{unwrap_or, Result, Ok, Err, IsTrue, refl, sym, ◌∙◌, subst, filter, is_some, nat_cmp}
-use Rattle.olr_commands.specs.State.{Command, Begin, Commit, Abort, Named, Content, with_path, with_map, with_change}
-use Rattle.olr_commands.specs.State.{after, no_content, is_recordable, start_state, State, step}
+use Rattle.olr_records.proofs.Common.{IfSome, is_name, eq-eqb, Coord, Change, On_map, ne_eqb, edited, is_some, nat_cmp, Command}
+use Rattle.olr_records.proofs.Common.{Line, Edit, Path, Make, start, rules, arith, Bool, Option, Result, IsTrue, subst, filter}
+use Rattle.olr_records.proofs.Common.{Add_path, Set_path, and_parts, Move_node, Drop_node, Drop_line, Map, unwrap_or, cond_both}
+use Rattle.olr_records.proofs.Common.{is_place, Recorded, cases_eq, MapFault, list_all, is_coord, Add_node, Add_line, Set_line}
+use Rattle.olr_records.proofs.Common.{no_line, Drop_path, Set_margin, is_number, is_amount, has_record, IsRecorded, HaveRecords}
+use Rattle.olr_records.proofs.Common.{AllByRecursion, are_attributes, is_recordable_coord, is_recordable_shape, StaysRecorded}
+use Rattle.olr_records.proofs.Common.{end, ◌≡◌, ℕ, true, List, [], ◌∷◌, ◌++◌, map, Some, None, Ok, Err, refl, sym, ◌∙◌}
+use Rattle.olr_commands.specs.State.{Begin, Commit, Abort, Named, Content, with_path, with_map, with_change, after, no_content}
+use Rattle.olr_commands.specs.State.{is_recordable, start_state, State, step}
 use Rattle.std.specs.Prelude.{◌&&◌}
 use Rattle.std.specs.FinMap.{FinMap, get, insert, remove, empty, entries, entries_sorted, get-entries, get-empty}
 use Rattle.std.specs.FinMap.Entries.{find}
 use Rattle.olr_spec.proofs.EditLemmas.{Made, made_by, got_same, got_other, left_same, left_other}
 use Rattle.olr_commands.specs.Dump.{adds_nothing, content_changes, margin_changes, node_change, line_change, path_change}
 use Rattle.olr_spec.specs.Margins.{Margin}
-use Rattle.olr_records.proofs.Common.{HaveRecords}
-use Rattle.std.proofs.lemmas.Bool.{cond_both}
 use Rattle.olr_commands.proofs.DumpLemmas.{of_entries}
 use Rattle.olr_commands.proofs.StateLemmas.{Ends, ends, when_ok, accepted, passed, next_ok, after_push}
 use Rattle.olr_records.proofs.TestLemmas.{and_four, and_five, all_weaker}

@@ -1,6 +1,5 @@
 -- Tests joined by `&&`, tests of each item of a list, and facts of each item.
-use Rattle.olr_records.proofs.Common.{list_all, and_parts}
-use Rattle.std.proofs.Common.{arith, ◌≡◌, Bool, true, List, [], ◌∷◌, ◌&&◌, IsTrue, refl}
+use Rattle.olr_records.proofs.Common.{list_all, and_parts, arith, ◌≡◌, Bool, true, List, [], ◌∷◌, ◌&&◌, IsTrue, refl}
 
 pub and_three : (a b c : Bool) → (a && b && c) ≡ true → (a ≡ true) × (b ≡ true) × (c ≡ true)
 and_three a b c h = let p = and_parts (a && b) c h in let q = and_parts a b p.0 in (q.0, q.1, p.1)

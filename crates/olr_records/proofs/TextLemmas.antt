@@ -1,13 +1,9 @@
 -- Lines, and texts of several lines.
-use Rattle.olr_records.proofs.Common.{decimal, concat, append-nil, length-append, after_commas, joined}
-use Rattle.olr_records.proofs.Common.{middle_line, length-decimal-le, length-map, map-append, take_more}
-use Rattle.std.proofs.Common.{◌≡◌, ℕ, ◌+◌, ◌<◌, List, [], ◌∷◌, ◌++◌, length, take, map, refl, ap, append_assoc, arith}
-use Rattle.std.proofs.Common.{◌≤◌, ◌^◌, ◌-◌, ◌/◌, ◌%◌, ◌∙◌, drop, get_or}
+use Rattle.olr_records.proofs.Common.{decimal, concat, joined, List, length, arith, get_or, drop_all, drop_at, take_at, codes}
+use Rattle.olr_records.proofs.Common.{append-nil, length-append, after_commas, length-decimal-le, length-take-le, concat-append}
+use Rattle.olr_records.proofs.Common.{middle_line, length-map, map-append, take_more, ◌≡◌, append_assoc, drop-drop, copy_within}
+use Rattle.olr_records.proofs.Common.{ℕ, ◌+◌, ◌<◌, [], ◌∷◌, ◌++◌, take, map, refl, ap, ◌≤◌, ◌^◌, ◌-◌, ◌/◌, ◌%◌, ◌∙◌, drop}
 use Rattle.std.proofs.lemmas.Fmt.{decimal_digit, decimal_step}
-use Rattle.std.proofs.lemmas.List.{drop_all, drop_at, drop-drop, length-take-le, take_at}
-use Rattle.std.specs.List.{copy_within}
-use Rattle.std.specs.Prelude.{codes}
-use Rattle.std.proofs.lemmas.List.Folds.{concat-append}
 use Rattle.olr_spec.specs.Reference.{Reference}
 use Rattle.olr_records.specs.ReplyText.{reply_line, accepted_text, first_line, last_line, offset_lines, reference_lines}
 

@@ -1,17 +1,14 @@
 -- The record of a change is read as this change.
-use Rattle.olr_records.proofs.Common.{decimal, if◌then◌else◌, degrees_text, are_attributes, is_named_path}
-use Rattle.olr_records.proofs.Common.{degrees-read, list_all, leb-true, Add_node, Add_line, Set_line, Add_path}
-use Rattle.olr_records.proofs.Common.{Set_path, Bad_form, and_parts, Edit, Move_node, Drop_node, Drop_line, Drop_path}
-use Rattle.olr_records.proofs.Common.{is_number, is_amount, digits_decimal, fields_of_coord, fields_of_shape}
-use Rattle.olr_records.proofs.Common.{fields_of_path, value_or_fault, Coord, has_degrees_text, fields_of_change}
-use Rattle.olr_records.proofs.Common.{digits_value-decimal, decimal_nonempty, degrees, ShapePoint, coordinate}
-use Rattle.olr_records.proofs.Common.{node_record, attributes, path_fields, has_record, Path, Make, Field, max32}
-use Rattle.olr_records.proofs.Common.{class, place, name, point, shape, ◌⊛◌, edit, read, own, Change, On_map, is_name}
-use Rattle.olr_records.proofs.Common.{number, amount, numbers, is_place, is_point, le-leb, Set_margin}
-use Rattle.std.proofs.Common.{◌≡◌, ℕ, ◌<◌, ◌^◌, ℤ, Bool, true, ◌&&◌, List, [], ◌∷◌, map, Ok, nat_le, IsTrue, refl, ◌∙◌}
-use Rattle.std.proofs.Common.{arith}
+use Rattle.olr_records.proofs.Common.{decimal, if◌then◌else◌, degrees_text, are_attributes, is_named_path, degrees-read}
+use Rattle.olr_records.proofs.Common.{list_all, leb-true, Add_node, Add_line, Set_line, Add_path, Set_path, Bad_form, and_parts}
+use Rattle.olr_records.proofs.Common.{Edit, Move_node, Drop_node, Drop_line, Drop_path, is_number, is_amount, digits_decimal}
+use Rattle.olr_records.proofs.Common.{fields_of_coord, fields_of_shape, fields_of_path, value_or_fault, Coord, has_degrees_text}
+use Rattle.olr_records.proofs.Common.{fields_of_change, digits_value-decimal, decimal_nonempty, degrees, ShapePoint, coordinate}
+use Rattle.olr_records.proofs.Common.{node_record, attributes, path_fields, has_record, Path, Make, Field, max32, class, place}
+use Rattle.olr_records.proofs.Common.{name, point, shape, ◌⊛◌, edit, read, own, Change, On_map, is_name, number, amount}
+use Rattle.olr_records.proofs.Common.{numbers, is_place, is_point, le-leb, Set_margin, ◌≡◌, ℕ, ◌<◌, ◌^◌, ℤ, Bool, true, ◌&&◌}
+use Rattle.olr_records.proofs.Common.{List, [], ◌∷◌, map, Ok, nat_le, IsTrue, refl, ◌∙◌, arith, digits}
 use Rattle.std.specs.Prelude.{Err}
-use Rattle.olr_records.specs.Records.{digits}
 use Rattle.olr_records.proofs.TestLemmas.{and_three, and_four, and_five}
 
 -- ---- fields

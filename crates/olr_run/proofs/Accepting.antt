@@ -1,10 +1,6 @@
 -- Records of a log that are accepted one after another.
-use Rattle.olr_run.proofs.Common.{Field, read, append-nil, append_assoc}
-use Rattle.std.proofs.Common.{◌≡◌, ◌∙◌, ℕ, List, [], ◌∷◌, ◌++◌, map, Ok, refl, sym, ap, subst}
-use Rattle.std.specs.List.{concat}
-use Rattle.olr_commands.specs.RecordText.{fields_line}
-use Rattle.olr_commands.specs.State.{Command, State, step}
-use Rattle.olr_run.specs.Logged.{Accepted, IsLogged, LeadsFrom}
+use Rattle.olr_run.proofs.Common.{Field, read, append-nil, append_assoc, ◌≡◌, ◌∙◌, ℕ, List, [], ◌∷◌, ◌++◌, map, Ok, refl, sym}
+use Rattle.olr_run.proofs.Common.{ap, subst, concat, fields_line, Command, State, step, Accepted, IsLogged, LeadsFrom}
 
 -- the first one leads to one state
 pub accepted_next : (s v t : State) (r : List Field) (rs : List (List Field)) (c : Command) → read r ≡ Ok c →

@@ -1,8 +1,7 @@
 -- The outcome of a record, from what was read of it.
-use Rattle.olr_run.proofs.Common.{Outcome, Field, read, outcome_text, RecordOutcome, answer_text, Represents}
-use Rattle.olr_run.proofs.Common.{Registered, is_ok, Bor, IsOutcome, fault_text, CarriedOut, IsAnswer}
-use Rattle.std.proofs.Common.{◌≡◌, ℕ, List, Result, Ok, Err, inl, inr, refl, sym, ap, ◌∙◌, arith}
-use Rattle.olr_commands.specs.State.{State, Command, IsContent}
+use Rattle.olr_run.proofs.Common.{Outcome, Field, read, outcome_text, RecordOutcome, answer_text, Represents, Registered, is_ok}
+use Rattle.olr_run.proofs.Common.{Bor, IsOutcome, fault_text, CarriedOut, IsAnswer, ◌≡◌, ℕ, List, Result, Ok, Err, inl, inr}
+use Rattle.olr_run.proofs.Common.{refl, sym, ap, ◌∙◌, arith, State, Command, IsContent}
 use Rattle.olr_records.specs.declared.faults.ReadFault.TheVariants.{Syntax, Range, Memory}
 use Rattle.olr_commands.specs.declared.reply.Reply.{Reply}
 use Rattle.olr_records.specs.Words.{IsRead, read_fault_of}

@@ -1,16 +1,8 @@
 -- The records of a content as a log.
-use Rattle.olr_run.proofs.Common.{Field, read_recorded}
-use Rattle.std.proofs.Common.{◌≡◌, List, [], ◌∷◌, map, Result, Ok, Err, refl, ap, subst}
-use Rattle.std.specs.List.{concat}
-use Rattle.olr_commands.specs.Dump.{dump_lines, dump_changes, steps}
-use Rattle.olr_commands.specs.RecordText.{fields_of_change}
-use Rattle.olr_commands.specs.State.{Change, Make, Content, IsContent, State, Fault, start_state, step}
-use Rattle.olr_commands.proofs.DumpLemmas.{dumps_run}
-use Rattle.olr_records.specs.Recorded.{HaveRecords, StaysRecorded}
-use Rattle.olr_records.proofs.RecordedLemmas.{step_stays, start_recorded}
-use Rattle.olr_records.proofs.WrittenLemmas.{record_back}
-use Rattle.olr_run.specs.Logged.{Accepted, Leads, closed}
-use Rattle.olr_run.proofs.Dumping.{all_lines}
+use Rattle.olr_run.proofs.Common.{Field, read_recorded, ◌≡◌, List, [], ◌∷◌, map, Result, Ok, Err, refl, ap, subst, concat}
+use Rattle.olr_run.proofs.Common.{dump_lines, dump_changes, steps, fields_of_change, Change, Make, Content, IsContent, State}
+use Rattle.olr_run.proofs.Common.{Fault, start_state, step, dumps_run, HaveRecords, StaysRecorded, step_stays, start_recorded}
+use Rattle.olr_run.proofs.Common.{record_back, Accepted, Leads, closed, all_lines}
 
 stays : (rs : List (List Field)) (s t : State) → StaysRecorded s → Accepted s rs t → StaysRecorded t
 stays [] s t h a = subst StaysRecorded a h

@@ -1,31 +1,20 @@
 -- Dumps in runs of records, and the faults that a command has by its state.
-use Rattle.olr_run.proofs.Common.{IfErr, ⊤, length-map, Outcome, IsRefusal, ByState, Field, read, CommandOutcome}
-use Rattle.olr_run.proofs.Common.{RecordOutcome, SoundOutcomes, IsReply, count_line, reply_text, read_recorded}
-use Rattle.std.proofs.Common.{arith, Bool, false, List, Option, Some, None, Result, inl, inr, ◌≢◌, ℕ, [], ◌∷◌, ◌++◌}
-use Rattle.std.proofs.Common.{map, length, Ok, Err, IsTrue, refl, sym, ap, subst, true, not, nat_cmp}
-use Rattle.std.proofs.lemmas.Bool.{and_parts, cases_eq, eq-eqb, ne_eqb}
+use Rattle.olr_run.proofs.Common.{IfErr, ⊤, length-map, Outcome, IsRefusal, ByState, Field, read, CommandOutcome, RecordOutcome}
+use Rattle.olr_run.proofs.Common.{SoundOutcomes, IsReply, count_line, reply_text, read_recorded, arith, Bool, false, List}
+use Rattle.olr_run.proofs.Common.{Option, Some, None, Result, inl, inr, ◌≢◌, ℕ, [], ◌∷◌, ◌++◌, map, length, Ok, Err, IsTrue}
+use Rattle.olr_run.proofs.Common.{refl, sym, subst, true, not, nat_cmp, and_parts, ne_eqb, list_all, Map, Fault, Memory}
+use Rattle.olr_run.proofs.Common.{Content, Change, Command, Make, Not_a_record, is_recordable, after, with_change, step_in}
+use Rattle.olr_run.proofs.Common.{IsContent, Dump, State, Show_node, Show_line, Map_fault, when, Lacks, Reply, Read, Builds}
+use Rattle.olr_run.proofs.Common.{IsDumpOf, Dumps, concat, fields_of_change, dump_lines, dumps_run, HaveRecords, IsRecorded}
+use Rattle.olr_run.proofs.Common.{StaysRecorded, records_split, all_lines, step_stays, recorded_dumps, record_back}
+use Rattle.std.proofs.lemmas.Bool.{cases_eq, eq-eqb}
 use Rattle.std.specs.FinMap.{get, entries, get-entries}
 use Rattle.std.specs.FinMap.Entries.{find}
-use Rattle.std.specs.List.{list_all}
 use Rattle.olr_spec.specs.Coordinates.{Coord}
-use Rattle.olr_spec.specs.Map.{Map, Line, MapFault, No_node, No_line, has_node, has_line, no_coord, no_line, start, end, line_at}
+use Rattle.olr_spec.specs.Map.{Line, MapFault, No_node, No_line, has_node, has_line, no_coord, no_line, start, end, line_at}
 use Rattle.olr_commands.specs.Recordable.{is_recordable_map, is_recordable_coord, is_recordable_shape, has_node_record}
 use Rattle.olr_commands.specs.Recordable.{has_line_records}
-use Rattle.olr_commands.specs.State.{Fault, Memory, Content, Change, Command, Make, Not_a_record, is_recordable, after}
-use Rattle.olr_commands.specs.State.{with_change, step_in, IsContent, Dump, State, Show_node, Show_line, Map_fault}
-use Rattle.olr_commands.specs.State.{when}
 use Rattle.std.specs.Prelude.{◌≡◌, unwrap_or}
-use Rattle.olr_commands.specs.Reply.{Lacks, Reply}
-use Rattle.olr_records.specs.Records.{Read}
-use Rattle.olr_run.specs.Output.{Builds, IsDumpOf, Dumps}
-use Rattle.std.specs.List.{concat}
-use Rattle.olr_commands.specs.RecordText.{fields_line, fields_of_change, record_line}
-use Rattle.olr_commands.specs.Dump.{dump_lines}
-use Rattle.olr_commands.proofs.DumpLemmas.{dumps_run}
-use Rattle.olr_records.specs.Recorded.{HaveRecords, IsRecorded, StaysRecorded}
-use Rattle.olr_records.proofs.RecordLines.{records_split}
-use Rattle.olr_records.proofs.RecordedLemmas.{step_stays, recorded_dumps}
-use Rattle.olr_records.proofs.WrittenLemmas.{record_back}
 
 -- ---- the faults that a command has by its state
 
@@ -92,10 +81,6 @@ pub all_back : (xs : List Change) → HaveRecords xs →
     map read (map fields_of_change xs) ≡ map (λ c. Ok c) (map (λ x. Make x) xs)
 all_back [] h = refl
 all_back (x ∷ xs) h = grind (arith, record_back, all_back xs)
-
-pub all_lines : (xs : List Change) → map record_line xs ≡ map fields_line (map fields_of_change xs)
-all_lines [] = refl
-all_lines (x ∷ xs) = ap (λ (ls : List (List ℕ)). record_line x ∷ ls) (all_lines xs)
 
 builds : (c : Content) → IsContent c → IsRecorded c → Builds (concat (dump_lines c)) (length (dump_lines c)) c
 builds c sound h = grind (arith, records_split, all_lines, length-map, all_back, dumps_run)

@@ -1,24 +1,7 @@
 -- The ends of the program.
-use Rattle.olr_run.proofs.Common.{Bor, Opens, Known, IsFile, OpensFile, file_bytes}
-use Rattle.std.proofs.Common.{◌≡◌, ℕ, List, Option, Some, None, Result, Ok, Err, refl, inl, inr}
-use Rattle.clap.specs.Kinds.{Kinds}
-use Rattle.clap.specs.Values.{kind_of}
-use Rattle.clap.specs.declared.error.Error.{Error}
-use Rattle.olr_run.specs.Explains.{ExplainsFault, Explains, Shown, Not_shown, Wrong_arguments, No_memory}
-use Rattle.olr_run.specs.Options.{IsOptionsFault}
-use Rattle.olr_run.specs.Sizes.{IsLength, NoSize}
-use Rattle.olr_run.specs.declared.arguments.OptionsFault.{OptionsFault}
-use Rattle.olr_run.specs.declared.arguments.OptionsFault.TheVariants.{Asked, Wrong, Memory}
+use Rattle.olr_run.proofs.Common.{Bor, Opens, Known, IsFile, OpensFile, file_bytes, ◌≡◌, ℕ, List, Option, Some, None, Result}
+use Rattle.olr_run.proofs.Common.{Ok, Err, refl, IsLength, NoSize}
 use Rattle.std.specs.Fn.{Once}
-
--- what was shown, by clap's kinds of error; the text of its error has no definition
-pub explained : (kinds : Kinds) (fault : OptionsFault Error) (before later : Known) (code : ℕ) →
-    IsOptionsFault kinds fault → ExplainsFault (λ _. None) fault before later code → Explains kinds before later code
-explained kinds (Asked e) before later code h (inl w) = Shown (kind_of e, h.0, h.1) w.0 w.1
-explained kinds (Asked e) before later code h (inr (inl w)) = Not_shown (kind_of e, h.0, h.1) w.0 w.1
-explained kinds (Asked e) before later code h (inr (inr w)) = No_memory w.0 w.1
-explained kinds (Wrong e) before later code h w = Wrong_arguments (kind_of e, h.0, h.1) w.0 w.1
-explained kinds Memory before later code h w = No_memory w.0 w.1
 
 -- ---- what was asked for
 

@@ -1,31 +1,18 @@
 -- A run from a log in a file, from the contracts of its parts.
-use Rattle.olr_run.proofs.Common.{Outcome, Field, Known, Records, RunFault, Registered}
-use Rattle.olr_run.proofs.Common.{Represents, is_ok, EndedOn}
-use Rattle.std.proofs.Common.{◌≡◌, ◌∙◌, ◌⊎◌, ℕ, Bool, true, false, List, inl, inr, refl, sym, subst}
-use Rattle.std.specs.Prelude.{OnOk, Result, Ok, Err, IsTrue}
-use Rattle.sqlite_disk.specs.declared.Disk as disk
-use Rattle.olr_commands.specs.State.{Content, IsContent, State}
+use Rattle.olr_run.proofs.Common.{Outcome, Field, Known, Records, RunFault, Registered, Represents, is_ok, EndedOn, ◌≡◌, ◌∙◌}
+use Rattle.olr_run.proofs.Common.{◌⊎◌, ℕ, Bool, true, false, List, inl, inr, refl, sym, subst, OnOk, Content, IsContent, State}
+use Rattle.olr_run.proofs.Common.{concat, dump_lines, Keeps-refl, AreRecordsOf, Begins, BeginsWith, LastsOn, Unbegun, closed}
+use Rattle.olr_run.proofs.Common.{Leads, Survives, UpTo, LastsWhole, LastsCut, LeftAfter, HasContentOf, IsContentOf}
+use Rattle.olr_run.proofs.Common.{LeadsNowhere, records_of, written, Only, Buffered, Status, Gate}
+use Rattle.std.specs.Prelude.{Result, Ok, Err, IsTrue}
 use Rattle.olr_log.specs.Logs.{stored_of, left_of, is_own_of, is_clean}
-use Rattle.olr_log.specs.declared.folder.Folder as folder
 use Rattle.olr_log.specs.declared.log_file.LogFile.{LogFile}
-use Rattle.std.specs.List.{concat}
-use Rattle.olr_commands.specs.Dump.{dump_lines}
+use Rattle.sqlite_disk.specs.declared.Disk as disk
+use Rattle.olr_log.specs.declared.folder.Folder as folder
 use Rattle.olr_run.proofs.Dumped.{dump_leads}
 use Rattle.olr_run.proofs.LogRecords.{is_content, same_content}
 use Rattle.olr_run.proofs.Running.{represented}
 use Rattle.olr_run.proofs.Sending.{Then, faulted_sent, ran_sent}
-use Rattle.std.proofs.KnownBytes.{Keeps-refl}
-use Rattle.olr_run.specs.LogEnds.{AreRecordsOf, Begins, BeginsWith, LastsOn, Unbegun}
-use Rattle.olr_run.specs.Logged.{closed, Leads, Survives, UpTo}
-use Rattle.olr_run.specs.Logs.{LastsWhole, LastsCut}
-use Rattle.olr_run.specs.Ends.{LeftAfter}
-use Rattle.olr_run.specs.Restored.{HasContentOf, IsContentOf, LeadsNowhere}
-use Rattle.olr_run.specs.Output.{records_of}
-use Rattle.olr_input.specs.Buffers.{written}
-use Rattle.olr_input.specs.Journals.{Only}
-use Rattle.olr_input.specs.declared.buffered.Buffered.{Buffered}
-use Rattle.olr_input.specs.declared.ends.Status.{Status}
-use Rattle.olr_input.specs.declared.gate.Gate.{Gate}
 
 pub on_true : {A E : Type 0} (r : Result A E) (P : Type 0) → OnOk r P → is_ok r ≡ true → P
 on_true (Ok a) P h e = h

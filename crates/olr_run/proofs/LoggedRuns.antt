@@ -1,47 +1,24 @@
 -- The log of a run, from the history of its session.
-use Rattle.olr_run.proofs.Common.{IfErr, IfSome, Outcome, Field, SoundOutcome, append-nil, append_assoc}
-use Rattle.olr_run.proofs.Common.{length-map, Known, Event, Took, Ended, Not_taken, Not_sent, Wrote, Cut, History}
-use Rattle.olr_run.proofs.Common.{exchanges, RanIn, CutIn, Keeps, Past_the_most, In_text, Appends, Registered, RunFault}
-use Rattle.olr_run.proofs.Common.{Claims, EndedOn, Records, last_events}
-use Rattle.std.proofs.Common.{◌≡◌, ◌∙◌, ℕ, Bool, false, List, [], ◌∷◌, ◌++◌, length, map, Some, None, refl, sym}
-use Rattle.std.proofs.Common.{ap, subst, arith, length-append}
-use Rattle.std.specs.Prelude.{IfOk, OnOk, Ok, Err, Option, Result}
-use Rattle.olr_commands.specs.State.{Change, IsContent, State}
-use Rattle.std.specs.Io.KnownBytes.{append_known}
-use Rattle.olr_run.specs.Runs.{Exchanged, In_taking, No_text, OutcomesCompacted, IsReplacement, answer_of, once_sent}
-use Rattle.olr_input.specs.Sessions.{Answer, Replacement, Compacted, Unasked, Given, Lacking}
+use Rattle.olr_run.proofs.Common.{IfErr, IfSome, Outcome, Field, SoundOutcome, append-nil, append_assoc, Known, Event, Took}
+use Rattle.olr_run.proofs.Common.{Ended, Not_taken, Not_sent, Wrote, Cut, History, RanIn, CutIn, Keeps, Past_the_most, In_text}
+use Rattle.olr_run.proofs.Common.{Appends, Registered, RunFault, Claims, EndedOn, Records, last_events, ◌≡◌, ◌∙◌, ℕ, Bool}
+use Rattle.olr_run.proofs.Common.{false, List, [], ◌∷◌, ◌++◌, length, Some, None, refl, sym, ap, subst, arith, length-append}
+use Rattle.olr_run.proofs.Common.{IfOk, OnOk, flat_map, Change, IsContent, State, append_known, Exchanged, In_taking, No_text}
+use Rattle.olr_run.proofs.Common.{answer_of, once_sent, IsReplacement, Exchange, AreExchanges, records_taken, events_of}
+use Rattle.olr_run.proofs.Common.{unwritten, Answer, Replacement, Compacted, Unasked, Given, Lacking, Leads, Survives, UpTo}
+use Rattle.olr_run.proofs.Common.{Began, LastsWhole, LastsCut, pending, written, Compaction, Passes, Untouched, ready}
+use Rattle.olr_run.proofs.Common.{is_closed, Waiting, waiting, LogHappens, Buffered, Gate, Status, Appends-nil, Keeps-refl}
+use Rattle.std.specs.Prelude.{Ok, Err, Option, Result}
+use Rattle.olr_input.specs.declared.logged.Logged.{Logged}
+use Rattle.olr_input.proofs.Writing.{took_nothing}
 use Rattle.olr_run.specs.Runs as runs
-use Rattle.olr_run.specs.Logged.{Leads, Survives, UpTo}
-use Rattle.olr_run.specs.Logs.{Began, LastsWhole, LastsCut}
-use Rattle.olr_run.proofs.InputRuns.{Sees, cut_parts, Gives, LastOf, last_of, on_records_as, same_left}
+use Rattle.olr_run.proofs.InputRuns.{Sees, Gives, same_left, exchanges_cut, last_step, more_taken, taken_length, on_records}
 use Rattle.olr_run.proofs.Sending.{Then, ended_sent}
 use Rattle.olr_run.proofs.Logging.{Going, HoldsBatch, Logs, LogsSome, logs_pass, logs_same, logs_conclude, logs_longer, logs_compact}
 use Rattle.olr_run.proofs.Logging.{fresh, survives_only, up_on, up_to_all}
-use Rattle.olr_input.specs.Buffers.{pending, written}
-use Rattle.olr_input.specs.Gates.{Compaction, Passes, Untouched, ready, is_closed}
-use Rattle.olr_input.specs.StoredLines.{Waiting}
-use Rattle.olr_input.specs.Unstored.{waiting}
-use Rattle.olr_input.specs.LoggedRuns.{LogHappens}
-use Rattle.olr_input.specs.declared.buffered.Buffered.{Buffered}
-use Rattle.olr_input.specs.declared.gate.Gate.{Gate}
 use Rattle.olr_input.specs.declared.journal.Journal as journal
-use Rattle.olr_input.specs.declared.logged.Logged.{Logged}
-use Rattle.olr_input.specs.declared.ends.Status.{Status}
 use Rattle.olr_input.specs.declared.ends.Status.TheVariants as ended
 use Rattle.olr_input.specs.declared.ends.RunFault.TheVariants as fault
-use Rattle.olr_input.proofs.Writing.{took_nothing}
-use Rattle.std.proofs.KnownBytes.{Appends-nil, Keeps-refl}
-
--- the last step of a run, after which no records were given
-compacted_split : (s t : State) (rs : List (List Field)) (r : List Field) (os : List Outcome) (o : Outcome)
-    (ds : List Replacement) → length os ≡ length rs → length ds ≡ length rs →
-    OutcomesCompacted s (rs ++ r ∷ []) (os ++ o ∷ []) (ds ++ Unasked ∷ []) t →
-    (m : State) × OutcomesCompacted s rs os ds m × SoundOutcome m r o t
-compacted_split s t [] r [] o [] l k h = (s, refl, subst (λ (u : State). SoundOutcome s r o u) h.3 h.1)
-compacted_split s t (q ∷ rs) r (p ∷ os) o (d ∷ ds) l k h =
-    let more = compacted_split h.0 t rs r os o ds (omega arith) (omega arith) h.3 in
-    (more.0, (h.0, h.1, h.2, more.1), more.2)
-compacted_split s t rs r os o ds l k h = absurd (omega arith)
 
 -- ---- what is written
 
@@ -180,28 +157,23 @@ module _ {S W J : Type 0} (left : S → List (List Field) → Type 0) (contents 
         (logs_same j.stored j.may_leave contents base s rs os t [] m.0.gate n.0.gate m.1 h.3.untouched
         (ap waiting h.3.unstored) a)
 
-    log_exchanged : (rs : List (List Field)) (ws : List Answer) (ds : List Replacement) (es : List Event)
-        (m b : Logged S J × Buffered W)
-        (dn : List (List Field)) (dos : List Outcome) (t u : State) (os : List Outcome) → length dos ≡ length dn →
-        map answer_of os ≡ ws → length ws ≡ length rs → Log dn dos t [] m → OutcomesCompacted t rs os ds u →
-        History Happens m (exchanges rs ws ds ++ es) b
-        → (n : Logged S J × Buffered W) × Log (dn ++ rs) (dos ++ os) u [] n × History Happens n es b
-    log_exchanged [] [] [] es m b dn dos t u [] size is l a run h =
-        (m, rw (append-nil dn, append-nil dos) (subst (λ (x : State). Log dn dos x [] m) run a), h)
-    log_exchanged [] [] (d ∷ ds) es m b dn dos t u [] size is l a run h = absurd run
-    log_exchanged (r ∷ rs) (w ∷ ws) [] es m b dn dos t u (o ∷ os) size is l a run h = absurd run
-    log_exchanged (r ∷ rs) (w ∷ ws) (d ∷ ds) es m b dn dos t u (o ∷ os) size is l a run h =
-        let first : answer_of o ≡ w = cc in
-        let rest : map answer_of os ≡ ws = cc in
-        let now = log_wrote dn dos t run.0 r o w m h.0 h.2.0 size a run.1 first h.1 h.2.1 in
-        let grown : length (dos ++ o ∷ []) ≡ length (dn ++ r ∷ []) = grind (arith, length-append) in
-        let on = log_given (dn ++ r ∷ []) (dos ++ o ∷ []) run.0 d h.2.0 h.2.2.0 now run.1.1 run.2 h.2.2.1 in
-        rw (← append_assoc dn (r ∷ []) rs, ← append_assoc dos (o ∷ []) os)
-        (log_exchanged rs ws ds es h.2.2.0 b (dn ++ r ∷ []) (dos ++ o ∷ []) run.0 u os grown rest (omega arith) on run.3 h.2.2.2)
-    log_exchanged [] (w ∷ ws) ds es m b dn dos t u os size is l a run h = absurd (omega arith)
-    log_exchanged (r ∷ rs) [] ds es m b dn dos t u os size is l a run h = absurd (omega arith)
-    log_exchanged [] [] ds es m b dn dos t u (o ∷ os) size is l a run h = absurd cc
-    log_exchanged (r ∷ rs) (w ∷ ws) ds es m b dn dos t u [] size is l a run h = absurd cc
+    log_exchanged : (xs : List Exchange) (es : List Event) (m b : Logged S J × Buffered W) (rs : List (List Field))
+        (dos : List Outcome) (t u : State) (os : List Outcome) → length dos ≡ length rs → Log rs dos t [] m →
+        AreExchanges t xs os u → History Happens m (flat_map events_of xs ++ es) b
+        → (n : Logged S J × Buffered W) × Log (rs ++ records_taken xs) (dos ++ os) u [] n × History Happens n es b
+    log_exchanged [] es m b rs dos t u [] size a run h =
+        (m, rw (append-nil rs, append-nil dos) (subst (λ (x : State). Log rs dos x [] m) run.1 a), h)
+    log_exchanged (x ∷ xs) es m b rs dos t u (o ∷ os) size a run h =
+        let one = run.1.1 in
+        let now = log_wrote rs dos t run.1.0 x.fields o x.answer m h.0 h.2.0 size a one.0 one.1 h.1 h.2.1 in
+        let grown : length (dos ++ o ∷ []) ≡ length (rs ++ x.fields ∷ []) = grind (arith, length-append) in
+        let on =
+        log_given (rs ++ x.fields ∷ []) (dos ++ o ∷ []) run.1.0 x.replacement h.2.0 h.2.2.0 now one.0.1 one.2 h.2.2.1 in
+        rw (← append_assoc rs (x.fields ∷ []) (records_taken xs), ← append_assoc dos (o ∷ []) os)
+        (log_exchanged xs es h.2.2.0 b (rs ++ x.fields ∷ []) (dos ++ o ∷ []) run.1.0 u os grown on
+        (omega (arith, run.0), run.1.2) h.2.2.2)
+    log_exchanged [] es m b rs dos t u (o ∷ os) size a run h = absurd run.1
+    log_exchanged (x ∷ xs) es m b rs dos t u [] size a run h = absurd (omega (arith, run.0))
 
   -- ---- whole runs
 
@@ -223,24 +195,22 @@ module _ {S W J : Type 0} (left : S → List (List Field) → Type 0) (contents 
     Now s rs os t unwritten m = Reaches a b s rs os t unwritten m
 
     reached : (es : List Event) (x : Exchanged Happens a b es) (s t : State) (os : List Outcome) →
-        map answer_of os ≡ x.answers → OutcomesCompacted s x.records os x.replacements t → Now s [] [] s [] a →
-        (n : Logged S J × Buffered W) × Now s x.records os t [] n × History Happens n es b
-    reached es x s t os answers run l =
-        log_exchanged (contents a.1.device) s x.records x.answers x.replacements es a b [] [] s t os refl answers x.each l run
-        x.history
+        AreExchanges s x.done os t → Now s [] [] s [] a
+        → (n : Logged S J × Buffered W) × Now s (records_taken x.done) os t [] n × History Happens n es b
+    reached es x s t os run l = log_exchanged (contents a.1.device) s x.done es a b [] [] s t os refl l run x.history
 
     with_rest : (s t : State) (rs rest : List (List Field)) (os : List Outcome) (unwritten : List ℕ) → all ≡ rs ++ rest →
         Now s rs os t unwritten b → Now s all os t unwritten b
     with_rest s t rs rest os unwritten is l =
         rw is (logs_longer j.stored j.may_leave contents (contents a.1.device) s rs rest os t unwritten b.0.gate b.1 l)
 
-    gives_whole : (end : Status) (h : RanIn Happens stop old a new b end) →
-        Gives (Whole a b) all h.x.records h.x.answers h.x.replacements
-    gives_whole end h s t rest os is claims run answers = (
+    gives_whole : (end : Status) (h : RanIn Happens stop old a new b end) → Gives (Whole a b) all h.x.done
+    gives_whole end h s t rest os is claims run = (
       claims,
       λ l.
-          let n = reached (last_events end) h.x s t os answers run l in
-          with_rest s t h.x.records rest os [] is (log_end (contents a.1.device) s end h.x.records os t n.0 b n.1 n.2),
+          let n = reached (last_events end) h.x s t os run l in
+          with_rest s t (records_taken h.x.done) rest os [] is
+          (log_end (contents a.1.device) s end (records_taken h.x.done) os t n.0 b n.1 n.2),
     )
 
     some_logs : (s u : State) (rs rest : List (List Field)) (os first late : List Outcome) (unwritten : List ℕ)
@@ -258,65 +228,48 @@ module _ {S W J : Type 0} (left : S → List (List Field) → Type 0) (contents 
         }
 
     one_event : (e : Event) (x : Exchanged Happens a b (e ∷ [])) (s t : State) (rest : List (List Field)) (os : List Outcome) →
-        map answer_of os ≡ x.answers → all ≡ x.records ++ rest → OutcomesCompacted s x.records os x.replacements t →
-        ((m n : Logged S J × Buffered W) → Now s x.records os t [] m → Happens m e n → Now s x.records os t [] n)
+        all ≡ records_taken x.done ++ rest → AreExchanges s x.done os t →
+        ((m n : Logged S J × Buffered W) → Now s (records_taken x.done) os t [] m → Happens m e n
+        → Now s (records_taken x.done) os t [] n)
         → Now s [] [] s [] a → LogsSome j.stored j.may_leave contents (contents a.1.device) s all os b.0.gate b.1
-    one_event e x s t rest os answers is run goes l =
-        let n = reached (e ∷ []) x s t os answers run l in
-        some_logs s t x.records rest os os [] [] n.2.0 is (sym (append-nil os)) n.2.2 (goes n.0 n.2.0 n.1 n.2.1)
+    one_event e x s t rest os is run goes l =
+        let n = reached (e ∷ []) x s t os run l in
+        some_logs s t (records_taken x.done) rest os os [] [] n.2.0 is (sym (append-nil os)) n.2.2 (goes n.0 n.2.0 n.1 n.2.1)
 
-    -- the outcomes before the last one, and the log before its record was taken
-    record Before (x : List (List Field)) (s t : State) (r : List Field) (ws : List Answer) (w : Answer)
-        (os : List Outcome) (es : List Event) : Type 0 where
-      of : LastOf os ws w
-      size : length of.0 ≡ length x
-      middle : State
-      one : SoundOutcome middle r of.1 t
-      reach : Logged S J × Buffered W
-      logs : Now s x of.0 middle [] reach
-      more : History Happens reach es b
-
-    before_last : (es : List Event) (x : Exchanged Happens a b es) (s t : State) (r : List Field) (w : Answer)
-        (os : List Outcome) → map answer_of os ≡ x.answers ++ w ∷ []
-        → OutcomesCompacted s (x.records ++ r ∷ []) os (x.replacements ++ Unasked ∷ []) t → Now s [] [] s [] a →
-        Before x.records s t r x.answers w os es
-    before_last es x s t r w os answers run l =
-        let o = last_of os x.answers w answers in
-        let short : length o.0 ≡ length x.records = sym (length-map o.0 answer_of) ∙ ap length o.3 ∙ x.each in
-        let two = compacted_split s t x.records r o.0 o.1 x.replacements short x.each_replacement
-        (subst (λ (p : List Outcome). OutcomesCompacted s (x.records ++ r ∷ []) p (x.replacements ++ Unasked ∷ []) t) o.2 run) in
-        let n = reached es x s two.0 o.0 o.3 two.1 l in
-        record { of = o; size = short; middle = two.0; one = two.2; reach = n.0; logs = n.1; more = n.2 }
-
-    gives_part : (e : RunFault) (h : CutIn Happens stop old a new b e) →
-        Gives (Part a b) all (cut_parts h).0 (cut_parts h).1 (cut_parts h).2
-    gives_part e (In_taking of x answered) s t rest os is claims run answers = (
+    gives_part : (e : RunFault) (h : CutIn Happens stop old a new b e) → Gives (Part a b) all (exchanges_cut h)
+    gives_part e (In_taking of x answered) s t rest os is claims run = (
       claims,
-      one_event (Not_taken e) x s t rest os answers is run (λ m n now h.
-          log_untouched (contents a.1.device) s x.records os t m n h.0 now h.1 h.2.untouched h.2.waits),
+      one_event (Not_taken e) x s t rest os is run (λ m n now h.
+          log_untouched (contents a.1.device) s (records_taken x.done) os t m n h.0 now h.1 h.2.untouched h.2.waits),
     )
-    gives_part e (runs.Not_sent write x answered) s t rest os is claims run answers = (
+    gives_part e (runs.Not_sent write x answered) s t rest os is claims run = (
       claims,
-      one_event Not_sent x s t rest os answers is run (λ m n now h. log_passes (contents a.1.device) s x.records os t m n now h.1),
+      one_event Not_sent x s t rest os is run
+          (λ m n now h. log_passes (contents a.1.device) s (records_taken x.done) os t m n now h.1),
     )
-    gives_part e (Past_the_most many r x most answered) s t rest os is claims run answers =
-        (claims, one_event (Took r) x s t rest os answers is run (log_took (contents a.1.device) s x.records os t r))
-    gives_part e (No_text memory r w x answered) s t rest os is claims run answers = (
+    gives_part e (Past_the_most many r x most answered) s t rest os is claims run =
+        (claims, one_event (Took r) x s t rest os is run (log_took (contents a.1.device) s (records_taken x.done) os t r))
+    gives_part e (No_text memory r w x answered) s t rest os is claims run = (
       claims,
       λ l.
-          let n = before_last (Took r ∷ []) x s t r w os answers run l in
-          some_logs s n.middle x.records (r ∷ rest) os n.of.0 (n.of.1 ∷ []) [] n.more.0
-          (is ∙ append_assoc x.records (r ∷ []) rest) n.of.2 n.more.2
-          (log_took (contents a.1.device) s x.records n.of.0 n.middle r n.reach n.more.0 n.logs n.more.1),
+          let k = last_step s t x.done (unwritten r w) os run in
+          let n = reached (Took r ∷ []) x s k.2 k.0 k.4 l in
+          some_logs s k.2 (records_taken x.done) (r ∷ rest) os k.0 (k.1 ∷ []) [] n.2.0
+          (is ∙ ap (λ (rs : List (List Field)). rs ++ rest) (more_taken x.done (unwritten r w))
+          ∙ append_assoc (records_taken x.done) (r ∷ []) rest) k.3 n.2.2
+          (log_took (contents a.1.device) s (records_taken x.done) k.0 k.2 r n.0 n.2.0 n.1 n.2.1),
     )
-    gives_part e (In_text write r front late accepts some x answered) s t rest os is claims run answers = (
+    gives_part e (In_text write r front late accepts some x answered) s t rest os is claims run = (
       claims,
       λ l.
-          let n = before_last (Took r ∷ Cut front late accepts ∷ []) x s t r (front ++ late, accepts) os answers run l in
-          some_logs s t (x.records ++ r ∷ []) rest os os [] late n.more.2.0 is (sym (append-nil os)) n.more.2.2
-          (subst (λ (p : List Outcome). Now s (x.records ++ r ∷ []) p t late n.more.2.0) (sym n.of.2)
-          (log_cut (contents a.1.device) s x.records n.of.0 n.middle t r n.of.1 front late accepts n.reach n.more.0 n.more.2.0
-          n.size n.logs n.one n.of.4 n.more.1 n.more.2.1)),
+          let last = unwritten r (front ++ late, accepts) in
+          let k = last_step s t x.done last os run in
+          let n = reached (Took r ∷ Cut front late accepts ∷ []) x s k.2 k.0 k.4 l in
+          some_logs s t (records_taken x.done ++ r ∷ []) rest os os [] late n.2.2.0
+          (is ∙ ap (λ (rs : List (List Field)). rs ++ rest) (more_taken x.done last)) (sym (append-nil os)) n.2.2.2
+          (subst (λ (p : List Outcome). Now s (records_taken x.done ++ r ∷ []) p t late n.2.2.0) (sym k.3)
+          (log_cut (contents a.1.device) s (records_taken x.done) k.0 k.2 t r k.1 front late accepts n.0 n.2.0 n.2.2.0
+          (k.4.0 ∙ sym (taken_length x.done)) n.1 k.5.0 k.5.1 n.2.1 n.2.2.1)),
     )
 
 -- ---- from the start to the end
@@ -402,7 +355,7 @@ module _ {S W J : Type 0} (left : S → List (List Field) → Type 0) (contents 
       old records (written contents a.1) new (written contents q) (once_sent r s)
   lasting stop old new source r s of all unsent base ran cut records begins =
       let run =
-      on_records_as (left_of left contents j) (written_of left contents j) (Happens left contents j) (log_sees left contents j)
+      on_records (left_of left contents j) (written_of left contents j) (Happens left contents j) (log_sees left contents j)
       stop old new a b (Whole left contents j a b) (Part left contents j a b)
       (gives_whole left contents j stop old new a b) (gives_part left contents j stop old new a b) records r base
       (subst (λ (x : S). IfSome records (left x)) (sym of) begins) ran cut in

@@ -1,37 +1,19 @@
 -- The log of a run, record by record.
-use Rattle.olr_run.proofs.Common.{Outcome, Field, read, outcome_text, SoundOutcome, SoundOutcomes, texts}
-use Rattle.olr_run.proofs.Common.{run_longer, run_more, append-nil, append_assoc, Known, CommandOutcome}
-use Rattle.std.proofs.Common.{◌≡◌, ◌∙◌, ℕ, Bool, true, false, List, [], ◌∷◌, ◌++◌, length, Option, Some, None}
-use Rattle.std.proofs.Common.{Ok, Err, inl, inr, refl, sym, ap, subst}
-use Rattle.std.specs.Prelude.{if◌then◌else◌, is_ok, is_some}
-use Rattle.std.specs.List.{concat, join_with_byte}
-use Rattle.std.proofs.KnownBytes.{Appends-trans}
-use Rattle.std.proofs.lemmas.List.Concat.{flat_map-append}
-use Rattle.olr_commands.specs.State.{Content, Change, Command, Make, Begin, Commit, Abort}
-use Rattle.olr_commands.specs.State.{State, Fault, after, step_in, start_state, IsContent}
-use Rattle.olr_commands.proofs.StateLemmas.{Ends, ends}
-use Rattle.olr_input.specs.declared.unstored.Effect.{Effect}
-use Rattle.olr_commands.specs.RecordText.{fields_line}
-use Rattle.olr_commands.specs.Reply.{Reply}
-use Rattle.olr_records.specs.Records.{Read}
-use Rattle.olr_run.specs.Logged.{closed, Leads, LeadsFrom, UpTo, Survives}
-use Rattle.olr_run.specs.Runs.{answer_of}
+use Rattle.olr_run.proofs.Common.{Outcome, Field, read, outcome_text, SoundOutcome, SoundOutcomes, texts, run_longer, run_more}
+use Rattle.olr_run.proofs.Common.{append-nil, append_assoc, Known, CommandOutcome, ◌≡◌, ◌∙◌, ℕ, Bool, true, false, List, []}
+use Rattle.olr_run.proofs.Common.{◌∷◌, ◌++◌, length, Option, Some, None, Ok, Err, inl, inr, refl, sym, ap, subst, if◌then◌else◌}
+use Rattle.olr_run.proofs.Common.{is_ok, is_some, concat, join_with_byte, Appends-trans, flat_map-append, Content, Change}
+use Rattle.olr_run.proofs.Common.{Command, Make, Begin, Commit, Abort, State, Fault, after, step_in, start_state, IsContent}
+use Rattle.olr_run.proofs.Common.{Ends, ends, Effect, fields_line, Reply, Read, closed, Leads, LeadsFrom, UpTo, Survives}
+use Rattle.olr_run.proofs.Common.{answer_of, pending, is_closed, ready, Untouched, Passes, dump_lines, IsFront, Only, is_empty}
+use Rattle.olr_run.proofs.Common.{Waiting, effect_of, has_line, Concludes, Answer, Appends, waiting, next_line, Buffered, Gate}
+use Rattle.olr_input.specs.Gates.{batch, Storing, None_sent, None_ready, All_stored, Cut_off, Replacement, Replaced}
+use Rattle.olr_input.specs.Gates.{Left_as_it_was, Compacts}
+use Rattle.olr_input.specs.StoredLines.{stored_line, line_if, line_of, concluded}
 use Rattle.olr_run.proofs.Accepting.{leads_join, one_leads}
 use Rattle.olr_run.proofs.Plain.{effect_for, effect_is}
 use Rattle.olr_run.proofs.Restoring.{holding, make_closed, make_held}
-use Rattle.olr_input.specs.Buffers.{pending}
-use Rattle.olr_input.specs.Gates.{is_closed, ready, batch, Untouched, Storing, None_sent, None_ready, All_stored}
-use Rattle.olr_input.specs.Gates.{Cut_off, Passes, Replacement, Replaced, Left_as_it_was, Compacts}
-use Rattle.olr_commands.specs.Dump.{dump_lines}
 use Rattle.olr_run.proofs.Dumped.{dump_leads}
-use Rattle.olr_input.specs.Journals.{IsFront, Only, is_empty}
-use Rattle.olr_input.specs.StoredLines.{Waiting, effect_of, stored_line, has_line, line_if, line_of, concluded}
-use Rattle.olr_input.specs.LoggedRuns.{Concludes}
-use Rattle.olr_input.specs.Sessions.{Answer}
-use Rattle.std.specs.Io.KnownBytes.{Appends}
-use Rattle.olr_input.specs.Unstored.{waiting, next_line}
-use Rattle.olr_input.specs.declared.buffered.Buffered.{Buffered}
-use Rattle.olr_input.specs.declared.gate.Gate.{Gate}
 use Rattle.olr_input.specs.declared.journal.Journal as journal
 
 -- ---- what is known of the log of a run at any moment

@@ -1,25 +1,14 @@
 -- A log that is rejected leads to no content.
-use Rattle.olr_run.proofs.Common.{Field, records_of}
-use Rattle.std.proofs.Common.{◌≡◌, ◌∙◌, ◌≤◌, ℕ, Bool, true, false, List, length, Option}
-use Rattle.std.proofs.Common.{Some, None, Ok, Err, refl, sym, subst, arith, eqb-true}
-use Rattle.std.specs.Prelude.{◌==◌, nat_le}
-use Rattle.std.proofs.lemmas.Bool.Decides.{nat_tests}
-use Rattle.olr_commands.specs.State.{Change, Command, Content, Make, Begin, Commit, Memory, State, Fault, after, full, step, with_change, with_held}
-use Rattle.olr_commands.proofs.StateLemmas.{ends}
+use Rattle.olr_run.proofs.Common.{Field, records_of, ◌≡◌, ◌∙◌, ◌≤◌, ℕ, Bool, true, false, List, length, Option, Some, None, Ok}
+use Rattle.olr_run.proofs.Common.{Err, refl, sym, subst, arith, eqb-true, ◌==◌, nat_le, nat_tests, Change, Command, Content}
+use Rattle.olr_run.proofs.Common.{Make, Begin, Commit, Memory, State, Fault, after, full, step, with_change, with_held, ends}
+use Rattle.olr_run.proofs.Common.{IsChange, IsLogged, closed, InPlace, LeadsNowhere, Loads, NeverChanges, Refuses}
+use Rattle.olr_run.proofs.Common.{RefusesRecord, command_of, kind_by, Loader, left_of, HasNone, TakesOne, InMemory}
 use Rattle.olr_register.specs.BatchChanges.{ByContent, Lacks, MayReport}
-use Rattle.olr_register.specs.Built.{IsChange}
-use Rattle.olr_run.proofs.Restoring.{Loading, holding}
-use Rattle.olr_run.specs.Logged.{IsLogged, closed}
-use Rattle.olr_run.specs.Restored.{InPlace, LeadsNowhere, Loads, NeverChanges, Refuses, RefusesRecord}
 use Rattle.olr_commands.specs.declared.command.Command.{Command as Rust}
+use Rattle.olr_run.proofs.Restoring.{Loading, holding}
 use Rattle.olr_commands.specs.declared.command.Command.TheVariants as rust
-use Rattle.olr_run.proofs.Common.{command_of}
-use Rattle.olr_run.specs.Restored.{kind_by}
 use Rattle.olr_run.specs.declared.loader.Kind.TheVariants as kind
-use Rattle.olr_run.specs.declared.loader.Loader.{Loader}
-use Rattle.olr_input.specs.InMemory.{left_of}
-use Rattle.olr_input.specs.Sessions.{HasNone, TakesOne}
-use Rattle.olr_input.specs.declared.in_memory.InMemory.{InMemory}
 
 -- ---- one command
 

@@ -1,10 +1,6 @@
 -- The records of a register.
-use Rattle.olr_run.proofs.Common.{Registered}
-use Rattle.olr_input.specs.Sessions.{Given}
-use Rattle.std.proofs.Common.{◌≡◌, ◌∙◌, ◌⊎◌, ℕ, List, inl, inr, sym, subst}
-use Rattle.olr_run.specs.LogEnds.{AreRecordsOf}
-use Rattle.olr_run.specs.Logged.{closed}
-use Rattle.olr_run.specs.Runs.{AreReplacement}
+use Rattle.olr_run.proofs.Common.{Registered, Given, ◌≡◌, ◌∙◌, ◌⊎◌, ℕ, List, inl, inr, sym, subst, AreRecordsOf, closed}
+use Rattle.olr_run.proofs.Common.{AreReplacement}
 
 pub records_of_replacement : (r : Registered) (text : List ℕ) → AreReplacement r (Given text) → AreRecordsOf r text
 records_of_replacement r text a c represents = (a (closed c) represents).1

@@ -1,21 +1,10 @@
 -- The text of a report, from what is published of each path, and what a report answers to a record.
-use Rattle.olr_run.proofs.Common.{length-map, append-nil, append_assoc, count_line, fault_text, outcome_text}
-use Rattle.olr_run.proofs.Common.{Field, read, Outcome, IsOutcome, RecordOutcome, SoundOutcome, may_lack, Represents}
-use Rattle.olr_run.proofs.Common.{Registered, is_ok}
-use Rattle.std.proofs.Common.{◌≡◌, ◌≢◌, ℕ, Bool, List, [], ◌∷◌, ◌++◌, length, map, refl, ap, ◌∙◌, suc, subst, sym}
-use Rattle.std.proofs.Common.{arith, IsTrue, Result, Ok, Err, Option, Some, inl, true, false}
-use Rattle.std.proofs.lemmas.Bool.{ne_eqb}
-use Rattle.std.specs.List.{concat}
-use Rattle.std.specs.Option.{option_map_or}
-use Rattle.olr_spec.specs.Map.{Map}
-use Rattle.olr_spec.specs.Margins.{Margin}
-use Rattle.olr_spec.specs.Encoding.{Refusal}
-use Rattle.olr_commands.specs.State.{Named, Content, IsContent, State, Memory, Report}
-use Rattle.olr_commands.specs.Reply.{Entry, Paths, AllOf, Lacks, entry, published_text}
-use Rattle.olr_paths.specs.Items.{Made}
-use Rattle.olr_records.specs.ReplyText.{entry_line}
-use Rattle.olr_register.specs.Registered.{HaveEncodings, AllPublished}
-use Rattle.olr_run.specs.Runs.{IsReport}
+use Rattle.olr_run.proofs.Common.{length-map, append-nil, append_assoc, count_line, fault_text, outcome_text, Field, read}
+use Rattle.olr_run.proofs.Common.{Outcome, IsOutcome, RecordOutcome, SoundOutcome, may_lack, Represents, Registered, is_ok, ◌≡◌}
+use Rattle.olr_run.proofs.Common.{◌≢◌, ℕ, Bool, List, [], ◌∷◌, ◌++◌, length, map, refl, ap, ◌∙◌, suc, subst, sym, arith, IsTrue}
+use Rattle.olr_run.proofs.Common.{Result, Ok, Err, Option, Some, inl, true, false, ne_eqb, concat, option_map_or, Map, Margin}
+use Rattle.olr_run.proofs.Common.{Refusal, Named, Content, IsContent, State, Memory, Report, Entry, Paths, AllOf, Lacks, entry}
+use Rattle.olr_run.proofs.Common.{published_text, Made, entry_line, HaveEncodings, AllPublished, IsReport}
 
 -- ---- the text
 

@@ -1,25 +1,13 @@
 -- The records of a log, whose changes are made as they come.
-use Rattle.olr_run.proofs.Common.{Represents, Registered, command_of}
-use Rattle.std.proofs.Common.{◌≡◌, ◌∙◌, ◌+◌, ◌<◌, ℕ, true, false, List, [], ◌∷◌, ◌++◌, length, Option, Some}
-use Rattle.std.proofs.Common.{None, Ok, refl, sym, ap, subst, arith, length-append, eq-eqb}
-use Rattle.std.specs.Prelude.{◌==◌, nat_le}
-use Rattle.std.proofs.lemmas.Bool.Decides.{nat_tests}
-use Rattle.olr_commands.specs.State.{Content, Change, Command, Make, Begin, Commit, State, with_change, after}
-use Rattle.olr_commands.specs.State.{step, full, start_state}
-use Rattle.olr_commands.proofs.StateLemmas.{next_ok, after_push}
-use Rattle.olr_run.specs.Logged.{Accepted, IsLogged, closed}
-use Rattle.olr_register.specs.Built.{Changes, IsChange}
-use Rattle.olr_run.specs.Restored.{HasContentOf, Loads, Loaded, LoadsRecord, IsKind, kind_by}
-use Rattle.olr_run.proofs.Accepting.{accepted_next}
+use Rattle.olr_run.proofs.Common.{Represents, Registered, command_of, ◌≡◌, ◌∙◌, ◌+◌, ◌<◌, ℕ, true, false, List, [], ◌∷◌, ◌++◌}
+use Rattle.olr_run.proofs.Common.{length, Option, Some, None, Ok, refl, sym, ap, subst, arith, length-append, eq-eqb, ◌==◌}
+use Rattle.olr_run.proofs.Common.{nat_le, nat_tests, Content, Change, Command, Make, Begin, Commit, State, with_change, after}
+use Rattle.olr_run.proofs.Common.{step, full, start_state, next_ok, after_push, Accepted, IsLogged, closed, Changes, IsChange}
+use Rattle.olr_run.proofs.Common.{HasContentOf, Loads, Loaded, LoadsRecord, IsKind, kind_by, Kind, Loader, Field, records_of}
+use Rattle.olr_run.proofs.Common.{left_of, HasNone, TakesOne, InMemory}
 use Rattle.olr_commands.specs.declared.command.Command.{Command as Rust}
+use Rattle.olr_run.proofs.Accepting.{accepted_next}
 use Rattle.olr_commands.specs.declared.command.Command.TheVariants as rust
-use Rattle.olr_run.specs.declared.loader.Kind.{Kind}
-use Rattle.olr_run.specs.declared.loader.Loader.{Loader}
-use Rattle.olr_records.specs.Records.{Field}
-use Rattle.olr_run.specs.Output.{records_of}
-use Rattle.olr_input.specs.InMemory.{left_of}
-use Rattle.olr_input.specs.Sessions.{HasNone, TakesOne}
-use Rattle.olr_input.specs.declared.in_memory.InMemory.{InMemory}
 
 -- a state whose batch holds these changes
 abbrev pub holding : Content → List Change → State

@@ -1,10 +1,7 @@
 -- Runs.
-use Rattle.olr_run.proofs.Common.{Outcome, Field, read, CommandOutcome, SoundOutcome, SoundOutcomes, Claims}
-use Rattle.olr_run.proofs.Common.{outcome_leads, is_named, is_refused, is_dumped, Claimed, headline_of}
-use Rattle.std.proofs.Common.{rules, List, [], ◌∷◌, Option, None, Some, Ok, Err, refl, subst, arith}
-use Rattle.olr_commands.specs.State.{IsContent, State, Command}
-use Rattle.olr_records.specs.Records.{Read}
-use Rattle.olr_run.specs.Output.{OutOfMemory, decoded_command}
+use Rattle.olr_run.proofs.Common.{Outcome, Claims, is_named, is_refused, is_dumped, Claimed, IsContent, Command, OutOfMemory}
+use Rattle.olr_run.proofs.Common.{Field, read, rules, List, [], Option, None, Some, Ok, Err, refl, subst, arith, State, Read}
+use Rattle.olr_run.proofs.Common.{CommandOutcome, SoundOutcome, SoundOutcomes, outcome_leads, headline_of, ◌∷◌, decoded_command}
 use Rattle.std.specs.Result.{result_ok}
 use Rattle.olr_run.proofs.Dumping.{dumps_of}
 

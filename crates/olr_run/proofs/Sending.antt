@@ -1,15 +1,9 @@
 -- The end of a run once its answers were sent, or could not be, with what is known of its outcomes from more.
-use Rattle.olr_run.proofs.Common.{Field, Keeps, Known, LeadsOn, Outcome, Records, RanOn, FaultedOn, Registered}
-use Rattle.olr_run.proofs.Common.{EndedOn, IfErr, RunFault, exit_code, status_of}
-use Rattle.olr_run.specs.Runs.{once_sent}
-use Rattle.std.specs.Prelude.{OnOk}
-use Rattle.std.proofs.Common.{◌≡◌, ◌≤◌, ℕ, Bool, List, None, Some, Result, Ok, Err, arith}
-use Rattle.std.proofs.KnownBytes.{Appends-kept}
-use Rattle.olr_commands.specs.State.{State}
-use Rattle.olr_run.specs.Output.{Faulted, Ran}
+use Rattle.olr_run.proofs.Common.{Field, Keeps, Known, LeadsOn, Outcome, Records, RanOn, FaultedOn, Registered, EndedOn, IfErr}
+use Rattle.olr_run.proofs.Common.{RunFault, exit_code, status_of, once_sent, OnOk, ◌≡◌, ◌≤◌, ℕ, Bool, List, None, Some, Result}
+use Rattle.olr_run.proofs.Common.{Ok, Err, arith, Appends-kept, State, Faulted, Ran, Status}
 use Rattle.olr_run.specs.Output as output
 use Rattle.olr_input.specs.declared.ends.RunFault.TheVariants as fault
-use Rattle.olr_input.specs.declared.ends.Status.{Status}
 
 -- what is known of the outcomes gives more
 abbrev pub Then : (State → List (List Field) → List Outcome → State → Type 0) →

@@ -4,11 +4,11 @@
 --     Explains kinds before later code      the same by clap's kinds of error: arguments with these kinds are answered
 --         with help, the version or a fault
 --     Shows      a text is written
-use Rattle.std.specs.Prelude.{◌≡◌, ℕ, Bool, true, false, List, ◌++◌, Result, Ok, Err, None, ◌⊎◌, IfSome}
+use Rattle.std.specs.Prelude.{◌≡◌, ℕ, List, ◌++◌, Result, Ok, Err, None, ◌⊎◌, IfSome}
 use Rattle.std.specs.Io.KnownBytes.{Appends}
-use Rattle.clap.specs.Kinds.{Kinds, IsAmong}
-use Rattle.clap.specs.declared.error.kind.ErrorKind.{ErrorKind}
-use Rattle.olr_run.specs.Options.{is_asked_for}
+use Rattle.clap.specs.Kinds.{Kinds}
+use Rattle.clap.specs.declared.error.Error.{Error}
+use Rattle.olr_run.specs.Options.{IsOptionsFault}
 use Rattle.olr_run.specs.declared.arguments.OptionsFault.{OptionsFault}
 use Rattle.olr_run.specs.declared.arguments.OptionsFault.TheVariants as opts
 use Rattle.olr_input.specs.Sessions.{Known}
@@ -31,24 +31,15 @@ Shows text before later (Err fault.Write) = AddsFront text before later
 Shows text before later (Err fault.Memory) = later ≡ before
 Shows text before later (Err e) = ⊥
 
--- the same by the status: 0, 3 and 4
-abbrev pub IsShown : Known → Known → Known → ℕ → Type 0
-IsShown text before later code =
-    (Adds text before later × (code ≡ 0)) ⊎ (AddsFront text before later × (code ≡ 3))
-    ⊎ ((later ≡ before) × (code ≡ 4))
-
--- what was asked for is written; a fault has status 2, and out of memory 4
+-- by the status: what was asked for is written, as above, with 0, 3 and 4; a fault has status 2, and out of memory 4
 abbrev pub ExplainsFault : {D : Type 0} → (D → Known) → OptionsFault D → Known → Known → ℕ → Type 0
-ExplainsFault output (opts.Asked e) before later code = IsShown (output e) before later code
+ExplainsFault output (opts.Asked e) before later code =
+    (Adds (output e) before later × (code ≡ 0)) ⊎ (AddsFront (output e) before later × (code ≡ 3))
+    ⊎ ((later ≡ before) × (code ≡ 4))
 ExplainsFault output (opts.Wrong e) before later code = (later ≡ before) × (code ≡ 2)
 ExplainsFault output opts.Memory before later code = (later ≡ before) × (code ≡ 4)
 
-abbrev pub HasKind : Kinds → Bool → Type 0
-HasKind kinds asked = (k : ErrorKind) × IsAmong k kinds × (is_asked_for k ≡ asked)
-
 -- the text of clap's error has no definition
-pub data Explains (kinds : Kinds) (before later : Known) (code : ℕ) : Type 0 where
-  Shown : HasKind kinds true → Adds None before later → code ≡ 0 → Explains kinds before later code
-  Not_shown : HasKind kinds true → AddsFront None before later → code ≡ 3 → Explains kinds before later code
-  Wrong_arguments : HasKind kinds false → later ≡ before → code ≡ 2 → Explains kinds before later code
-  No_memory : later ≡ before → code ≡ 4 → Explains kinds before later code
+abbrev pub Explains : Kinds → Known → Known → ℕ → Type 0
+Explains kinds before later code =
+    (fault : OptionsFault Error) × IsOptionsFault kinds fault × ExplainsFault (λ _. None) fault before later code

@@ -35,29 +35,17 @@ with_short letter r = record r { short = Some letter }
 abbrev pub with_long : List ℕ → Rule → Rule
 with_long name r = record r { long = Some name }
 
-abbrev pub file_rule : Rule
-file_rule = with_short 109 (value_rule (codes "file"))
-
-abbrev pub stop_rule : Rule
-stop_rule = with_short 115 (flag_rule (codes "stop"))
-
-abbrev pub lines_rule : Rule
-lines_rule = with_long (codes "lines") (flag_rule (codes "lines"))
-
-abbrev pub log_rule : Rule
-log_rule = with_short 108 (value_rule (codes "log"))
-
-abbrev pub new_log_rule : Rule
-new_log_rule = with_long (codes "new") (flag_rule (codes "new"))
-
-abbrev pub size_rule : Rule
-size_rule = with_long (codes "compact-at") (value_rule (codes "compact-at"))
-
 abbrev pub keep_app : App
 keep_app =
     with_rule
-    (with_rule (with_rule (with_rule (with_rule (with_rule described_app file_rule) stop_rule) lines_rule) log_rule) new_log_rule)
-    size_rule
+    (with_rule
+    (with_rule
+    (with_rule
+    (with_rule (with_rule described_app (with_short 109 (value_rule (codes "file")))) (with_short 115 (flag_rule (codes "stop"))))
+    (with_long (codes "lines") (flag_rule (codes "lines"))))
+    (with_short 108 (value_rule (codes "log"))))
+    (with_long (codes "new") (flag_rule (codes "new"))))
+    (with_long (codes "compact-at") (value_rule (codes "compact-at")))
 
 -- the size at which a log is compacted is as it was written
 pub record Options : Type 0 where

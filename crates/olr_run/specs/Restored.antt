@@ -3,8 +3,7 @@
 --         content, with no batch open at the end
 --     HasContentOf text register, LeadsNowhere text      the register has this content, or there is none
 --     NeverChanges old c      the change that command c makes is not accepted
---     content_now s      the content once the held changes of the log's batch are made
---     Loads l s      the records so far lead to this state, and the loader has its content now
+--     Loads l s      the records so far lead to this state, and the loader has its content once the held changes are made
 --     Loaded old c new      this command of a log is accepted
 --     is_rejection fault      a log is rejected for it, whatever memory there is
 --     Refuses l c, RefusesRecord l fields      this command of a log, or a record, is accepted in no state that the loader stands for
@@ -37,15 +36,12 @@ LeadsNowhere text = (c : Content) → IsContentOf text c → ⊥
 abbrev pub NeverChanges : Content → Command → Type 0
 NeverChanges old c = (x : Change) → c ≡ Make x → (d : Content) → with_change old x ≡ Ok d → ⊥
 
-abbrev pub content_now : State → Content
-content_now s = with_held s.content s.batch
-
 abbrev pub InPlace : Loader → Option (List Change) → Type 0
 InPlace l None = l.in_batch ≡ false
 InPlace l (Some xs) = (l.in_batch ≡ true) × (l.count ≡ length xs)
 
 pub record Loads (l : Loader) (s : State) : Type 0 where
-  pub content : l.building ≡ content_now s
+  pub content : l.building ≡ with_held s.content s.batch
   pub place : InPlace l s.batch
 
 abbrev pub Loaded : Loader → Command → Loader → Type 0

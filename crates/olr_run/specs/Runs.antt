@@ -2,17 +2,19 @@
 --     CarriedOut old fields new r      the effect of a record on the register, and its answer
 --     AnswersRecord      the same, and its text was written
 --     IsReplacement t replacement      the records that were given are those of the content
+--     Exchange      a record that was taken, its answer, and the records that were then given
 --     Exchanged      the history of a session: each record was taken and answered before the next
 --     RanIn, CutIn      a run in a session
 --     records_read single file input      the records of a file followed by those of the input, one a line or not
 --     LeadsOn, RanOn, FaultedOn, EndedOn      a run over known records
 use Rattle.std.specs.Prelude.{◌≡◌, ◌≢◌, ℕ, ◌<◌, Bool, ◌&&◌, List, [], ◌∷◌, ◌++◌, length, map, Option, Some, None}
-use Rattle.std.specs.Prelude.{Result, Ok, Err, IfSome, is_ok, IsFalse, ◌⊎◌, ⊤}
+use Rattle.std.specs.Prelude.{Result, Ok, Err, IfSome, is_ok, flat_map, IsFalse, ◌⊎◌, ⊤}
 use Rattle.std.specs.Io.KnownBytes.{Appends}
 use Rattle.std.specs.List.{concat}
 use Rattle.std.specs.Option.{option_map_or}
 use Rattle.std.specs.Borrow.{Bor}
 use Rattle.olr_commands.specs.Dump.{dump_lines}
+use Rattle.olr_commands.specs.History.{Whole}
 use Rattle.olr_commands.specs.Reply.{Entry, Paths, AllOf, Outcome}
 use Rattle.olr_commands.specs.State.{IsContent, State, Fault}
 use Rattle.olr_commands.specs.Words.{reply_of}
@@ -26,7 +28,7 @@ use Rattle.olr_run.specs.Output.{SoundOutcome, Claims, StopsAtFault, any_refused
 use Rattle.olr_run.specs.Output.{most_records}
 use Rattle.olr_input.specs.Inputs.{input_records}
 use Rattle.olr_input.specs.Sessions.{Known, Event, Took, Ended, Not_taken, Wrote, Cut, Replacement, Unasked, Given, Lacking}
-use Rattle.olr_input.specs.Sessions.{Answer, Compacted, History, IsOfTaking, exchanges}
+use Rattle.olr_input.specs.Sessions.{Answer, Compacted, History, IsOfTaking}
 use Rattle.olr_input.specs.Sessions as event
 use Rattle.olr_input.specs.declared.ends.RunFault.{RunFault}
 use Rattle.olr_input.specs.declared.ends.RunFault.TheVariants as fault
@@ -96,23 +98,35 @@ status_of status.AllAccepted = output.All_accepted
 status_of status.SomeRefused = output.Some_refused
 status_of status.Stopped = output.Stopped
 
-abbrev pub OutcomesCompacted : State → List (List Field) → List Outcome → List Replacement → State → Type 0
-OutcomesCompacted s rs [] [] t = s ≡ t
-OutcomesCompacted s (r ∷ rs) (o ∷ os) (replacement ∷ replacements) t =
-    (mid : State) × SoundOutcome s r o mid × IsReplacement mid replacement × OutcomesCompacted mid rs os replacements t
-OutcomesCompacted s rs os replacements t = ⊥
+-- a record that was taken, its answer, and the records that were given after it, if they were asked for
+pub record Exchange : Type 0 where
+  pub fields : List Field
+  pub answer : Answer
+  pub replacement : Replacement
+
+abbrev pub records_taken : List Exchange → List (List Field)
+records_taken xs = map (λ x. x.fields) xs
+
+abbrev pub events_of : Exchange → List Event
+events_of x = Took x.fields ∷ Wrote x.answer ∷ Compacted x.replacement ∷ []
 
 -- the text of an outcome, and whether it accepts its record
 abbrev pub answer_of : Outcome → Answer
 answer_of o = (outcome_text o, is_ok o)
 
--- from each state that the register represented, these records have outcomes with these answers, and lead to a state that
--- it represents; after each of them the records of the content are given, if they are asked for
-abbrev pub AnsweredOn : Bool → (List Outcome → Type 0) → Registered → List (List Field) → List Answer →
-    List Replacement → Registered → Type 0
-AnsweredOn stop And old rs answers replacements new =
-    (s : State) → Represents old.state s → (t : State) × Represents new.state t × (os : List Outcome) × Claims s rs os t
-    × (map answer_of os ≡ answers) × StopsAtFault stop os × And os × OutcomesCompacted s rs os replacements t
+-- the record has this outcome, with this answer; the records that were given are those of the content
+abbrev pub IsExchange : State → Exchange → Outcome → State → Type 0
+IsExchange s x o t = SoundOutcome s x.fields o t × (answer_of o ≡ x.answer) × IsReplacement t x.replacement
+
+abbrev pub AreExchanges : State → List Exchange → List Outcome → State → Type 0
+AreExchanges s xs os t = Whole IsExchange s xs os t
+
+-- from each state that the register represented, the records of these exchanges have outcomes with their answers, and lead
+-- to a state that it represents; after each of them the records of the content are given, if they are asked for
+abbrev pub AnsweredOn : Bool → (List Outcome → Type 0) → Registered → List Exchange → Registered → Type 0
+AnsweredOn stop And old xs new =
+    (s : State) → Represents old.state s → (t : State) × Represents new.state t × (os : List Outcome)
+    × Claims s (records_taken xs) os t × AreExchanges s xs os t × StopsAtFault stop os × And os
 
 -- no event follows the rejected record that stops the run; otherwise there is no further record
 abbrev pub last_events : Status → List Event
@@ -121,42 +135,36 @@ last_events _ = Ended ∷ []
 
 -- each record was taken, and its answer written before the next; and then there were these events
 pub record Exchanged {S : Type 0} (happens : S → Event → S → Type 0) (before later : S) (es : List Event) : Type 0 where
-  pub records : List (List Field)
-  pub answers : List Answer
-  pub replacements : List Replacement
-  pub each : length answers ≡ length records
-  pub each_replacement : length replacements ≡ length records
-  pub history : History happens before (exchanges records answers replacements ++ es) later
+  pub done : List Exchange
+  pub history : History happens before (flat_map events_of done ++ es) later
 
 pub record RanIn {S : Type 0} (happens : S → Event → S → Type 0) (stop : Bool) (old : Registered) (before : S)
     (new : Registered) (later : S) (end : Status) : Type 0 where
   pub x : Exchanged happens before later (last_events end)
-  pub answered : AnsweredOn stop (λ os. status_of end ≡ run_status stop os) old x.records x.answers x.replacements new
+  pub answered : AnsweredOn stop (λ os. status_of end ≡ run_status stop os) old x.done new
 
 abbrev pub GoesOn : Bool → List Outcome → Type 0
 GoesOn stop os = IsFalse (stop && any_refused os)
+
+-- of a record whose answer was not written
+abbrev pub unwritten : List Field → Answer → Exchange
+unwritten r answer = record { fields = r; answer = answer; replacement = Unasked }
 
 -- the same, up to a record that can't be taken, or before which the texts could not be sent, or one more than the
 -- greatest number; or up to a record whose text was not made, out of memory, or not written completely
 pub data CutIn {S : Type 0} (happens : S → Event → S → Type 0) (stop : Bool) (old : Registered) (before : S)
     (new : Registered) (later : S) (e : RunFault) : Type 0 where
   In_taking : IsOfTaking e → (x : Exchanged happens before later (Not_taken e ∷ [])) →
-      AnsweredOn stop (GoesOn stop) old x.records x.answers x.replacements new
-      → CutIn happens stop old before new later e
+      AnsweredOn stop (GoesOn stop) old x.done new → CutIn happens stop old before new later e
   Not_sent : e ≡ fault.Write → (x : Exchanged happens before later (event.Not_sent ∷ [])) →
-      AnsweredOn stop (GoesOn stop) old x.records x.answers x.replacements new
-      → CutIn happens stop old before new later e
+      AnsweredOn stop (GoesOn stop) old x.done new → CutIn happens stop old before new later e
   Past_the_most : e ≡ fault.TooMany → (r : List Field) (x : Exchanged happens before later (Took r ∷ [])) →
-      length x.records ≡ most_records
-      → AnsweredOn stop (GoesOn stop) old x.records x.answers x.replacements new
-      → CutIn happens stop old before new later e
+      length x.done ≡ most_records → AnsweredOn stop (GoesOn stop) old x.done new → CutIn happens stop old before new later e
   No_text : e ≡ fault.Memory → (r : List Field) (answer : Answer) (x : Exchanged happens before later (Took r ∷ [])) →
-      AnsweredOn stop (λ os. ⊤) old (x.records ++ r ∷ []) (x.answers ++ answer ∷ []) (x.replacements ++ Unasked ∷ []) new
-      → CutIn happens stop old before new later e
+      AnsweredOn stop (λ os. ⊤) old (x.done ++ unwritten r answer ∷ []) new → CutIn happens stop old before new later e
   In_text : e ≡ fault.Write → (r : List Field) (front rest : List ℕ) (accepts : Bool) → rest ≢ [] →
       (x : Exchanged happens before later (Took r ∷ Cut front rest accepts ∷ [])) →
-      AnsweredOn stop (λ os. ⊤) old (x.records ++ r ∷ []) (x.answers ++ (front ++ rest, accepts) ∷ [])
-      (x.replacements ++ Unasked ∷ []) new
+      AnsweredOn stop (λ os. ⊤) old (x.done ++ unwritten r (front ++ rest, accepts) ∷ []) new
       → CutIn happens stop old before new later e
 
 -- ---- runs over known records

@@ -3,21 +3,32 @@
 ghost use Rattle.std.specs.Prelude.{◌≡◌, ◌≢◌, ◌++◌, length, Ok, IfOk, OnOk, is_ok};
 ghost use Rattle.csv.specs.Records.{fields_of};
 ghost use Rattle.olr_commands.specs.State.{Report};
+ghost use Rattle.olr_commands.specs.Words.{outcome_of};
 ghost use Rattle.olr_records.specs.Records.{read};
 ghost use Rattle.olr_input.specs.Sessions.{Given};
-ghost use Rattle.olr_run.specs.Runs.{CarriedOut, IsReport, answer_text, WritesText, AnswersRecord, AreReplacement, CompactsFrom};
+ghost use Rattle.olr_run.specs.Runs.{CarriedOut, IsAnswer, IsReport, answer_text, WritesText, AnswersRecord, AreReplacement, CompactsFrom};
 
 use csv::ByteRecord;
 use olr_commands::{CommandFault, Reply};
 use olr_input::{RunFault, Session};
 use olr_records::{
     append_count, append_entry, append_reply, dump_text, fault_text, is_report, read_command,
-    read_fault_text,
+    read_fault_text, text_to_explain,
 };
 use olr_register::Register;
 use std::alloc::{AllocError, Global};
 
-/// Carries out the command of a record. Returns the reply, or the line of the fault.
+/// The reply to a command, or the line of its fault.
+fn reply_or_line(answer: Result<Reply, CommandFault>) -> Result<Reply, &'static str>
+    ensures { IsAnswer result (outcome_of answer) }
+{
+    match answer {
+        Ok(reply) => Ok(reply),
+        Err(fault) => Err(fault_text(fault)),
+    }
+}
+
+/// Carries out the command of a record, and doesn't copy the text of `explain`. Returns the reply, or the line of the fault.
 fn carry_out(
     alloc: Global,
     register: &mut Register,
@@ -25,11 +36,12 @@ fn carry_out(
 ) -> Result<Reply, &'static str>
     ensures { CarriedOut register.old (fields_of fields.now) register.new result }
 {
+    if let Some(text) = text_to_explain(fields) {
+        register.is_sound();
+        return reply_or_line(register.explain(text));
+    }
     match read_command(alloc, fields) {
-        Ok(command) => match register.apply(command) {
-            Ok(reply) => Ok(reply),
-            Err(fault) => Err(fault_text(fault)),
-        },
+        Ok(command) => reply_or_line(register.apply(command)),
         Err(fault) => Err(read_fault_text(fault)),
     }
 }

@@ -15,9 +15,6 @@ pub fn open_file<F: Drop, O: FnOnce(&str) -> io::Result<F>>(
 {
     match name {
         None => Ok(None),
-        Some(name) => match opener(name) {
-            Ok(file) => Ok(Some(file)),
-            Err(error) => Err(error),
-        },
+        Some(name) => opener(name).map(Some),
     }
 }

@@ -148,10 +148,7 @@ fn wipe_rest<D: Disk + Drop, G: Folder<D>>(log: &mut LogFile<D, G>) -> Result<()
     ensures cut { (t : List ℕ) → left_of log.new t → left_of log.old t ⊎ (t ≡ stored_of log.old) }
     ensures fails { IfErr result (λ e. is_rejected e ≡ false) }
 {
-    match log.wipe_rest() {
-        Ok(()) => Ok(()),
-        Err(error) => Err(log_fault(error)),
-    }
+    log.wipe_rest().map_err(log_fault)
 }
 
 /// Brings a log, from which the register was read, into the form in which records can be stored: what stands behind the

@@ -1,6 +1,4 @@
-use Rattle.olr_records.proofs.Common.{fields_of, ShapePoint, class, shape}
-use Rattle.std.proofs.Common.{rules, ℕ, ◌+◌, ◌<◌, List, drop, length}
-use Rattle.olr_records.specs.Records.{digits}
+use Rattle.olr_records.proofs.Common.{fields_of, ShapePoint, class, shape, rules, ℕ, ◌+◌, ◌<◌, List, drop, length, digits}
 use Rattle.olr_records.proofs.LoopLemmas.{at}
 use Rattle.olr_records.proofs.PartLemmas.{Part, Never, of_field, made, joins, passed_on}
 use Rattle.olr_records.proofs.attributes.attributes_at.Goals as goal

@@ -1,5 +1,4 @@
-use Rattle.olr_records.proofs.Common.{⊤, fields_of, ShapePoint, Read, shape, Gathers}
-use Rattle.std.proofs.Common.{◌≡◌, List, drop, length, ◌≤◌, ◌-◌}
+use Rattle.olr_records.proofs.Common.{⊤, fields_of, ShapePoint, Read, shape, Gathers, ◌≡◌, List, drop, length, ◌≤◌, ◌-◌}
 use Rattle.olr_records.proofs.LoopLemmas.{onto}
 use Rattle.olr_records.proofs.attributes.shape.Given as goal
 

@@ -1,6 +1,5 @@
-use Rattle.olr_records.proofs.Common.{fields_of, ShapePoint, Line, Edit, Add_line, Make, On_map, number, attributes}
-use Rattle.olr_records.proofs.Common.{line_between, HoldsList, LineAttributes, common_steps}
-use Rattle.std.proofs.Common.{rules, arith, ℕ, ◌<◌, List, drop, length}
+use Rattle.olr_records.proofs.Common.{fields_of, ShapePoint, attributes, line_between, HoldsList, LineAttributes, common_steps}
+use Rattle.olr_records.proofs.Common.{Line, Edit, Add_line, Make, On_map, number, rules, arith, ℕ, ◌<◌, List, drop, length}
 use Rattle.olr_records.proofs.LoopLemmas.{at}
 use Rattle.olr_records.proofs.PartLemmas.{Part, Never, of_field, made, joins, passed_on}
 use Rattle.olr_records.proofs.FormLemmas.{line-record}

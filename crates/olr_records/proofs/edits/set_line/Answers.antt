@@ -1,6 +1,5 @@
 use Rattle.olr_records.proofs.Common.{fields_of, ShapePoint, Edit, Set_line, Make, On_map, number, attributes, HoldsList}
-use Rattle.olr_records.proofs.Common.{LineAttributes}
-use Rattle.std.proofs.Common.{rules, arith, ℕ, ◌<◌, List, drop, length}
+use Rattle.olr_records.proofs.Common.{LineAttributes, rules, arith, ℕ, ◌<◌, List, drop, length}
 use Rattle.olr_records.proofs.LoopLemmas.{at}
 use Rattle.olr_records.proofs.PartLemmas.{Part, Never, of_field, made, joins, passed_on}
 use Rattle.olr_records.proofs.FormLemmas.{set-line-record}

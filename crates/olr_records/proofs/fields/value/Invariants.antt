@@ -1,5 +1,4 @@
-use Rattle.olr_records.proofs.Common.{list_all, is_ascii_digit, digits_value}
-use Rattle.std.proofs.Common.{◌≡◌, ◌^◌, true, take, min}
+use Rattle.olr_records.proofs.Common.{list_all, is_ascii_digit, digits_value, ◌≡◌, ◌^◌, true, take, min}
 use Rattle.olr_records.proofs.fields.value.Given as goal
 
 -- the bytes so far are digits, of this value, or of a value that does not fit 32 bits

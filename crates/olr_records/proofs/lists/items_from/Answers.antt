@@ -1,5 +1,4 @@
-use Rattle.olr_records.proofs.Common.{⊤, fields_of, Field, Read, Gathers, Reads, items}
-use Rattle.std.proofs.Common.{arith, refl, subst, drop, List, Ok, []}
+use Rattle.olr_records.proofs.Common.{⊤, fields_of, Field, Read, Gathers, Reads, items, arith, refl, subst, drop, List, Ok, []}
 use Rattle.std.proofs.lemmas.Fn.{says_at}
 use Rattle.olr_records.proofs.LoopLemmas.{at, with, nothing-onto, items-more, at_end}
 use Rattle.olr_records.proofs.lists.items_from.Goals as goal

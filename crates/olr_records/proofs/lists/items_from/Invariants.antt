@@ -1,5 +1,5 @@
-use Rattle.std.specs.Fn.{FnReturnsAt}
 use Rattle.olr_records.proofs.Common.{fields_of}
+use Rattle.std.specs.Fn.{FnReturnsAt}
 use Rattle.olr_records.proofs.LoopLemmas.{ItemsTo}
 use Rattle.olr_records.proofs.lists.items_from.Given as goal
 

@@ -1,5 +1,4 @@
-use Rattle.olr_records.proofs.Common.{Field, number, Reads}
-use Rattle.std.proofs.Common.{subst}
+use Rattle.olr_records.proofs.Common.{Field, number, Reads, subst}
 use Rattle.olr_records.proofs.paths.line_ids.Goals as goal
 
 pub returns : goal.returns

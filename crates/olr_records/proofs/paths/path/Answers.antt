@@ -1,6 +1,5 @@
-use Rattle.olr_records.proofs.Common.{⊤, fields_of, Path, Field, amount, name, numbers, Gathers}
-use Rattle.std.proofs.Common.{rules, arith, ℕ, List, drop, subst}
-use Rattle.std.specs.Prelude.{string_bytes}
+use Rattle.olr_records.proofs.Common.{⊤, fields_of, Path, Field, amount, name, numbers, Gathers, rules, arith, ℕ, List, drop}
+use Rattle.olr_records.proofs.Common.{subst, string_bytes}
 use Rattle.olr_records.proofs.LoopLemmas.{at}
 use Rattle.olr_records.proofs.PartLemmas.{Part, of_field, made, joins, passed_on}
 use Rattle.olr_records.proofs.FormLemmas.{path-fields}

@@ -1,5 +1,4 @@
-use Rattle.olr_records.proofs.Common.{Field, number, Reads}
-use Rattle.std.proofs.Common.{rules, subst}
+use Rattle.olr_records.proofs.Common.{Field, number, Reads, rules, subst}
 use Rattle.olr_records.proofs.questions.node_ids.Goals as goal
 
 pub returns : goal.returns

@@ -1,6 +1,4 @@
-use Rattle.olr_records.proofs.Common.{fields_of, numbers, Out_of_range, ◌⊛◌}
-use Rattle.std.proofs.Common.{◌≡◌, ℕ, List, drop, Err}
-use Rattle.olr_commands.specs.State.{Command}
+use Rattle.olr_records.proofs.Common.{fields_of, numbers, Out_of_range, ◌⊛◌, ◌≡◌, ℕ, List, drop, Err, Command}
 use Rattle.olr_records.proofs.questions.too_many.Given as goal
 
 -- the fields not read yet decide

@@ -1,5 +1,4 @@
-use Rattle.std.proofs.Common.{arith}
-use Rattle.csv.specs.Records.{fields_of}
+use Rattle.olr_records.proofs.Common.{arith, fields_of}
 use Rattle.olr_records.proofs.ReadLemmas.{explain_is}
 use Rattle.olr_records.proofs.read.text_to_explain.Goals as goal
 use Rattle.olr_records.proofs.read.text_to_explain.Goals.{else-len-eq2-via-then-len-eq2+else-is, else-len-eq2-via-else-len-eq2}

@@ -1,7 +1,5 @@
-use Rattle.olr_records.proofs.Common.{entry_line, entry_of, name_line, obstacle_line}
-use Rattle.std.specs.Prelude.{string_bytes}
+use Rattle.olr_records.proofs.Common.{entry_line, entry_of, name_line, obstacle_line, string_bytes, named_obstacle_of}
 use Rattle.std.proofs.lemmas.Simd.{map-map}
-use Rattle.olr_commands.specs.Words.{named_obstacle_of}
 use Rattle.olr_records.proofs.reply.append_reply.Goals as goal
 
 pub returns-in-Paths : goal.returns-in-Paths

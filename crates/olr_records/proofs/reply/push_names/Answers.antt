@@ -1,6 +1,5 @@
-use Rattle.olr_records.proofs.Common.{name_line}
-use Rattle.std.proofs.Common.{ℕ, List, append_assoc, string_bytes}
-use Rattle.std.specs.Prelude.{String}
+use Rattle.olr_records.proofs.Common.{name_line, ℕ, List, append_assoc, String}
+use Rattle.std.proofs.Common.{string_bytes}
 use Rattle.std.specs.declared.alloc.Global.{Global}
 use Rattle.olr_records.proofs.TextLemmas.{lines_more}
 use Rattle.olr_records.proofs.reply.push_names.Goals as goal

@@ -1,6 +1,4 @@
-use Rattle.olr_records.proofs.Common.{concat, name_line}
-use Rattle.std.specs.Prelude.{string_bytes}
-use Rattle.std.proofs.Common.{◌≡◌, ◌++◌, map, take}
+use Rattle.olr_records.proofs.Common.{concat, name_line, string_bytes, ◌≡◌, ◌++◌, map, take}
 use Rattle.olr_records.proofs.reply.push_names.Given as goal
 
 abbrev pub invariant-loop-name : goal.invariant-loop-name

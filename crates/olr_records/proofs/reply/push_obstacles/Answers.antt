@@ -1,5 +1,4 @@
-use Rattle.olr_records.proofs.Common.{arith, obstacle_line}
-use Rattle.olr_commands.specs.Words.{named_obstacle_of}
+use Rattle.olr_records.proofs.Common.{arith, obstacle_line, named_obstacle_of}
 use Rattle.olr_records.proofs.TextLemmas.{lines_more}
 use Rattle.olr_records.proofs.reply.push_obstacles.Goals as goal
 

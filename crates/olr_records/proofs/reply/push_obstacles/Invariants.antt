@@ -1,6 +1,4 @@
-use Rattle.olr_records.proofs.Common.{concat, obstacle_line}
-use Rattle.olr_commands.specs.Words.{named_obstacle_of}
-use Rattle.std.proofs.Common.{◌≡◌, ◌++◌, map, take}
+use Rattle.olr_records.proofs.Common.{concat, obstacle_line, named_obstacle_of, ◌≡◌, ◌++◌, map, take}
 use Rattle.olr_records.proofs.reply.push_obstacles.Given as goal
 
 abbrev pub invariant-loop-obstacle : goal.invariant-loop-obstacle

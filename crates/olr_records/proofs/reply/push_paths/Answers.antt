@@ -1,5 +1,4 @@
-use Rattle.olr_records.proofs.Common.{arith, entry_line, entry_of}
-use Rattle.std.proofs.lemmas.List.{nil_from_length}
+use Rattle.olr_records.proofs.Common.{arith, entry_line, entry_of, nil_from_length}
 use Rattle.olr_records.proofs.OnLiterals.{on_literals}
 use Rattle.olr_records.proofs.TextLemmas.{lines_more}
 use Rattle.olr_records.proofs.reply.push_paths.Goals as goal

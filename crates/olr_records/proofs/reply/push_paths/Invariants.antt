@@ -1,5 +1,4 @@
-use Rattle.olr_records.proofs.Common.{concat, entry_line, entry_of}
-use Rattle.std.proofs.Common.{◌≡◌, ◌++◌, map, take}
+use Rattle.olr_records.proofs.Common.{concat, entry_line, entry_of, ◌≡◌, ◌++◌, map, take}
 use Rattle.olr_records.proofs.reply.push_paths.Given as goal
 
 abbrev pub invariant-loop-entry : goal.invariant-loop-entry

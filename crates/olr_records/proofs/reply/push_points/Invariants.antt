@@ -1,5 +1,4 @@
-use Rattle.olr_records.proofs.Common.{concat, middle_line}
-use Rattle.std.proofs.Common.{◌≡◌, ◌++◌, map, take}
+use Rattle.olr_records.proofs.Common.{concat, middle_line, ◌≡◌, ◌++◌, map, take}
 use Rattle.olr_records.proofs.reply.push_points.Given as goal
 
 abbrev pub invariant-loop-point : goal.invariant-loop-point

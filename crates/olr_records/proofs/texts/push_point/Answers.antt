@@ -1,5 +1,4 @@
-use Rattle.olr_records.proofs.Common.{length-drop, take_all}
-use Rattle.std.proofs.Common.{arith, ℤ, to_z, of_z, w32}
+use Rattle.olr_records.proofs.Common.{length-drop, take_all, arith, ℤ, to_z, of_z, w32}
 use Rattle.olr_records.proofs.TextLemmas.{fields_line_of}
 use Rattle.olr_records.proofs.texts.push_point.Goals as goal
 

@@ -1,5 +1,4 @@
-use Rattle.olr_records.proofs.Common.{decimal, after_commas}
-use Rattle.std.proofs.Common.{◌≡◌, ◌≤◌, ◌+◌, ◌++◌, drop, length, map, ◌*◌}
+use Rattle.olr_records.proofs.Common.{decimal, after_commas, ◌≡◌, ◌≤◌, ◌+◌, ◌++◌, drop, length, map, ◌*◌}
 use Rattle.olr_records.proofs.texts.put_numbers.Given as goal
 
 -- the numbers from index k on are written

@@ -1,7 +1,4 @@
-use Rattle.olr_paths.specs.Items.{made_of}
-use Rattle.olr_paths.specs.Iterated.{left}
-use Rattle.olr_answers.specs.Answers.{refusal_of}
-use Rattle.std.specs.Result.{result_map_both}
+use Rattle.olr_run.proofs.Common.{made_of, left, refusal_of, result_map_both}
 use Rattle.olr_run.proofs.Reports.{one_more, report_of}
 use Rattle.olr_run.proofs.answers.append_report.Goals as goal
 

@@ -1,8 +1,5 @@
-use Rattle.std.proofs.Common.{◌≡◌, ◌++◌, ℕ, List}
+use Rattle.olr_run.proofs.Common.{◌≡◌, ◌++◌, ℕ, List, Made, left, AllPublished}
 use Rattle.std.specs.Prelude.{Option}
-use Rattle.olr_paths.specs.Items.{Made}
-use Rattle.olr_paths.specs.Iterated.{left}
-use Rattle.olr_register.specs.Registered.{AllPublished}
 use Rattle.olr_run.proofs.Reports.{lines_of}
 use Rattle.olr_run.proofs.answers.append_report.Given as goal
 

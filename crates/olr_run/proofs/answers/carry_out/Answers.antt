@@ -1,19 +1,17 @@
-use Rattle.olr_run.proofs.Common.{fields_of, command_of, command_fault_of, reply_of}
-use Rattle.std.proofs.Common.{Ok, Err, refl}
+use Rattle.olr_run.proofs.Common.{fields_of, command_of, Explain, outcome_of}
 use Rattle.olr_run.proofs.Answering.{carried, not_read}
 use Rattle.olr_run.proofs.answers.carry_out.Goals as goal
 
-pub returns-in-Ok-apply : goal.returns-in-Ok-apply
-returns-in-Ok-apply c =
-    carried c.args.register.now (fields_of c.args.fields.now) c.apply.new.self (Ok c.in-Ok-apply.reply) (command_of c.in-Ok.command)
-    (Ok (reply_of c.in-Ok-apply.reply)) c.in-Ok.ensures c.in-Ok-apply.ensures.outcome c.in-Ok-apply.ensures.sound refl
+pub returns-in-Some : goal.returns-in-Some
+returns-in-Some c =
+    carried c.args.register.now (fields_of c.args.fields.now) c.args.register.now c.reply_or_line.result
+    (Explain c.in-Some.text.now) (outcome_of c.explain.result) c.in-Some.ensures.some c.explain.ensures.outcome c.is_sound.ensures c.reply_or_line.ensures
 
-pub returns-in-Err-apply : goal.returns-in-Err-apply
-returns-in-Err-apply c =
-    let fault = command_fault_of c.in-Err-apply.fault in
-    carried c.args.register.now (fields_of c.args.fields.now) c.apply.new.self (Err c.fault_text.result) (command_of c.in-Ok.command)
-    (Err fault) c.in-Ok.ensures c.in-Err-apply.ensures.outcome c.in-Err-apply.ensures.sound
-    (fault, refl, c.fault_text.ensures)
+pub returns-in-Ok : goal.returns-in-Ok
+returns-in-Ok c =
+    carried c.args.register.now (fields_of c.args.fields.now) c.apply.new.self c.reply_or_line-in-Ok.result
+    (command_of c.in-Ok.command) (outcome_of c.apply.result) c.in-Ok.ensures c.apply.ensures.outcome c.apply.ensures.sound
+    c.reply_or_line-in-Ok.ensures
 
 pub returns-in-Err : goal.returns-in-Err
 returns-in-Err c =

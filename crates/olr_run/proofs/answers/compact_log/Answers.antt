@@ -1,7 +1,5 @@
 -- The records of the register are given if they are asked for.
-use Rattle.std.proofs.Common.{◌∙◌, sym, subst, ℕ, List}
-use Rattle.olr_input.specs.Sessions.{Unasked, Given, Lacking}
-use Rattle.olr_run.specs.Runs.{AreReplacement}
+use Rattle.olr_run.proofs.Common.{◌∙◌, sym, subst, ℕ, List, Unasked, Given, Lacking, AreReplacement}
 use Rattle.olr_run.proofs.answers.compact_log.Goals as goal
 
 pub returns-then-not-wants_records : goal.returns-then-not-wants_records

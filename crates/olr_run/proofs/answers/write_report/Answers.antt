@@ -1,6 +1,4 @@
-use Rattle.std.proofs.Common.{◌∙◌, ◌++◌, ap, true, false, ℕ, List}
-use Rattle.olr_run.proofs.Common.{fields_of, reply_text}
-use Rattle.olr_commands.specs.Reply.{Paths}
+use Rattle.olr_run.proofs.Common.{◌∙◌, ◌++◌, ap, true, false, ℕ, List, fields_of, reply_text, Paths}
 use Rattle.olr_run.proofs.Reports.{reports, lacks}
 use Rattle.olr_run.proofs.answers.write_report.Goals as goal
 

@@ -1,12 +1,9 @@
 -- The builder's calls make the arguments of the definition.
-use Rattle.std.proofs.Common.{◌≡◌, ◌∙◌, false, ap, ap₂, codes}
-use Rattle.std.proofs.lemmas.Result.{IfOk-weaker}
+use Rattle.olr_run.proofs.Common.{◌≡◌, ◌∙◌, false, ap, ap₂, codes, IfOk-weaker, App, app_of, with_rule, Rule, rule_of}
+use Rattle.olr_run.proofs.Common.{with_short, with_long}
 use Rattle.clap.specs.Built.{AddsArg}
-use Rattle.clap.specs.Simple.{App, app_of, with_rule}
-use Rattle.clap.specs.Walk.{Rule, rule_of}
 use Rattle.clap.specs.declared.builder.arg.Arg.{Arg}
 use Rattle.clap.specs.declared.builder.command.Command.{Command}
-use Rattle.olr_run.specs.Options.{with_short, with_long}
 use Rattle.olr_run.proofs.command_line.command.Goals as goal
 
 -- an argument of this rule is added

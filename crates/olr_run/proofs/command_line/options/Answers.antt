@@ -1,13 +1,10 @@
 -- By clap's rules for the arguments, which are those of the definition.
-use Rattle.std.proofs.Common.{◌≡◌, ◌∙◌, ℕ, List, map, sym, ap, subst, codes}
+use Rattle.olr_run.proofs.Common.{◌≡◌, ◌∙◌, ℕ, List, map, sym, ap, subst, codes, HasKind, App, is_simple, matches_of, first_of}
+use Rattle.olr_run.proofs.Common.{rows_of, keep_app, is_set}
 use Rattle.clap.specs.Faults.{fault_of, is_simple_and_free}
-use Rattle.clap.specs.Kinds.{HasKind}
-use Rattle.clap.specs.Simple.{App, is_simple, matches_of}
 use Rattle.clap.specs.Takes.{takes}
 use Rattle.clap.specs.Matches.{found_of}
-use Rattle.clap.specs.Walk.{first_of, rows_of}
 use Rattle.clap.proofs.WalkLemmas.{first_value-rows}
-use Rattle.olr_run.specs.Options.{keep_app, is_set}
 use Rattle.olr_run.proofs.command_line.options.Goals as goal
 
 pub returns-in-Ok-try_get_matches_from-clause-ok : goal.returns-in-Ok-try_get_matches_from-clause-ok

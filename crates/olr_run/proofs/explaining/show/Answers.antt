@@ -1,9 +1,6 @@
 -- The text was written, and could not be sent.
-use Rattle.std.proofs.Common.{◌≡◌, ◌∙◌, ℕ, List, [], ◌++◌, Option, None, Some, sym, rules}
-use Rattle.std.proofs.KnownBytes.{Appends-kept}
-use Rattle.std.proofs.lemmas.List.{append-nil}
-use Rattle.std.specs.Prelude.{IfSome}
-use Rattle.olr_input.specs.Buffers.{written}
+use Rattle.olr_run.proofs.Common.{◌≡◌, ◌∙◌, ℕ, List, [], ◌++◌, Option, None, Some, sym, rules, Appends-kept, append-nil, IfSome}
+use Rattle.olr_run.proofs.Common.{written}
 use Rattle.olr_run.proofs.explaining.show.Goals as goal
 
 all_of : (text : Option (List ℕ)) (t : List ℕ) → IfSome text (λ x. t ≡ x) → IfSome text (λ x. x ≡ t ++ [])

@@ -1,7 +1,5 @@
 -- How a run from a log ends, from the contracts of its parts.
-use Rattle.std.proofs.Common.{◌∙◌, ap, refl}
-use Rattle.olr_run.specs.LogEnds.{is_rejected}
-use Rattle.olr_run.specs.Ends.{Not_begun, Begun, run_code}
+use Rattle.olr_run.proofs.Common.{◌∙◌, ap, refl, is_rejected, Not_begun, Begun, run_code}
 use Rattle.olr_run.proofs.FromLogs.{closed_run, on_true}
 use Rattle.olr_run.proofs.from_log.with_log.Goals as goal
 

@@ -1,10 +1,5 @@
-use Rattle.std.proofs.lemmas.Result.{IfOk-weaker, IfErr-weaker, err_from_is_err_and}
-use Rattle.std.proofs.Common.{subst, arith}
-use Rattle.csv.specs.Records.{fields_of}
-use Rattle.olr_commands.specs.State.{Content}
-use Rattle.olr_register.specs.RegisterState.{Represents}
-use Rattle.olr_run.specs.Logged.{closed}
-use Rattle.olr_run.specs.Output.{records_of}
+use Rattle.olr_run.proofs.Common.{IfOk-weaker, IfErr-weaker, err_from_is_err_and, subst, arith, fields_of, Content, Represents}
+use Rattle.olr_run.proofs.Common.{closed, records_of}
 use Rattle.olr_run.proofs.LogRecords.{is_content, same_content}
 use Rattle.olr_run.proofs.Refusing.{none_leads, open_leads}
 use Rattle.olr_run.proofs.Restoring.{loading_start, loading_more, loading_end}

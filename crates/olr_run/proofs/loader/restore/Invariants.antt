@@ -1,5 +1,4 @@
-use Rattle.std.proofs.Common.{◌-◌, ◌≤◌}
-use Rattle.olr_run.specs.Output.{records_of}
+use Rattle.olr_run.proofs.Common.{◌-◌, ◌≤◌, records_of}
 use Rattle.olr_run.proofs.Restoring.{Loading}
 use Rattle.olr_run.proofs.loader.restore.Given as goal
 

@@ -1,10 +1,7 @@
 -- A run with a log over a source, from its session.
-use Rattle.std.proofs.Common.{◌∙◌, [], ap, subst}
+use Rattle.olr_run.proofs.Common.{◌∙◌, [], ap, subst, Compaction, Passes, waiting, Gate}
 use Rattle.olr_run.proofs.LoggedRuns.{lasting, run_length}
 use Rattle.olr_run.proofs.Sending.{held_sent}
-use Rattle.olr_input.specs.Gates.{Compaction, Passes}
-use Rattle.olr_input.specs.Unstored.{waiting}
-use Rattle.olr_input.specs.declared.gate.Gate.{Gate}
 use Rattle.olr_run.proofs.logged.run_with_log.Goals as goal
 
 pub returns-clause-ended : goal.returns-clause-ended

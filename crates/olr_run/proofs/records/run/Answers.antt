@@ -1,7 +1,5 @@
 -- There was no memory for the input.
-use Rattle.std.proofs.Common.{false}
-use Rattle.olr_input.specs.Inputs.{input_records}
-use Rattle.olr_run.proofs.Common.{Claims}
+use Rattle.olr_run.proofs.Common.{false, input_records, Claims}
 use Rattle.olr_run.proofs.InputRuns.{cut_at_first}
 use Rattle.olr_run.proofs.RunLemmas.{none_claimed}
 use Rattle.olr_run.proofs.Running.{cut_by}

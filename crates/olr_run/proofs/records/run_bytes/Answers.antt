@@ -1,5 +1,4 @@
-use Rattle.std.proofs.Common.{Some}
-use Rattle.olr_run.proofs.Common.{records_of}
+use Rattle.olr_run.proofs.Common.{Some, records_of}
 use Rattle.olr_run.proofs.records.run_bytes.Goals as goal
 
 pub returns : goal.returns

@@ -1,5 +1,4 @@
-use Rattle.olr_run.proofs.Common.{most_records}
-use Rattle.std.proofs.Common.{◌≤◌, ◌-◌}
+use Rattle.olr_run.proofs.Common.{most_records, ◌≤◌, ◌-◌}
 use Rattle.olr_run.proofs.Running.{SoFar}
 use Rattle.olr_run.proofs.records.run_session.Given as goal
 

@@ -1,6 +1,6 @@
 -- A start, from the contracts of its parts.
 use Rattle.olr_run.proofs.FromLogs.{begins_from, unbegun_after, unbegun_read}
-use Rattle.std.proofs.lemmas.Result.{err_from_is_err_and}
+use Rattle.olr_run.proofs.Common.{err_from_is_err_and}
 use Rattle.olr_run.proofs.starts.begin_with.Goals as goal
 
 pub returns-clause-begun : goal.returns-clause-begun

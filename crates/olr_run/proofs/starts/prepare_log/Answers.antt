@@ -1,5 +1,5 @@
 -- A log that is due, from the contracts of its parts.
-use Rattle.std.proofs.Common.{◌∙◌, inl, inr}
+use Rattle.olr_run.proofs.Common.{◌∙◌, inl, inr}
 use Rattle.olr_run.proofs.starts.prepare_log.Goals as goal
 
 pub returns-in_err-is_done-clause-cut : goal.returns-in_err-is_done-clause-cut

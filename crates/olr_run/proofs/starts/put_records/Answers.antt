@@ -1,6 +1,5 @@
 -- The records of the register are stored, or may be.
-use Rattle.std.proofs.Common.{◌∙◌, sym, subst}
-use Rattle.olr_run.specs.LogEnds.{AreRecordsOf}
+use Rattle.olr_run.proofs.Common.{◌∙◌, sym, subst, AreRecordsOf}
 use Rattle.olr_run.proofs.Replacements.{records_of_replacement, records_may_be}
 use Rattle.olr_run.proofs.starts.put_records.Goals as goal
 

@@ -1,6 +1,5 @@
 -- The text of the log is what was read.
-use Rattle.std.proofs.Common.{◌∙◌, ℕ, List, sym, subst}
-use Rattle.olr_run.specs.Restored.{HasContentOf, LeadsNowhere}
+use Rattle.olr_run.proofs.Common.{◌∙◌, ℕ, List, sym, subst, HasContentOf, LeadsNowhere}
 use Rattle.olr_run.proofs.starts.read_log.Goals as goal
 
 pub returns-in-Ok-restore-clause-content : goal.returns-in-Ok-restore-clause-content

@@ -1,13 +1,10 @@
 -- How the program ends, by its arguments.
-use Rattle.std.proofs.Common.{refl}
-use Rattle.olr_run.specs.Ends.{Carried_out, Explained, Without_sources, Without, With}
-use Rattle.olr_run.proofs.Common.{records_read}
-use Rattle.olr_run.proofs.Ending.{explained}
+use Rattle.olr_run.proofs.Common.{refl, Carried_out, Explained, Without_sources, Without, With, records_read}
 use Rattle.olr_run.proofs.streams.program.Goals as goal
 
 pub returns-in-Err-clause-ends : goal.returns-in-Err-clause-ends
 returns-in-Err-clause-ends g c =
-    Explained (explained _ _ _ _ _ c.in-Err.ensures.kinds c.explain.ensures.explains) refl
+    Explained (c.in-Err.fault, c.in-Err.ensures.kinds, c.explain.ensures.explains) refl
 
 pub returns-in-Err-sources-clause-ends : goal.returns-in-Err-sources-clause-ends
 returns-in-Err-sources-clause-ends g c =

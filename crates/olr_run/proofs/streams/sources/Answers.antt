@@ -1,8 +1,7 @@
 -- What the arguments ask for, from their parts.
-use Rattle.std.proofs.Common.{◌∙◌, refl, sym}
-use Rattle.olr_run.proofs.Common.{file_bytes, options_of}
+use Rattle.olr_run.proofs.Common.{◌∙◌, refl, sym, file_bytes, options_of, Log_lacking, Not_opened, No_size}
+use Rattle.olr_run.specs.Ends.{No_memory}
 use Rattle.olr_run.proofs.Ending.{file_is, name_of, no_size}
-use Rattle.olr_run.specs.Ends.{Log_lacking, Not_opened, No_size, No_memory}
 use Rattle.olr_run.proofs.streams.sources.Goals as goal
 
 pub returns-then-lacks_log-clause-refused : goal.returns-then-lacks_log-clause-refused

@@ -1,10 +1,7 @@
 -- How a run without a log ends, once its answers were sent or could not be.
-use Rattle.std.proofs.Common.{◌∙◌, ◌≤◌, ℕ, ap, subst}
-use Rattle.olr_register.specs.Registered.{nothing_registered}
-use Rattle.olr_run.proofs.Common.{Claims, EndedOn, Registered, exit_code}
+use Rattle.olr_run.proofs.Common.{◌∙◌, ◌≤◌, ℕ, ap, subst, nothing_registered, Claims, EndedOn, Registered, exit_code, once_sent}
+use Rattle.olr_run.proofs.Common.{written}
 use Rattle.olr_run.proofs.Sending.{ended_sent, held_sent, on_low, on_ok}
-use Rattle.olr_run.specs.Runs.{once_sent}
-use Rattle.olr_input.specs.Buffers.{written}
 use Rattle.olr_run.proofs.streams.without_log.Goals as goal
 
 pub returns-clause-ends : goal.returns-clause-ends

@@ -1,4 +1,4 @@
-use Rattle.std.proofs.Common.{refl}
+use Rattle.olr_run.proofs.Common.{refl}
 use Rattle.olr_run.proofs.Refusing.{begin_inside}
 use Rattle.olr_run.proofs.Restoring.{loads_begun}
 use Rattle.olr_run.proofs.loader.Loader.begin.Goals as goal

@@ -1,8 +1,4 @@
-use Rattle.olr_commands.specs.State.{Begin, Commit}
-use Rattle.olr_run.proofs.Common.{command_of}
-use Rattle.olr_run.specs.Restored.{Loaded, Refuses}
-use Rattle.std.proofs.Common.{sym, subst}
-use Rattle.std.proofs.lemmas.Result.{IfOk-weaker, IfErr-weaker}
+use Rattle.olr_run.proofs.Common.{Begin, Commit, command_of, Loaded, Refuses, sym, subst, IfOk-weaker, IfErr-weaker}
 use Rattle.olr_run.proofs.Refusing.{other_kind}
 use Rattle.olr_run.specs.declared.loader.Kind.TheVariants as kind
 use Rattle.olr_run.proofs.Restoring.{logged_loaded, kind_is, change_loaded}

@@ -1,6 +1,4 @@
-use Rattle.std.proofs.Common.{◌≡◌, ◌∙◌, true, false, refl, sym}
-use Rattle.olr_run.proofs.Common.{command_of}
-use Rattle.std.proofs.lemmas.Result.{IfOk-weaker, IfErr-weaker, err_from_is_err_and}
+use Rattle.olr_run.proofs.Common.{◌≡◌, ◌∙◌, true, false, refl, sym, command_of, IfOk-weaker, IfErr-weaker, err_from_is_err_and}
 use Rattle.olr_run.proofs.Refusing.{change_full, change_never}
 use Rattle.olr_run.proofs.Restoring.{loaded_change}
 use Rattle.olr_run.proofs.loader.Loader.change.Goals as goal

@@ -1,4 +1,4 @@
-use Rattle.std.proofs.Common.{refl}
+use Rattle.olr_run.proofs.Common.{refl}
 use Rattle.olr_run.proofs.Refusing.{commit_differs, commit_outside}
 use Rattle.olr_run.proofs.Restoring.{loads_committed}
 use Rattle.olr_run.proofs.loader.Loader.commit.Goals as goal

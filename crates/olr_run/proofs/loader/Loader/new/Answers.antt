@@ -1,4 +1,4 @@
-use Rattle.std.proofs.Common.{refl}
+use Rattle.olr_run.proofs.Common.{refl}
 use Rattle.olr_run.proofs.loader.Loader.new.Goals as goal
 
 pub returns : goal.returns

@@ -1,8 +1,4 @@
-use Rattle.olr_run.proofs.Common.{command_of}
-use Rattle.olr_run.specs.Logged.{IsLogged}
-use Rattle.olr_run.specs.Restored.{Loaded, Refuses}
-use Rattle.std.proofs.Common.{◌≡◌, ◌∙◌, sym, subst}
-use Rattle.std.proofs.lemmas.Result.{IfOk-weaker, IfErr-weaker}
+use Rattle.olr_run.proofs.Common.{command_of, IsLogged, Loaded, Refuses, ◌≡◌, ◌∙◌, sym, subst, IfOk-weaker, IfErr-weaker}
 use Rattle.olr_run.proofs.loader.Loader.take.Goals as goal
 
 pub returns-in-Ok-clause-loads : goal.returns-in-Ok-clause-loads
