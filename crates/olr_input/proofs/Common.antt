@@ -14,7 +14,7 @@ pub use Rattle.olr_input.specs.Lines.{BetweenRecords, is_line_end}
 pub use Rattle.olr_input.specs.Machine.{csv_state, is_quoted, state_after}
 pub use Rattle.olr_input.specs.Sessions.{Answer, AreKnown, BeginsWith, Compacted, Event, HasNone, History, IsOfTaking, IsPlain}
 pub use Rattle.olr_input.specs.Sessions.{Known, StaysPlain, TakesLeft, TakesOne, Took, Writes, WritesAll, Wrote, csv_left}
-pub use Rattle.olr_input.specs.Sessions.{csv_records, exchanges}
+pub use Rattle.olr_input.specs.Sessions.{csv_records}
 pub use Rattle.olr_input.specs.StoredLines.{IsLineFor, Turns, effect_by, has_line, is_clean, line_of, turned, word_effect}
 pub use Rattle.olr_input.specs.declared.buffered.Buffered.{Buffered}
 pub use Rattle.olr_input.specs.declared.ends.RunFault.TheVariants.{Write}

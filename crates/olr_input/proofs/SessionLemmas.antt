@@ -2,7 +2,7 @@
 use Rattle.olr_input.proofs.Common.{◌≡◌, ℕ, Bool, Ok, inl, inr, true, false, List, [], ◌∷◌, ◌++◌, length, Option, Some, None}
 use Rattle.olr_input.proofs.Common.{◌∙◌, refl, sym, ap, subst, arith, Read, next_record, default_config, strip_bom, State}
 use Rattle.olr_input.proofs.Common.{cases_Bool, option_map, IfSome, Known, Answer, Event, Took, Wrote, Compacted, History}
-use Rattle.olr_input.proofs.Common.{exchanges, IsPlain, AreKnown, BeginsWith, StaysPlain, TakesLeft, csv_left, csv_records}
+use Rattle.olr_input.proofs.Common.{IsPlain, AreKnown, BeginsWith, StaysPlain, TakesLeft, csv_left, csv_records}
 use Rattle.csv.specs.Reading.{is_flexible, ExplainsRead, stops_reader, source_of, buffered_of, reader_source, reader_state}
 use Rattle.csv.specs.Reading.{has_failed, reader_trim, took_first, unread_of, NextIs, ReadRecord, ReadsNext, Ready}
 use Rattle.csv.specs.declared.error.ErrorKind.{ErrorKind}
@@ -83,16 +83,3 @@ pub history_join : {S : Type 0} (happens : S → Event → S → Type 0) (a b c 
     History happens a es b → History happens b fs c → History happens a (es ++ fs) c
 history_join {S} happens a b c [] fs h k = subst (λ (x : S). History happens x fs c) (sym h) k
 history_join happens a b c (e ∷ es) fs h k = (h.0, h.1, history_join happens h.0 b c es fs h.2 k)
-
-pub exchanges_more : (rs : List (List (List ℕ))) (texts : List Answer) (replacements : List Replacement) (r : List (List ℕ))
-    (text : Answer) (replacement : Replacement) → length texts ≡ length rs → length replacements ≡ length rs →
-    exchanges (rs ++ r ∷ []) (texts ++ text ∷ []) (replacements ++ replacement ∷ [])
-    ≡ exchanges rs texts replacements ++ Took r ∷ Wrote text ∷ Compacted replacement ∷ []
-exchanges_more [] [] [] r text replacement l k = refl
-exchanges_more [] (w ∷ texts) replacements r text replacement l k = absurd (omega arith)
-exchanges_more [] [] (d ∷ replacements) r text replacement l k = absurd (omega arith)
-exchanges_more (x ∷ rs) [] replacements r text replacement l k = absurd (omega arith)
-exchanges_more (x ∷ rs) (w ∷ texts) [] r text replacement l k = absurd (omega arith)
-exchanges_more (x ∷ rs) (w ∷ texts) (d ∷ replacements) r text replacement l k =
-    ap (λ (es : List Event). Took x ∷ Wrote w ∷ Compacted d ∷ es)
-    (exchanges_more rs texts replacements r text replacement (omega arith) (omega arith))

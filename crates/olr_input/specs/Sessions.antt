@@ -5,8 +5,6 @@
 --     Replacement      no records were asked for; these were, and they were given; or they could not be made, which was said
 --     History happens a es b      these events, in this order, lead from a to b; happens is the relation of one event
 --     Answer      the text of an answer, and whether it accepts its record
---     exchanges rs answers replacements      each record was taken, and then its answer was written, and then records were
---         given, if they were asked for
 --     WritesAll before later bytes r      all of the bytes were written, or only the first of them
 --     TakesLeft old new failed r fields      what a call that takes a record says of the records that were left, and of those that are
 use Rattle.std.specs.Prelude.{◌≡◌, ◌≢◌, ◌^◌, ℕ, Bool, true, false, List, [], ◌∷◌, ◌++◌, Option, Some, None, Result, Ok, Err, ⊤, ◌⊎◌, IfSome}
@@ -49,13 +47,6 @@ pub data Event : Type 0 where
 abbrev pub History : {S : Type 0} → (S → Event → S → Type 0) → S → List Event → S → Type 0
 History happens a [] b = a ≡ b
 History {S} happens a (e ∷ es) b = (m : S) × happens a e m × History happens m es b
-
-abbrev pub exchanges : List (List (List ℕ)) → List Answer → List Replacement → List Event
-exchanges [] answers replacements = []
-exchanges (r ∷ rs) [] replacements = []
-exchanges (r ∷ rs) (answer ∷ answers) [] = []
-exchanges (r ∷ rs) (answer ∷ answers) (replacement ∷ replacements) =
-    Took r ∷ Wrote answer ∷ Compacted replacement ∷ exchanges rs answers replacements
 
 -- ---- calls
 
