@@ -1,5 +1,5 @@
 -- The names that most proofs of olr_run cite, passed on from one place. Declares nothing.
-pub use Rattle.clap.specs.Kinds.{HasKind, Kinds}
+pub use Rattle.clap.specs.Kinds.{HasKind}
 pub use Rattle.clap.specs.Simple.{App, app_of, is_simple, matches_of, with_rule}
 pub use Rattle.clap.specs.Walk.{Rule, first_of, rows_of, rule_of}
 unfoldable pub use Rattle.csv.proofs.OnLiterals.{csv_on_literals}
@@ -24,8 +24,8 @@ pub use Rattle.olr_input.specs.InMemory.{left_of}
 pub use Rattle.olr_input.specs.Inputs.{input_records}
 pub use Rattle.olr_input.specs.Journals.{IsFront, Only, is_empty}
 pub use Rattle.olr_input.specs.LoggedRuns.{Concludes, LogHappens}
-pub use Rattle.olr_input.specs.Sessions.{Answer, Compacted, Given, HasNone, Lacking, Replacement, TakesOne, Unasked}
-pub use Rattle.olr_input.specs.Sessions.{Cut, Ended, Event, History, IsOfTaking, Known, Not_sent, Not_taken, Took, Wrote}
+pub use Rattle.olr_input.specs.Sessions.{Answer, Compacted, Given, HasNone, Lacking, Replacement, TakesOne, Unasked, Cut, Ended}
+pub use Rattle.olr_input.specs.Sessions.{Event, History, IsOfTaking, Known, Not_sent, Not_taken, Took, Wrote}
 pub use Rattle.olr_input.specs.Statuses.{exit_code}
 pub use Rattle.olr_input.specs.StoredLines.{Waiting, effect_of, has_line}
 pub use Rattle.olr_input.specs.Unstored.{next_line, waiting}
@@ -48,7 +48,7 @@ pub use Rattle.olr_register.specs.Built.{Changes, IsChange}
 pub use Rattle.olr_register.specs.RegisterState.{Represents}
 pub use Rattle.olr_register.specs.Registered.{Registered, AllPublished, HaveEncodings, nothing_registered}
 pub use Rattle.olr_run.specs.Ends.{Begun, Carried_out, Explained, LeftAfter, Log_lacking, No_size, Not_begun, Not_opened, With}
-pub use Rattle.olr_run.specs.Ends.{Without, Without_sources, run_code}
+pub use Rattle.olr_run.specs.Ends.{Without, Without_sources, run_code, No_memory}
 pub use Rattle.olr_run.specs.LogEnds.{AreRecordsOf, Begins, BeginsWith, LastsOn, Unbegun, is_rejected}
 pub use Rattle.olr_run.specs.Logged.{Accepted, IsLogged, Leads, LeadsFrom, Survives, UpTo, closed}
 pub use Rattle.olr_run.specs.Logs.{Began, LastsCut, LastsWhole}
@@ -58,20 +58,20 @@ pub use Rattle.olr_run.specs.Output.{AllHadMemory, AreAnswered, Claims, CommandO
 pub use Rattle.olr_run.specs.Output.{IsDumpOf, OutOfMemory, Ran, StopsAtFault, any_refused, decoded_command, run_status}
 pub use Rattle.olr_run.specs.Output.{SoundOutcome, SoundOutcomes, most_records, records_of, texts, Builds, Dumps, Faulted}
 pub use Rattle.olr_run.specs.Restored.{HasContentOf, InPlace, IsContentOf, IsKind, LeadsNowhere, Loaded, Loads, LoadsRecord}
-pub use Rattle.olr_run.specs.Restored.{NeverChanges, Refuses, RefusesRecord, kind_by}
-pub use Rattle.olr_run.specs.Runs.{AnsweredOn, AnswersRecord, CarriedOut, CutIn, FaultedOn, In_text, IsAnswer, LeadsOn}
-pub use Rattle.olr_run.specs.Runs.{GoesOn, HadTooMany, In_taking, IsExchange, IsReplacement, IsReport, No_text, answer_of}
+pub use Rattle.olr_run.specs.Restored.{NeverChanges, Refuses, RefusesRecord, kind_by, is_rejection}
+pub use Rattle.olr_run.specs.Runs.{AnsweredOn, AnswersRecord, CarriedOut, CutIn, FaultedOn, In_text, IsAnswer, LeadsOn, GoesOn}
+pub use Rattle.olr_run.specs.Runs.{AreExchanges, AreReplacement, Exchange, Exchanged}
+pub use Rattle.olr_run.specs.Runs.{HadTooMany, In_taking, IsExchange, IsReplacement, IsReport, No_text, answer_of}
 pub use Rattle.olr_run.specs.Runs.{Past_the_most, RanIn, RanOn, Records, answer_text, EndedOn, file_bytes, joined_records}
-pub use Rattle.olr_run.specs.Runs.{events_of, once_sent, records_taken, unwritten}
-pub use Rattle.olr_run.specs.Runs.{last_events, records_read, status_of, AreExchanges, AreReplacement, Exchange, Exchanged}
-pub use Rattle.olr_run.specs.Sizes.{IsLength, NoSize, last_byte}
+pub use Rattle.olr_run.specs.Runs.{events_of, once_sent, records_taken, unwritten, last_events, records_read, status_of}
+pub use Rattle.olr_run.specs.Sizes.{IsLength, NoSize}
 pub use Rattle.olr_run.specs.declared.loader.Kind.{Kind}
 pub use Rattle.olr_run.specs.declared.loader.Loader.{Loader}
 pub use Rattle.olr_spec.specs.Encoding.{Refusal}
 pub use Rattle.olr_spec.specs.Map.{Map}
 pub use Rattle.olr_spec.specs.Margins.{Margin}
-pub use Rattle.std.proofs.Common.{Bool, Err, List, None, Some, ap₂, arith, codes, false, refl, rules, subst, take, true, ◌++◌}
-pub use Rattle.std.proofs.Common.{IsTrue, MatchOption, Option, Result, eq-eqb, eqb-true, get_or, length, length-append, nat_cmp}
+pub use Rattle.std.proofs.Common.{Bool, Err, List, None, Some, ap₂, arith, codes, false, refl, rules, subst, true, ◌++◌}
+pub use Rattle.std.proofs.Common.{IsTrue, Option, Result, eq-eqb, eqb-true, length, length-append, nat_cmp}
 pub use Rattle.std.proofs.Common.{Ok, [], ap, inl, inr, map, not, suc, sym, ℕ, ◌+◌, ◌-◌, ◌<◌, ◌∙◌, ◌∷◌, ◌≡◌, ◌≢◌, ◌≤◌, ◌⊎◌}
 pub use Rattle.std.proofs.KnownBytes.{Appends-kept, Appends-nil, Appends-trans, Keeps-refl}
 pub use Rattle.std.proofs.Math.Bool.{and-false, or-false, or-true}
@@ -85,6 +85,6 @@ pub use Rattle.std.specs.Borrow.{Bor}
 pub use Rattle.std.specs.Io.KnownBytes.{Appends, Keeps, append_known}
 pub use Rattle.std.specs.List.{AllByRecursion, concat, join_with_byte, list_all}
 pub use Rattle.std.specs.Option.{option_map_or}
-pub use Rattle.std.specs.Prelude.{IfErr, IfSome, IsErrAnd, IsFalse, if◌then◌else◌, is_err, is_ok, ⊤, ◌&&◌, ◌||◌, IfOk, OnOk}
-pub use Rattle.std.specs.Prelude.{flat_map, is_some, nat_le, ◌==◌}
+pub use Rattle.std.specs.Prelude.{IfErr, IfSome, IsFalse, if◌then◌else◌, is_err, is_ok, ⊤, ◌&&◌, ◌||◌, IfOk, OnOk, flat_map}
+pub use Rattle.std.specs.Prelude.{is_some, nat_le, ◌==◌}
 pub use Rattle.std.specs.Result.{result_map_both}

@@ -8,9 +8,8 @@ use Rattle.olr_run.proofs.Common.{IsContent, Dump, State, Show_node, Show_line, 
 use Rattle.olr_run.proofs.Common.{IsDumpOf, Dumps, concat, fields_of_change, dump_lines, dumps_run, HaveRecords, IsRecorded}
 use Rattle.olr_run.proofs.Common.{StaysRecorded, records_split, all_lines, step_stays, recorded_dumps, record_back}
 use Rattle.std.proofs.lemmas.Bool.{cases_eq, eq-eqb}
-use Rattle.std.specs.FinMap.{get, entries, get-entries}
+use Rattle.std.specs.FinMap.{get, entries, get-entries, FinMap}
 use Rattle.std.specs.FinMap.Entries.{find}
-use Rattle.olr_spec.specs.Coordinates.{Coord}
 use Rattle.olr_spec.specs.Map.{Line, MapFault, No_node, No_line, has_node, has_line, no_coord, no_line, start, end, line_at}
 use Rattle.olr_commands.specs.Recordable.{is_recordable_map, is_recordable_coord, is_recordable_shape, has_node_record}
 use Rattle.olr_commands.specs.Recordable.{has_line_records}
@@ -36,21 +35,21 @@ all_find f [] k v is all = absurd cc
 all_find f (e ∷ es) k v is all =
     grind (arith, cases_eq, find, nat_cmp, eq-eqb, ne_eqb, and_parts, all_find f es k v)
 
--- records can write each node and each line of such a map, and what stands for one that it doesn't have
-node_written : (M : Map) (v : ℕ) → is_recordable_map M ≡ true → has_node_record M v ≡ true
-node_written M v can = by_place (get M.nodes v) (sym (get-entries M.nodes v))
+-- what passes for each item of a map, and for what stands for one that it doesn't have
+item_passes : {X : Type 0} (test : X → Bool) (m : FinMap nat_cmp X) (k : ℕ) (none : X) → test none ≡ true →
+    list_all (λ e. test e.1) (entries m) ≡ true → test (unwrap_or (get m k) none) ≡ true
+item_passes {X} test m k none missing all = by (get m k) (sym (get-entries m k))
   where
-    by_place : (o : Option Coord) → find nat_cmp v (entries M.nodes) ≡ o → is_recordable_coord (unwrap_or o no_coord) ≡ true
-    by_place (Some p) is = all_find (λ e. is_recordable_coord e.1) (entries M.nodes) v p is (and_parts _ _ can).0
-    by_place None is = refl
+    by : (o : Option X) → find nat_cmp k (entries m) ≡ o → test (unwrap_or o none) ≡ true
+    by (Some v) is = all_find (λ e. test e.1) (entries m) k v is all
+    by None is = missing
+
+-- records can write each node and each line of such a map
+node_written : (M : Map) (v : ℕ) → is_recordable_map M ≡ true → has_node_record M v ≡ true
+node_written M v can = item_passes is_recordable_coord M.nodes v no_coord refl (and_parts _ _ can).0
 
 shape_written : (M : Map) (x : ℕ) → is_recordable_map M ≡ true → is_recordable_shape (line_at M x).shape ≡ true
-shape_written M x can = by_line (get M.lines x) (sym (get-entries M.lines x))
-  where
-    by_line : (o : Option Line) → find nat_cmp x (entries M.lines) ≡ o →
-        is_recordable_shape (unwrap_or o no_line).shape ≡ true
-    by_line (Some l) is = all_find (λ e. is_recordable_shape e.1.shape) (entries M.lines) x l is (and_parts _ _ can).1
-    by_line None is = refl
+shape_written M x can = item_passes (λ (l : Line). is_recordable_shape l.shape) M.lines x no_line refl (and_parts _ _ can).1
 
 line_written : (M : Map) (x : ℕ) → is_recordable_map M ≡ true → has_line_records M x ≡ true
 line_written M x can =

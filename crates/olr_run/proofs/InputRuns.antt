@@ -14,7 +14,7 @@ use Rattle.std.specs.Prelude.{Option, Result, Ok, Err}
 use Rattle.std.specs.List.{flat_map}
 use Rattle.olr_input.specs.LineRecords.{lines_from}
 use Rattle.olr_run.specs.Runs as runs
-use Rattle.olr_run.proofs.RunLemmas.{claims_of}
+use Rattle.olr_run.proofs.RunLemmas.{claims_of, none_claimed}
 use Rattle.olr_run.proofs.Running.{represented, stopped_is}
 use Rattle.olr_run.specs.Output as output
 use Rattle.olr_input.specs.declared.ends.Status.TheVariants as ended
@@ -321,19 +321,6 @@ module _ {S : Type 0} (left : S → List (List Field) → Type 0) (contents : S 
   on_records Whole Part whole part None (Ok end) base begins h k = tt
   on_records Whole Part whole part None (Err e) base begins h k = (tt, λ is. tt)
 
--- a run over a source
-module _ {S W : Type 0} (left : S → List (List Field) → Type 0) (failed : S → Bool) (contents : W → Known) (stop : Bool)
-    (old new : Registered) (source : S) (a b : Plain S × W) (is : a.0.source ≡ source) where
-  pub plain_on : (r : Result Status RunFault) → IsContent old.state.content →
-      IfOk r (RanIn (OfPlain left failed contents) stop old a new b)
-      → IfErr r (CutIn (OfPlain left failed contents) stop old a new b) → (records : Records) → IfSome records (left source)
-      → EndedOn Claims Claims stop old records (contents a.1) new (contents b.1) r
-  plain_on r base ran cut records begins =
-      on_records (left_at left failed contents) (written_at contents) (OfPlain left failed contents)
-      (plain_sees left failed contents) stop old new a b Claims Claims (λ all end h s t rest os is claims run. claims)
-      (λ all e h s t rest os is claims run. claims) records r base
-      (subst (λ (s : S). IfSome records (left s)) (sym is) begins) ran cut
-
 -- a file that isn't there has no records, however it would be read
 pub none_left : (single : Bool) → IfSome (input_records single (Some [])) (λ rs. rs ≡ [])
 unfolding csv_on_literals lines_from
@@ -349,12 +336,10 @@ both_left left_of_first left first second (Some rs) None h k = tt
 both_left left_of_first left first second None qs h k = tt
 
 -- a run that lacked memory before it began
-pub cut_at_first : (Each : State → List (List Field) → List Outcome → State → Type 0) →
-    ((s : State) (rs : List (List Field)) → IsContent s.content → Each s rs [] s) → (stop : Bool) (old : Registered)
-    (before : Known) (records : Records) → IsContent old.state.content →
-    FaultedOn Each stop old records before old before fault.Memory × HadTooMany fault.Memory records
-cut_at_first Each none stop old before None base = (tt, λ many. tt)
-cut_at_first Each none stop old before (Some all) base = (
+pub cut_at_first : (stop : Bool) (old : Registered) (before : Known) (records : Records) → IsContent old.state.content →
+    EndedOn Claims Claims stop old records before old before (Err fault.Memory)
+cut_at_first stop old before None base = (tt, λ many. tt)
+cut_at_first stop old before (Some all) base = (
   λ s represents. (
     s,
     represents,
@@ -362,7 +347,7 @@ cut_at_first Each none stop old before (Some all) base = (
     Appends-nil before,
     record {
       outcomes = [];
-      each = none s all (represented old s base represents);
+      each = none_claimed s all (represented old s base represents);
       stops = tt;
       wrote = output.Before_next (λ write. let never : fault.Memory ≡ fault.Write = write in cc) (and-false stop) refl;
     },

@@ -5,11 +5,9 @@ pub mod Reports
 pub mod Running
 pub mod InputRuns
 pub mod Sending
-pub mod Ending
 pub mod Dumping
 pub mod Accepting
 pub mod Dumped
-pub mod Replacements
 pub mod Plain
 pub mod Logging
 pub mod LoggedRuns
@@ -17,4 +15,3 @@ pub mod Restoring
 pub mod Refusing
 pub mod LogRecords
 pub mod FromLogs
-mod LastLetters

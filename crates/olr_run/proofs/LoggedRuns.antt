@@ -8,6 +8,7 @@ use Rattle.olr_run.proofs.Common.{answer_of, once_sent, IsReplacement, Exchange,
 use Rattle.olr_run.proofs.Common.{unwritten, Answer, Replacement, Compacted, Unasked, Given, Lacking, Leads, Survives, UpTo}
 use Rattle.olr_run.proofs.Common.{Began, LastsWhole, LastsCut, pending, written, Compaction, Passes, Untouched, ready}
 use Rattle.olr_run.proofs.Common.{is_closed, Waiting, waiting, LogHappens, Buffered, Gate, Status, Appends-nil, Keeps-refl}
+use Rattle.olr_run.proofs.Common.{Concludes}
 use Rattle.std.specs.Prelude.{Ok, Err, Option, Result}
 use Rattle.olr_input.specs.declared.logged.Logged.{Logged}
 use Rattle.olr_input.proofs.Writing.{took_nothing}
@@ -123,25 +124,15 @@ module _ {S W J : Type 0} (left : S → List (List Field) → Type 0) (contents 
     log_took rs os t r m n a h = log_untouched rs os t m n h.0 a h.1 h.2.untouched h.2.waits
 
     -- a record whose text is written, or only its first bytes
-    log_cut : (rs : List (List Field)) (os : List Outcome) (t u : State) (r : List Field) (o : Outcome)
-        (front rest : List ℕ) (accepts : Bool) (m k n : Logged S J × Buffered W) → length os ≡ length rs → Log rs os t [] m →
-        SoundOutcome t r o u → answer_of o ≡ (front ++ rest, accepts) → Happens m (Took r) k → Happens k (Cut front rest accepts) n
+    log_answered : (rs : List (List Field)) (os : List Outcome) (t u : State) (r : List Field) (o : Outcome)
+        (front rest : List ℕ) (accepts : Bool) (m k n : Logged S J × Buffered W) (g : Gate J) → length os ≡ length rs →
+        Log rs os t [] m → SoundOutcome t r o u → answer_of o ≡ (front ++ rest, accepts) → Happens m (Took r) k →
+        Concludes j k.0.gate accepts g → Passes j.stored j.may_leave contents g k.1 n.0.gate n.1 front
         → Log (rs ++ r ∷ []) (os ++ o ∷ []) u rest n
-    log_cut rs os t u r o front rest accepts m k n size a one is h cut =
-        logs_pass j.stored j.may_leave contents base s (rs ++ r ∷ []) (os ++ o ∷ []) u front rest cut.1.0 n.0.gate k.1 n.1
-        (logs_conclude j.stored j.may_leave contents base s rs os t u r o (front ++ rest) accepts k.0.gate cut.1.0 k.1 size one is
-        h.2.effect h.2.line (log_took rs os t r m k a h) cut.1.1) cut.1.2
-
-    log_wrote : (rs : List (List Field)) (os : List Outcome) (t u : State) (r : List Field) (o : Outcome)
-        (answer : Answer) (m k n : Logged S J × Buffered W) → length os ≡ length rs → Log rs os t [] m →
-        SoundOutcome t r o u → answer_of o ≡ answer → Happens m (Took r) k → Happens k (Wrote answer) n
-        → Log (rs ++ r ∷ []) (os ++ o ∷ []) u [] n
-    log_wrote rs os t u r o answer m k n size a one is h wrote =
-        logs_pass j.stored j.may_leave contents base s (rs ++ r ∷ []) (os ++ o ∷ []) u answer.0 [] wrote.1.0 n.0.gate k.1 n.1
-        (subst (λ (x : List ℕ). Logs j.stored j.may_leave contents base s (rs ++ r ∷ []) (os ++ o ∷ []) u x wrote.1.0 k.1)
-        (sym (append-nil answer.0))
-        (logs_conclude j.stored j.may_leave contents base s rs os t u r o answer.0 answer.1 k.0.gate wrote.1.0 k.1 size one is
-        h.2.effect h.2.line (log_took rs os t r m k a h) wrote.1.1)) wrote.1.2
+    log_answered rs os t u r o front rest accepts m k n g size a one is h concludes passes =
+        logs_pass j.stored j.may_leave contents base s (rs ++ r ∷ []) (os ++ o ∷ []) u front rest g n.0.gate k.1 n.1
+        (logs_conclude j.stored j.may_leave contents base s rs os t u r o (front ++ rest) accepts k.0.gate g k.1 size one is
+        h.2.effect h.2.line (log_took rs os t r m k a h) concludes) passes
 
     -- the records of the content may be given
     log_given : (rs : List (List Field)) (os : List Outcome) (t : State) (d : Replacement) (m n : Logged S J × Buffered W) →
@@ -165,7 +156,11 @@ module _ {S W J : Type 0} (left : S → List (List Field) → Type 0) (contents 
         (m, rw (append-nil rs, append-nil dos) (subst (λ (x : State). Log rs dos x [] m) run.1 a), h)
     log_exchanged (x ∷ xs) es m b rs dos t u (o ∷ os) size a run h =
         let one = run.1.1 in
-        let now = log_wrote rs dos t run.1.0 x.fields o x.answer m h.0 h.2.0 size a one.0 one.1 h.1 h.2.1 in
+        let is : answer_of o ≡ (x.answer.0 ++ [], x.answer.1) = one.1 ∙ (λ i. (sym (append-nil x.answer.0) i, x.answer.1)) in
+        let wrote = h.2.1.1 in
+        let now =
+        log_answered rs dos t run.1.0 x.fields o x.answer.0 [] x.answer.1 m h.0 h.2.0 wrote.0 size a one.0 is h.1 wrote.1
+        wrote.2 in
         let grown : length (dos ++ o ∷ []) ≡ length (rs ++ x.fields ∷ []) = grind (arith, length-append) in
         let on =
         log_given (rs ++ x.fields ∷ []) (dos ++ o ∷ []) run.1.0 x.replacement h.2.0 h.2.2.0 now one.0.1 one.2 h.2.2.1 in
@@ -265,11 +260,12 @@ module _ {S W J : Type 0} (left : S → List (List Field) → Type 0) (contents 
           let last = unwritten r (front ++ late, accepts) in
           let k = last_step s t x.done last os run in
           let n = reached (Took r ∷ Cut front late accepts ∷ []) x s k.2 k.0 k.4 l in
+          let cut = n.2.2.1.1 in
           some_logs s t (records_taken x.done ++ r ∷ []) rest os os [] late n.2.2.0
           (is ∙ ap (λ (rs : List (List Field)). rs ++ rest) (more_taken x.done last)) (sym (append-nil os)) n.2.2.2
           (subst (λ (p : List Outcome). Now s (records_taken x.done ++ r ∷ []) p t late n.2.2.0) (sym k.3)
-          (log_cut (contents a.1.device) s (records_taken x.done) k.0 k.2 t r k.1 front late accepts n.0 n.2.0 n.2.2.0
-          (k.4.0 ∙ sym (taken_length x.done)) n.1 k.5.0 k.5.1 n.2.1 n.2.2.1)),
+          (log_answered (contents a.1.device) s (records_taken x.done) k.0 k.2 t r k.1 front late accepts n.0 n.2.0 n.2.2.0
+          cut.0 (k.4.0 ∙ sym (taken_length x.done)) n.1 k.5.0 k.5.1 n.2.1 cut.1 cut.2)),
     )
 
 -- ---- from the start to the end

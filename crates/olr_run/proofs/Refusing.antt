@@ -2,13 +2,10 @@
 use Rattle.olr_run.proofs.Common.{Field, records_of, ◌≡◌, ◌∙◌, ◌≤◌, ℕ, Bool, true, false, List, length, Option, Some, None, Ok}
 use Rattle.olr_run.proofs.Common.{Err, refl, sym, subst, arith, eqb-true, ◌==◌, nat_le, nat_tests, Change, Command, Content}
 use Rattle.olr_run.proofs.Common.{Make, Begin, Commit, Memory, State, Fault, after, full, step, with_change, with_held, ends}
-use Rattle.olr_run.proofs.Common.{IsChange, IsLogged, closed, InPlace, LeadsNowhere, Loads, NeverChanges, Refuses}
-use Rattle.olr_run.proofs.Common.{RefusesRecord, command_of, kind_by, Loader, left_of, HasNone, TakesOne, InMemory}
+use Rattle.olr_run.proofs.Common.{IsChange, closed, InPlace, LeadsNowhere, Loads, NeverChanges, Refuses}
+use Rattle.olr_run.proofs.Common.{RefusesRecord, Loader, left_of, HasNone, TakesOne, InMemory}
 use Rattle.olr_register.specs.BatchChanges.{ByContent, Lacks, MayReport}
-use Rattle.olr_commands.specs.declared.command.Command.{Command as Rust}
 use Rattle.olr_run.proofs.Restoring.{Loading, holding}
-use Rattle.olr_commands.specs.declared.command.Command.TheVariants as rust
-use Rattle.olr_run.specs.declared.loader.Kind.TheVariants as kind
 
 -- ---- one command
 
@@ -86,14 +83,3 @@ open_leads text m l a none refused c leads =
 
 pub outside_closed : (l : Loader) → l.in_batch ≡ true → (s : State) → Loads l s → (c : Content) → s ≡ closed c → ⊥
 outside_closed l inside s a c is = absurd (let never : true ≡ false = sym inside ∙ subst (λ (u : State). InPlace l u.batch) is a.place in cc)
-
--- a command that is no change, begin or commit isn't stored
-pub other_kind : (c : Rust) → kind.Other ≡ kind_by c → IsLogged (command_of c) → ⊥
-other_kind (rust.Edit e) is stored = absurd (let never = is in cc)
-other_kind (rust.AddPath name lines p n) is stored = absurd (let never = is in cc)
-other_kind (rust.SetPath name lines p n) is stored = absurd (let never = is in cc)
-other_kind (rust.DropPath name) is stored = absurd (let never = is in cc)
-other_kind (rust.SetMargin g) is stored = absurd (let never = is in cc)
-other_kind rust.Begin is stored = absurd (let never = is in cc)
-other_kind (rust.Commit count) is stored = absurd (let never = is in cc)
-other_kind c is stored = stored

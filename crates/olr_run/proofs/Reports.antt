@@ -1,10 +1,10 @@
 -- The text of a report, from what is published of each path, and what a report answers to a record.
-use Rattle.olr_run.proofs.Common.{length-map, append-nil, append_assoc, count_line, fault_text, outcome_text, Field, read}
-use Rattle.olr_run.proofs.Common.{Outcome, IsOutcome, RecordOutcome, SoundOutcome, may_lack, Represents, Registered, is_ok, ◌≡◌}
-use Rattle.olr_run.proofs.Common.{◌≢◌, ℕ, Bool, List, [], ◌∷◌, ◌++◌, length, map, refl, ap, ◌∙◌, suc, subst, sym, arith, IsTrue}
-use Rattle.olr_run.proofs.Common.{Result, Ok, Err, Option, Some, inl, true, false, ne_eqb, concat, option_map_or, Map, Margin}
-use Rattle.olr_run.proofs.Common.{Refusal, Named, Content, IsContent, State, Memory, Report, Entry, Paths, AllOf, Lacks, entry}
-use Rattle.olr_run.proofs.Common.{published_text, Made, entry_line, HaveEncodings, AllPublished, IsReport}
+use Rattle.olr_run.proofs.Common.{length-map, append-nil, append_assoc, count_line, fault_text, Field, read, CarriedOut}
+use Rattle.olr_run.proofs.Common.{Outcome, IsOutcome, RecordOutcome, may_lack, Registered, ◌≡◌, answer_of, ◌≢◌, ℕ, List, []}
+use Rattle.olr_run.proofs.Common.{◌∷◌, ◌++◌, length, map, refl, ap, ◌∙◌, suc, subst, sym, arith, IsTrue, Result, Ok, Err}
+use Rattle.olr_run.proofs.Common.{Option, Some, inl, true, false, ne_eqb, concat, option_map_or, Map, Margin, Refusal, Named}
+use Rattle.olr_run.proofs.Common.{Content, State, Memory, Report, Entry, Paths, AllOf, Lacks, entry, published_text, Made}
+use Rattle.olr_run.proofs.Common.{entry_line, HaveEncodings, AllPublished, IsReport}
 
 -- ---- the text
 
@@ -58,33 +58,27 @@ report_of register xs rest before mid after n h count first none last s represen
 
 -- ---- the outcome
 
-abbrev Answers : Registered → List Field → List ℕ → Bool → Type 0
-Answers register fields text accepts =
-    (s : State) → Represents register.state s → IsContent s.content
-    → (t : State) × (o : Outcome) × Represents register.state t
-    × SoundOutcome s fields o t × (outcome_text o ≡ text) × (is_ok o ≡ accepts)
-
 record_outcome : (s : State) (fields : List Field) (o : Outcome) → read fields ≡ Ok Report → IsOutcome s Report o s →
     RecordOutcome s fields o s
 record_outcome s fields o e h = inl (rw e h)
 
 pub reports : (register : Registered) (fields : List Field) (text : List ℕ) → read fields ≡ Ok Report →
-    IsReport register (λ lines. text ≡ lines) → Answers register fields text true
+    IsReport register (λ lines. text ≡ lines) → CarriedOut register fields register (λ o. answer_of o ≡ (text, true))
 reports register fields text e report s represents sound =
     let r = report s represents in (
       s,
       Ok (Paths r.0),
       represents,
       (record_outcome s fields (Ok (Paths r.0)) e (refl, r.1), sound),
-      sym r.2,
-      refl,
+      λ i. (sym r.2 i, true),
     )
 
 may_lack_report : (s : State) → length s.content.paths ≢ 0 → IsTrue (may_lack s Report)
 may_lack_report s some = grind (arith, ne_eqb)
 
 pub lacks : (register : Registered) (fields : List Field) (line : List ℕ) → read fields ≡ Ok Report →
-    length register.state.content.paths ≢ 0 → line ≡ fault_text Memory → Answers register fields line false
+    length register.state.content.paths ≢ 0 → line ≡ fault_text Memory →
+    CarriedOut register fields register (λ o. answer_of o ≡ (line, false))
 lacks register fields line e some is s represents sound =
     let may = may_lack_report s (subst (λ (c : Content). length c.paths ≢ 0) represents.0 some) in
-    (s, Err Memory, represents, (record_outcome s fields (Err Memory) e (Lacks refl may, refl), sound), sym is, refl)
+    (s, Err Memory, represents, (record_outcome s fields (Err Memory) e (Lacks refl may, refl), sound), λ i. (sym is i, false))

@@ -1,10 +1,11 @@
 -- The records of a log, whose changes are made as they come.
 use Rattle.olr_run.proofs.Common.{Represents, Registered, command_of, ◌≡◌, ◌∙◌, ◌+◌, ◌<◌, ℕ, true, false, List, [], ◌∷◌, ◌++◌}
-use Rattle.olr_run.proofs.Common.{length, Option, Some, None, Ok, refl, sym, ap, subst, arith, length-append, eq-eqb, ◌==◌}
+use Rattle.olr_run.proofs.Common.{length, Option, Some, None, Ok, refl, sym, ap, subst, arith, length-append, eq-eqb, ◌==◌, Err}
 use Rattle.olr_run.proofs.Common.{nat_le, nat_tests, Content, Change, Command, Make, Begin, Commit, State, with_change, after}
 use Rattle.olr_run.proofs.Common.{step, full, start_state, next_ok, after_push, Accepted, IsLogged, closed, Changes, IsChange}
 use Rattle.olr_run.proofs.Common.{HasContentOf, Loads, Loaded, LoadsRecord, IsKind, kind_by, Kind, Loader, Field, records_of}
-use Rattle.olr_run.proofs.Common.{left_of, HasNone, TakesOne, InMemory}
+use Rattle.olr_run.proofs.Common.{left_of, HasNone, TakesOne, InMemory, OnOk, IfErr, Result, Refuses, is_rejection}
+use Rattle.olr_run.specs.declared.loader.RestoreFault.{RestoreFault}
 use Rattle.olr_commands.specs.declared.command.Command.{Command as Rust}
 use Rattle.olr_run.proofs.Accepting.{accepted_next}
 use Rattle.olr_commands.specs.declared.command.Command.TheVariants as rust
@@ -122,8 +123,17 @@ pub loading_end : (text : List ℕ) (m : InMemory) (l : Loader) (new : Registere
 loading_end text m l new a none finished =
     let f = finished a.state a.loads in (f.0, a.joins (closed f.0) (rw (none a.rest a.are_left) f.1), f.2)
 
-pub logged_loaded : (l n : Loader) (c k : Command) → c ≡ k → IsLogged k → Loaded l k n → IsLogged c × Loaded l c n
-logged_loaded l n c k e stored h = (subst IsLogged (sym e) stored, subst (λ (d : Command). Loaded l d n) (sym e) h)
+-- what is said of a command that is k is said of k
+pub logged_result : (l n : Loader) (c k : Command) (r : Result (Unit {0}) RestoreFault) → c ≡ k → IsLogged k →
+    OnOk r (Loaded l k n) → OnOk r (IsLogged c × Loaded l c n)
+logged_result l n c k (Ok done) e stored h =
+    (subst IsLogged (sym e) stored, subst (λ (d : Command). Loaded l d n) (sym e) h)
+logged_result l n c k (Err f) e stored h = tt
+
+pub refused_result : (l : Loader) (c k : Command) (r : Result (Unit {0}) RestoreFault) → c ≡ k →
+    IfErr r (λ e. is_rejection e ≡ true → Refuses l k) → IfErr r (λ e. is_rejection e ≡ true → IsLogged c → Refuses l c)
+refused_result l c k (Ok done) e h = tt
+refused_result l c k (Err f) e h = λ is stored. subst (Refuses l) (sym e) (h is)
 
 kind_of_command : (c : Rust) → IsKind (command_of c) (kind_by c)
 kind_of_command (rust.Edit e) = (_, refl)
@@ -133,10 +143,7 @@ kind_of_command (rust.DropPath name) = (_, refl)
 kind_of_command (rust.SetMargin g) = (_, refl)
 kind_of_command rust.Begin = refl
 kind_of_command (rust.Commit count) = refl
-kind_of_command c = tt
+kind_of_command c = λ stored. stored
 
 pub kind_is : (c : Rust) (k : Kind) → k ≡ kind_by c → IsKind (command_of c) k
 kind_is c k e = subst (IsKind (command_of c)) (sym e) (kind_of_command c)
-
-pub change_loaded : (l n : Loader) (c : Command) → IsChange c → Loaded l c n → IsLogged c × Loaded l c n
-change_loaded l n c change h = (subst IsLogged (sym change.1) tt, h)

@@ -1,13 +1,13 @@
 -- The records that a run has answered so far.
-use Rattle.olr_run.proofs.Common.{◌&&◌, ◌||◌, Took, Wrote, RanIn, CutIn, Known, arith, ℕ, Bool, true, false, List, subst, State}
-use Rattle.olr_run.proofs.Common.{is_err, RunFault, IsErrAnd, run_more, Records, EndedOn, No_text, Exchange, or-false, flat_map}
-use Rattle.olr_run.proofs.Common.{is_ok, IfErr, Field, Event, Ended, length, Result, GoesOn, Answer, Unasked, Status, or-true}
-use Rattle.olr_run.proofs.Common.{if◌then◌else◌, list_any-append, SoundOutcomes, Past_the_most, AreReplacement, flat_map-append}
-use Rattle.olr_run.proofs.Common.{⊤, Not_taken, status_of, FaultedOn, cases_Bool, IsContent, run_status, HadTooMany, IsExchange}
-use Rattle.olr_run.proofs.Common.{or_parts, Not_sent, In_text, In_taking, Exchanged, events_of, unwritten, Compacted, and-false}
-use Rattle.olr_run.proofs.Common.{append-nil, Represents, Registered, History, IsOfTaking, AnsweredOn, any_refused, Replacement}
-use Rattle.olr_run.proofs.Common.{Outcome, most_records, AnswersRecord, last_events, length-append, StopsAtFault, records_taken}
-use Rattle.olr_run.proofs.Common.{Cut, ◌≡◌, ◌∙◌, ◌+◌, not, [], ◌∷◌, ◌++◌, Ok, ◌⊎◌, Err, inl, inr, refl, sym, ap}
+use Rattle.olr_run.proofs.Common.{◌&&◌, ◌||◌, Took, Wrote, RanIn, CutIn, arith, ℕ, Bool, true, false, List, subst, State}
+use Rattle.olr_run.proofs.Common.{is_err, RunFault, run_more, No_text, Exchange, or-false, flat_map, is_ok, Field, Event, Ended}
+use Rattle.olr_run.proofs.Common.{length, Result, GoesOn, Answer, Unasked, Status, or-true, if◌then◌else◌, list_any-append}
+use Rattle.olr_run.proofs.Common.{SoundOutcomes, Past_the_most, AreReplacement, flat_map-append, ⊤, Not_taken, status_of}
+use Rattle.olr_run.proofs.Common.{cases_Bool, IsContent, run_status, IsExchange, or_parts, Not_sent, In_text, In_taking}
+use Rattle.olr_run.proofs.Common.{Exchanged, events_of, unwritten, Compacted, and-false, append-nil, Represents, Registered}
+use Rattle.olr_run.proofs.Common.{History, IsOfTaking, AnsweredOn, any_refused, Replacement, Outcome, most_records}
+use Rattle.olr_run.proofs.Common.{AnswersRecord, last_events, length-append, StopsAtFault, records_taken, Cut, ◌≡◌, ◌∙◌, ◌+◌}
+use Rattle.olr_run.proofs.Common.{not, [], ◌∷◌, ◌++◌, Ok, ◌⊎◌, Err, inl, inr, refl, sym, ap}
 use Rattle.olr_input.proofs.SessionLemmas.{history_join}
 use Rattle.olr_commands.specs.History.{Run}
 use Rattle.olr_run.specs.Runs as runs
@@ -49,10 +49,6 @@ refused_goes : (os : List Outcome) (o : Outcome) → is_ok o ≡ false → Going
 refused_goes os o is = rw (refused_more os o false is, or-true (any_refused os)) (refl, refl)
 
 -- ---- the records so far
-
-one_longer : {A B : Type 0} (xs : List A) (ys : List B) (x : A) (y : B) → length xs ≡ length ys →
-    length (xs ++ x ∷ []) ≡ length (ys ++ y ∷ [])
-one_longer xs ys x y e = grind (arith, length-append)
 
 -- the records of the register were given, if they were asked for
 abbrev pub Compacts : {S : Type 0} → (S → Event → S → Type 0) → Registered → S → S → Type 0
@@ -146,16 +142,17 @@ module _ {S : Type 0} (happens : S → Event → S → Type 0) (stop : Bool) (ol
           let sound = represented old s base represents in
           let x = one (reported.text, reported.accepts) replacement in
           let t = reported.outcome so.0 so.1 (sound_after s so.0 (records_taken a.done) so.2 sound so.3.headline.run) in
-          let is : IsExchange so.0 x t.1 t.0 = (t.3, (λ i. (t.4 i, t.5 i)), are t.0 t.2) in
-          let run = run_more IsExchange s so.0 t.0 a.done x so.2 t.1 so.4.0 so.4.1 is in (
+          let run = run_more IsExchange s so.0 t.0 a.done x so.2 t.1 so.4.0 so.4.1 (t.3, t.4, are t.0 t.2) in
+          let size : length (so.2 ++ t.1 ∷ []) ≡ length (a.done ++ x ∷ []) =
+          omega (arith, length-append so.2 (t.1 ∷ []), length-append a.done (x ∷ []), so.4.0) in (
             t.0,
             t.2,
             so.2 ++ t.1 ∷ [],
             claims_of s (records_taken (a.done ++ x ∷ [])) (so.2 ++ t.1 ∷ []) t.0 sound
                 (taken_run s t.0 (a.done ++ x ∷ []) (so.2 ++ t.1 ∷ []) run),
-            (one_longer so.2 a.done t.1 x so.4.0, run),
+            (size, run),
             stops_join stop so.2 (t.1 ∷ []) so.6.0 so.5 (λ _. refl, tt),
-            give so.2 t.1 t.5 so.6,
+            give so.2 t.1 (ap (λ (w : Answer). w.1) t.4) so.6,
           )
 
       -- the history with its events
@@ -226,16 +223,3 @@ module _ {S : Type 0} (happens : S → Event → S → Type 0) (stop : Bool) (ol
                 (subst (λ (text : List ℕ).
                 AnsweredOn stop (λ os. ⊤) old (a.done ++ unwritten fields (text, reported.accepts) ∷ []) new) cut.2 more)
           ]
-
--- a fault that `?` passes on
-pub passed_on : {T : Type 0} (r : Result T RunFault) (e : RunFault) (P : RunFault → Type 0) → IsErrAnd r (λ x. x ≡ e) →
-    P e → IfErr r P
-passed_on r e P is h = grind arith
-
-pub cut_by : (Whole Part : State → List (List Field) → List Outcome → State → Type 0) (stop : Bool) (old : Registered)
-    (records : Records) (before : Known) (new : Registered) (later : Known) (r : Result Status RunFault) (e : RunFault)
-    → IsErrAnd r (λ x. x ≡ e) → FaultedOn Part stop old records before new later e × HadTooMany e records
-    → EndedOn Whole Part stop old records before new later r
-cut_by Whole Part stop old records before new later (Ok end) e is h = absurd is
-cut_by Whole Part stop old records before new later (Err f) e is h =
-    subst (λ (x : RunFault). FaultedOn Part stop old records before new later x × HadTooMany x records) (sym is) h

@@ -41,7 +41,8 @@ keep_app =
     (with_rule
     (with_rule
     (with_rule
-    (with_rule (with_rule described_app (with_short 109 (value_rule (codes "file")))) (with_short 115 (flag_rule (codes "stop"))))
+    (with_rule (with_rule described_app (with_short 109 (value_rule (codes "file"))))
+    (with_short 115 (flag_rule (codes "stop"))))
     (with_long (codes "lines") (flag_rule (codes "lines"))))
     (with_short 108 (value_rule (codes "log"))))
     (with_long (codes "new") (flag_rule (codes "new"))))

@@ -7,7 +7,7 @@
 --     Loaded old c new      this command of a log is accepted
 --     is_rejection fault      a log is rejected for it, whatever memory there is
 --     Refuses l c, RefusesRecord l fields      this command of a log, or a record, is accepted in no state that the loader stands for
-use Rattle.std.specs.Prelude.{◌≡◌, ℕ, Bool, true, false, List, length, Option, Some, None, Ok, ⊤}
+use Rattle.std.specs.Prelude.{◌≡◌, ℕ, Bool, true, false, List, length, Option, Some, None, Ok}
 use Rattle.olr_commands.specs.State.{Content, Change, Command, Make, Begin, Commit, State, start_state, step}
 use Rattle.olr_commands.specs.State.{with_change, with_held}
 use Rattle.olr_records.specs.Records.{Field, read}
@@ -68,7 +68,7 @@ abbrev pub IsKind : Command → Kind → Type 0
 IsKind c kind.Change = IsChange c
 IsKind c kind.Begin = c ≡ Begin
 IsKind c (kind.Commit n) = c ≡ Commit n
-IsKind c kind.Other = ⊤
+IsKind c kind.Other = IsLogged c → ⊥
 
 abbrev pub kind_by : Rust → Kind
 kind_by (rust.Edit e) = kind.Change

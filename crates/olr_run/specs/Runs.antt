@@ -1,5 +1,5 @@
 -- Runs on a register in terms of Rust's values: in a session, and by the known bytes of a reader and a writer.
---     CarriedOut old fields new r      the effect of a record on the register, and its answer
+--     CarriedOut old fields new P      the effect of a record on the register, and what is true of its outcome
 --     AnswersRecord      the same, and its text was written
 --     IsReplacement t replacement      the records that were given are those of the content
 --     Exchange      a record that was taken, its answer, and the records that were then given
@@ -42,10 +42,15 @@ abbrev pub IsAnswer : Result Reply (Bor (List ℕ)) → Outcome → Type 0
 IsAnswer (Ok reply) o = o ≡ Ok (reply_of reply)
 IsAnswer (Err line) o = (fault : Fault) × (o ≡ Err fault) × (line.now ≡ fault_text fault)
 
-abbrev pub CarriedOut : Registered → List Field → Registered → Result Reply (Bor (List ℕ)) → Type 0
-CarriedOut old fields new r =
+-- the record has an outcome that satisfies P, from each state that the register represented
+abbrev pub CarriedOut : Registered → List Field → Registered → (Outcome → Type 0) → Type 0
+CarriedOut old fields new P =
     (s : State) → Represents old.state s → IsContent s.content → (t : State) × (o : Outcome) × Represents new.state t
-    × SoundOutcome s fields o t × IsAnswer r o
+    × SoundOutcome s fields o t × P o
+
+-- the text of an outcome, and whether it accepts its record
+abbrev pub answer_of : Outcome → Answer
+answer_of o = (outcome_text o, is_ok o)
 
 -- the text of an answer
 abbrev pub answer_text : Result Reply (Bor (List ℕ)) → List ℕ
@@ -72,9 +77,7 @@ pub record AnswersRecord {S : Type 0} (happens : S → Event → S → Type 0) (
   pub text : List ℕ
   pub accepts : Bool
   pub writes : WritesText happens before text later r accepts
-  pub outcome : (s : State) → Represents old.state s → IsContent s.content → (t : State) × (o : Outcome)
-      × Represents new.state t
-      × SoundOutcome s fields o t × (outcome_text o ≡ text) × (is_ok o ≡ accepts)
+  pub outcome : CarriedOut old fields new (λ o. answer_of o ≡ (text, accepts))
 
 -- the records that are given, to be stored in the place of a log, are those of the content, while no batch is open
 abbrev pub IsReplacement : State → Replacement → Type 0
@@ -109,10 +112,6 @@ records_taken xs = map (λ x. x.fields) xs
 
 abbrev pub events_of : Exchange → List Event
 events_of x = Took x.fields ∷ Wrote x.answer ∷ Compacted x.replacement ∷ []
-
--- the text of an outcome, and whether it accepts its record
-abbrev pub answer_of : Outcome → Answer
-answer_of o = (outcome_text o, is_ok o)
 
 -- the record has this outcome, with this answer; the records that were given are those of the content
 abbrev pub IsExchange : State → Exchange → Outcome → State → Type 0

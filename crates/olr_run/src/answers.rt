@@ -34,7 +34,7 @@ fn carry_out(
     register: &mut Register,
     fields: &ByteRecord,
 ) -> Result<Reply, &'static str>
-    ensures { CarriedOut register.old (fields_of fields.now) register.new result }
+    ensures { CarriedOut register.old (fields_of fields.now) register.new (IsAnswer result) }
 {
     if let Some(text) = text_to_explain(fields) {
         register.is_sound();
@@ -124,10 +124,9 @@ fn write_report<W, S: Session<W>>(
 pub fn records_text(register: &Register) -> Result<Vec<u8>, CommandFault>
     ensures { IfOk result (λ text. AreReplacement register.now (Given text.items)) }
 {
-    match register.dump() {
-        Ok(Reply::Dump(dump)) => Ok(dump.text),
-        Ok(_) => Err(CommandFault::NotARecord),
-        Err(fault) => Err(fault),
+    match register.dump()? {
+        Reply::Dump(dump) => Ok(dump.text),
+        _ => Err(CommandFault::NotARecord),
     }
 }
 

@@ -5,7 +5,8 @@ use Rattle.olr_run.proofs.answers.carry_out.Goals as goal
 pub returns-in-Some : goal.returns-in-Some
 returns-in-Some c =
     carried c.args.register.now (fields_of c.args.fields.now) c.args.register.now c.reply_or_line.result
-    (Explain c.in-Some.text.now) (outcome_of c.explain.result) c.in-Some.ensures.some c.explain.ensures.outcome c.is_sound.ensures c.reply_or_line.ensures
+    (Explain c.in-Some.text.now) (outcome_of c.explain.result) c.in-Some.ensures.some c.explain.ensures.outcome
+    c.is_sound.ensures c.reply_or_line.ensures
 
 pub returns-in-Ok : goal.returns-in-Ok
 returns-in-Ok c =

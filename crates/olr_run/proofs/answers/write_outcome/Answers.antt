@@ -1,5 +1,5 @@
 use Rattle.olr_run.proofs.Common.{is_ok, answer_text}
-use Rattle.olr_run.proofs.Answering.{text_of_answer}
+use Rattle.olr_run.proofs.Answering.{answer_is}
 use Rattle.olr_run.proofs.answers.write_outcome.Goals as goal
 
 pub returns : goal.returns
@@ -10,5 +10,5 @@ returns g c =
       writes = c.write_answer.ensures;
       outcome = λ s represents sound.
           let h = c.carry_out-answer.ensures s represents sound in
-          let is = text_of_answer c.carry_out-answer.result h.1 h.4 in (h.0, h.1, h.2, h.3, is.0, is.1);
+          (h.0, h.1, h.2, h.3, answer_is c.carry_out-answer.result h.1 h.4);
     }

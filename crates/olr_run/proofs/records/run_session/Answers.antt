@@ -1,7 +1,7 @@
 -- Each end of a run, from the records so far.
-use Rattle.olr_run.proofs.Common.{fields_of, arith}
+use Rattle.olr_run.proofs.Common.{fields_of, arith, err_from_is_err_and}
 use Rattle.olr_run.proofs.Running.{so_far_none, accepted_so_far, refused_so_far, ran_whole, ran_stopped, cut_in_taking}
-use Rattle.olr_run.proofs.Running.{cut_past, cut_in_answer, passed_on}
+use Rattle.olr_run.proofs.Running.{cut_past, cut_in_answer}
 use Rattle.olr_run.proofs.records.run_session.Goals as goal
 
 pub records-init : goal.records-init
@@ -14,8 +14,10 @@ returns-clause-ran g c =
 
 pub returns-in_err-take-clause-cut : goal.returns-in_err-take-clause-cut
 returns-in_err-take-clause-cut g c =
-    passed_on c.from_residual.result c.in_err-take.field-0.0 _ c.from_residual.ensures.1
-    (cut_in_taking g.S.Session.happens _ _ _ c.is_sound.ensures _ _ _ _ c.records.invariant.1 _ _ c.in_err-take.ensures)
+    let p = err_from_is_err_and c.from_residual.result c.from_residual.ensures.1 in
+    rw p.1
+    (rw p.2
+    (cut_in_taking g.S.Session.happens _ _ _ c.is_sound.ensures _ _ _ _ c.records.invariant.1 _ _ c.in_err-take.ensures))
 
 pub returns-then-answered-eq-MOST_RECORDS-clause-cut : goal.returns-then-answered-eq-MOST_RECORDS-clause-cut
 returns-then-answered-eq-MOST_RECORDS-clause-cut g c =
@@ -24,10 +26,11 @@ returns-then-answered-eq-MOST_RECORDS-clause-cut g c =
 
 pub returns-in_err-accepted-clause-cut : goal.returns-in_err-accepted-clause-cut
 returns-in_err-accepted-clause-cut g c =
-    passed_on c.from_residual-in_err-accepted.result c.in_err-accepted.field-0.0 _
-    c.from_residual-in_err-accepted.ensures.1
+    let p = err_from_is_err_and c.from_residual-in_err-accepted.result c.from_residual-in_err-accepted.ensures.1 in
+    rw p.1
+    (rw p.2
     (cut_in_answer g.S.Session.happens _ _ _ c.is_sound.ensures _ _ _ _ c.records.invariant.1 _ _ _
-    (fields_of c.take.new.fields) (rw c.if-branch.true at c.in_ok-take.ensures) _ c.in_err-accepted.ensures)
+    (fields_of c.take.new.fields) (rw c.if-branch.true at c.in_ok-take.ensures) _ c.in_err-accepted.ensures))
 
 pub returns-then-stop-clause-ran : goal.returns-then-stop-clause-ran
 returns-then-stop-clause-ran g c =

@@ -1,8 +1,30 @@
 -- What the arguments ask for, from their parts.
-use Rattle.olr_run.proofs.Common.{◌∙◌, refl, sym, file_bytes, options_of, Log_lacking, Not_opened, No_size}
-use Rattle.olr_run.specs.Ends.{No_memory}
-use Rattle.olr_run.proofs.Ending.{file_is, name_of, no_size}
+use Rattle.olr_run.proofs.Common.{◌∙◌, refl, sym, file_bytes, options_of, Log_lacking, Not_opened, No_size, No_memory, Bor}
+use Rattle.olr_run.proofs.Common.{Opens, Known, IsFile, OpensFile, ◌≡◌, ℕ, List, Option, Some, None, Result, Ok, Err, IsLength}
+use Rattle.olr_run.proofs.Common.{NoSize}
+use Rattle.std.specs.Fn.{Once}
 use Rattle.olr_run.proofs.streams.sources.Goals as goal
+
+-- ---- what was asked for
+
+-- the bytes of the file that was opened
+module _ {O F E : Type 0} (call : Once O (Bor (List ℕ) × Unit {0}) (Result F E)) (remaining : F → Known)
+    (opener : O) where
+  file_is : (name : Option (List ℕ)) (file : Option F) → OpensFile call opener name (Ok file) →
+      IsFile name (Opens call remaining opener) (file_bytes remaining file)
+  file_is None None h = refl
+  file_is None (Some f) h = absurd h
+  file_is (Some n) None h = absurd h
+  file_is (Some n) (Some f) h = (Ok f, h, refl)
+
+  name_of : (name : Option (List ℕ)) (error : E) → OpensFile call opener name (Err error) →
+      (n : List ℕ) × (name ≡ Some n) × Opens call remaining opener n None
+  name_of None error h = absurd h
+  name_of (Some n) error h = (n, refl, (Err error, h, refl))
+
+no_size : (asked : Option (List ℕ)) → IsLength asked None → (text : List ℕ) × (asked ≡ Some text) × NoSize text
+no_size None h = absurd cc
+no_size (Some text) h = (text, refl, h)
 
 pub returns-then-lacks_log-clause-refused : goal.returns-then-lacks_log-clause-refused
 returns-then-lacks_log-clause-refused g c = Log_lacking (sym c.lacks_log.ensures ∙ c.if-lacks_log.true) refl
