@@ -3,7 +3,7 @@ use Rattle.olr_run.proofs.Common.{Outcome, Field, Known, Records, RunFault, Regi
 use Rattle.olr_run.proofs.Common.{◌⊎◌, ℕ, Bool, true, false, List, inl, inr, refl, sym, subst, OnOk, Content, IsContent, State}
 use Rattle.olr_run.proofs.Common.{concat, dump_lines, Keeps-refl, AreRecordsOf, Begins, BeginsWith, LastsOn, Unbegun, closed}
 use Rattle.olr_run.proofs.Common.{Leads, Survives, UpTo, LastsWhole, LastsCut, LeftAfter, HasContentOf, IsContentOf}
-use Rattle.olr_run.proofs.Common.{LeadsNowhere, records_of, written, Only, Buffered, Status, Gate}
+use Rattle.olr_run.proofs.Common.{records_of, written, Only, Buffered, Status, Gate}
 use Rattle.std.specs.Prelude.{Result, Ok, Err, IsTrue}
 use Rattle.olr_log.specs.Logs.{stored_of, left_of, is_own_of, is_clean}
 use Rattle.olr_log.specs.declared.log_file.LogFile.{LogFile}
@@ -78,11 +78,6 @@ module _ {D F : Type 0} {d : disk.Ghosts D} {f : folder.Ghosts F D} where
     ],
     λ is. absurd (let never : true ≡ false = sym is ∙ fails in cc),
   )
-
-  pub unbegun_read : (log read : LogFile D F d f) (rejected : Bool) → stored_of read ≡ stored_of log →
-      ((t : List ℕ) → left_of read t → left_of log t)
-      → (rejected ≡ true → is_clean read ≡ true → LeadsNowhere (stored_of log)) → Unbegun log read rejected
-  unbegun_read log read rejected same less refused = (read, same, λ t left. inl (less t left), refused)
 
   -- ---- the end
 

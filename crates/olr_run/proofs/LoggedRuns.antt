@@ -5,7 +5,7 @@ use Rattle.olr_run.proofs.Common.{Appends, Registered, RunFault, Claims, EndedOn
 use Rattle.olr_run.proofs.Common.{false, List, [], ◌∷◌, ◌++◌, length, Some, None, refl, sym, ap, subst, arith, length-append}
 use Rattle.olr_run.proofs.Common.{IfOk, OnOk, flat_map, Change, IsContent, State, append_known, Exchanged, In_taking, No_text}
 use Rattle.olr_run.proofs.Common.{answer_of, once_sent, IsReplacement, Exchange, AreExchanges, records_taken, events_of}
-use Rattle.olr_run.proofs.Common.{unwritten, Answer, Replacement, Compacted, Unasked, Given, Lacking, Leads, Survives, UpTo}
+use Rattle.olr_run.proofs.Common.{unwritten, Replacement, Compacted, Unasked, Given, Lacking, Leads, Survives, UpTo}
 use Rattle.olr_run.proofs.Common.{Began, LastsWhole, LastsCut, pending, written, Compaction, Passes, Untouched, ready}
 use Rattle.olr_run.proofs.Common.{is_closed, Waiting, waiting, LogHappens, Buffered, Gate, Status, Appends-nil, Keeps-refl}
 use Rattle.olr_run.proofs.Common.{Concludes}

@@ -11,11 +11,10 @@ use Rattle.std.specs.Str.Parse.{IsNumeral, digits_value, without_leading_plus}
 abbrev pub last_byte : List ℕ → ℕ
 last_byte text = slice_index text (length text - 1)
 
-abbrev pub unit_by : ℕ → ℕ
-unit_by letter = if letter == 75 then 2 ^ 10 else if letter == 77 then 2 ^ 20 else if letter == 71 then 2 ^ 30 else 1
-
 abbrev pub unit_of : List ℕ → ℕ
-unit_of text = unit_by (last_byte text)
+unit_of text =
+    if last_byte text == 75 then 2 ^ 10 else if last_byte text == 77 then 2 ^ 20 else if last_byte text == 71 then 2 ^ 30
+    else 1
 
 abbrev pub digits_of : List ℕ → List ℕ
 digits_of text = if unit_of text == 1 then text else take (length text - 1) text

@@ -22,10 +22,7 @@ use std::alloc::{AllocError, Global};
 fn reply_or_line(answer: Result<Reply, CommandFault>) -> Result<Reply, &'static str>
     ensures { IsAnswer result (outcome_of answer) }
 {
-    match answer {
-        Ok(reply) => Ok(reply),
-        Err(fault) => Err(fault_text(fault)),
-    }
+    answer.map_err(fault_text)
 }
 
 /// Carries out the command of a record, and doesn't copy the text of `explain`. Returns the reply, or the line of the fault.

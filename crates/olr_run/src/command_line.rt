@@ -90,10 +90,7 @@ fn command<'a>(alloc: Global) -> Result<Command<'a>, AllocError>
 fn is_given(flag: Option<&str>) -> bool
     ensures { result ≡ is_set (option_map (λ text. text.now) flag.entry) }
 {
-    match flag {
-        Some(text) => text == "true",
-        None => false,
-    }
+    flag.is_some_and(|text| text == "true")
 }
 
 /// Why arguments that `clap` rejected give no options.

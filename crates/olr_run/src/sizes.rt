@@ -35,9 +35,7 @@ fn size(text: &str) -> Option<usize>
     ensures { MatchOption result (NoSize text.now) (IsSize text.now) }
 {
     let (digits, unit) = split_unit(text);
-    let Ok(count) = digits.parse::<usize>() else {
-        return None;
-    };
+    let count = digits.parse::<usize>().ok()?;
     if count == 0 {
         return None;
     }

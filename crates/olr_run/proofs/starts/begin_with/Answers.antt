@@ -1,6 +1,6 @@
 -- A start, from the contracts of its parts.
-use Rattle.olr_run.proofs.FromLogs.{begins_from, unbegun_after, unbegun_read}
-use Rattle.olr_run.proofs.Common.{err_from_is_err_and}
+use Rattle.olr_run.proofs.FromLogs.{begins_from, unbegun_after}
+use Rattle.olr_run.proofs.Common.{err_from_is_err_and, inl}
 use Rattle.olr_run.proofs.starts.begin_with.Goals as goal
 
 pub returns-clause-begun : goal.returns-clause-begun
@@ -16,9 +16,12 @@ pub returns-in_err-register-clause-unbegun : goal.returns-in_err-register-clause
 returns-in_err-register-clause-unbegun g c =
     let p = err_from_is_err_and c.from_residual.result c.from_residual.ensures.1 in
     rw p.1
-    (rw p.2
-    (unbegun_read c.args.log.now c.read_log.new.log _ c.read_log.ensures.stored
-    c.read_log.ensures.less c.in_err-register.ensures.refused))
+    (rw p.2 (
+      c.read_log.new.log,
+      c.read_log.ensures.stored,
+      λ t left. inl (c.read_log.ensures.less t left),
+      c.in_err-register.ensures.refused,
+    ))
 
 pub returns-in_err-prepare_log-clause-unbegun : goal.returns-in_err-prepare_log-clause-unbegun
 returns-in_err-prepare_log-clause-unbegun g c =
