@@ -32,10 +32,7 @@ const FEW_DIGITS: usize = 18;
 pub(crate) fn field(fields: &ByteRecord, k: usize) -> &[u8]
     ensures { result.now ≡ slice_index_or (fields_of fields.now) k [] }
 {
-    match fields.get(k) {
-        Some(field) => field,
-        None => &[],
-    }
+    fields.get(k).unwrap_or(&[])
 }
 
 /// The only field after the first.
@@ -72,9 +69,7 @@ pub(crate) fn number(field: &[u8], low: u32, high: u32) -> Result<u32, ReadFault
     ensures reads { Reads (λ n. n) (records.digits low high field.now) result }
     ensures within { IfOk result (λ n. (low ≤ n) × (n ≤ high)) }
 {
-    let Some(value) = value(field) else {
-        return Err(ReadFault::Syntax);
-    };
+    let value = value(field).ok_or(ReadFault::Syntax)?;
     if u64::from(low) <= value && value <= u64::from(high) {
         Ok(value as u32)
     } else {

@@ -218,20 +218,13 @@ fn push_obstacle(text: &mut Vec<u8>, obstacle: Obstacle) -> Result<(), AllocErro
     ensures { OnOk result (text.new.items ≡ text.old.items
         ++ after_commas (texts.obstacle_fields (obstacle_of obstacle))) }
 {
-    match obstacle {
-        Obstacle::SameSector(line) => {
-            push_field(text, b"sector")?;
-            push_number(text, line.number())
-        }
-        Obstacle::OtherBearing(line) => {
-            push_field(text, b"bearing")?;
-            push_number(text, line.number())
-        }
-        Obstacle::OtherNode(node) => {
-            push_field(text, b"node")?;
-            push_number(text, node.number())
-        }
-    }
+    let (kind, number) = match obstacle {
+        Obstacle::SameSector(line) => (b"sector".as_slice(), line.number()),
+        Obstacle::OtherBearing(line) => (b"bearing".as_slice(), line.number()),
+        Obstacle::OtherNode(node) => (b"node".as_slice(), node.number()),
+    };
+    push_field(text, kind)?;
+    push_number(text, number)
 }
 
 /// The number of lines of an offset.
@@ -239,10 +232,7 @@ fn offset_count(offset: Option<u8>) -> usize
     ensures lines { (word : List ℕ) → length (texts.offset_lines word offset) ≡ result }
     ensures one { result ≤ 1 }
 {
-    match offset {
-        Some(_) => 1,
-        None => 0,
-    }
+    usize::from(offset.is_some())
 }
 
 /// The lines of the LRPs between the first and the last.
