@@ -10,6 +10,7 @@ use std::alloc::{AllocError, Global};
 use std::io::Read;
 
 /// The records of a file, if there is one.
+#[tactic(auto, using(crate::proofs::InputRuns::none_left))]
 fn file_source<F: Read + Drop>(
     alloc: Global,
     file: Option<F>,

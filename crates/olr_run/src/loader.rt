@@ -107,15 +107,13 @@ fn kind_of(command: &Command) -> Kind
 }
 
 /// Makes a change, which has to be accepted.
+#[tactic(auto, using(crate::proofs::Refusing::not_made))]
 fn change(building: &mut Building, command: Command) -> Result<(), RestoreFault>
     requires { IsChange (command_of command) }
     ensures made { OnOk result (Changes building.old (command_of command) building.new) }
     ensures refused { IfErr result (λ e. is_rejection e ≡ true → NeverChanges building.old (command_of command)) }
 {
-    match building.change(command) {
-        Ok(()) => Ok(()),
-        Err(fault) => Err(restore_fault(fault)),
-    }
+    building.change(command).map_err(restore_fault)
 }
 
 impl Loader {
