@@ -26,6 +26,7 @@ fn file_source<F: Read + Drop>(
 }
 
 /// The records of a file, if there is one, and then those of an input. A batch that the file leaves open stays open.
+#[tactic(auto, using(crate::proofs::InputRuns::both_left))]
 pub(crate) fn both_sources<F: Read + Drop, R: Read + Drop>(
     alloc: Global,
     file: Option<F>,

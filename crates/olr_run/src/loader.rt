@@ -129,6 +129,7 @@ impl Loader {
     }
 
     /// Makes a change, which the log's batch has to have room for, if one is open.
+    #[tactic(auto, using(crate::proofs::Refusing::change_never, crate::proofs::Refusing::change_full))]
     fn change(&mut self, command: Command) -> Result<(), RestoreFault>
         requires { IsChange (command_of command) }
         ensures loaded { OnOk result (Loaded self.old (command_of command) self.new) }
@@ -146,6 +147,7 @@ impl Loader {
     }
 
     /// A batch of the log begins.
+    #[tactic(auto, using(crate::proofs::Refusing::begin_inside))]
     fn begin(&mut self) -> Result<(), RestoreFault>
         ensures loaded { OnOk result (Loaded self.old Begin self.new) }
         ensures refused { IfErr result (λ e. is_rejection e ≡ true → Refuses self.old Begin) }
@@ -159,6 +161,7 @@ impl Loader {
     }
 
     /// A batch of the log ends.
+    #[tactic(auto, using(crate::proofs::Refusing::commit_differs, crate::proofs::Refusing::commit_outside))]
     fn commit(&mut self, count: u32) -> Result<(), RestoreFault>
         ensures loaded { OnOk result (Loaded self.old (Commit count) self.new) }
         ensures refused { IfErr result (λ e. is_rejection e ≡ true → Refuses self.old (Commit count)) }
@@ -174,6 +177,7 @@ impl Loader {
     }
 
     /// Carries out a command of a log.
+    #[tactic(auto, using(crate::proofs::Restoring::refused_result, crate::proofs::Restoring::kind_is))]
     fn carry_out(&mut self, command: Command) -> Result<(), RestoreFault>
         ensures loaded { OnOk result (IsLogged (command_of command) × Loaded self.old (command_of command) self.new) }
         ensures refused { IfErr result (λ e. is_rejection e ≡ true
@@ -200,6 +204,7 @@ impl Loader {
     }
 
     /// The register, once all records were taken.
+    #[tactic(auto, using(crate::proofs::Refusing::outside_closed))]
     fn finish(self) -> Result<Register, RestoreFault>
         ensures finished { IfOk result (λ r. (s : state.State) → Loads self s
             → (c : Content) × (s ≡ closed c) × Represents r.state (closed c)) }

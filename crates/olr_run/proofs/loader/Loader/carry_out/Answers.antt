@@ -1,6 +1,6 @@
 use Rattle.olr_run.proofs.Common.{Begin, Commit, command_of, sym, subst, IsLogged, refl}
 use Rattle.olr_run.specs.declared.loader.Kind.TheVariants as kind
-use Rattle.olr_run.proofs.Restoring.{kind_is, logged_result, refused_result}
+use Rattle.olr_run.proofs.Restoring.{kind_is, logged_result}
 use Rattle.olr_run.proofs.loader.Loader.carry_out.Goals as goal
 
 pub returns-in-Begin-clause-loaded : goal.returns-in-Begin-clause-loaded
@@ -22,20 +22,6 @@ returns-in-Change-clause-loaded c =
     let change = kind_is c.args.command kind.Change c.in-Change.ensures in
     logged_result c.args.self.now c.change.new.self k k c.change.result refl (subst IsLogged (sym change.1) tt)
     c.change.ensures.loaded
-
-pub returns-in-Begin-clause-refused : goal.returns-in-Begin-clause-refused
-returns-in-Begin-clause-refused c =
-    refused_result c.args.self.now (command_of c.args.command) Begin c.begin.result
-    (kind_is c.args.command kind.Begin c.in-Begin.ensures) c.begin.ensures.refused
-
-pub returns-in-Commit-clause-refused : goal.returns-in-Commit-clause-refused
-returns-in-Commit-clause-refused c =
-    refused_result c.args.self.now (command_of c.args.command) (Commit c.in-Commit.count) c.commit.result
-    (kind_is c.args.command (kind.Commit c.in-Commit.count) c.in-Commit.ensures) c.commit.ensures.refused
-
-pub returns-in-Change-clause-refused : goal.returns-in-Change-clause-refused
-returns-in-Change-clause-refused c =
-    let k = command_of c.args.command in refused_result c.args.self.now k k c.change.result refl c.change.ensures.refused
 
 pub returns-in-Other-clause-refused : goal.returns-in-Other-clause-refused
 returns-in-Other-clause-refused c = λ is stored. absurd (kind_is c.args.command kind.Other c.in-Other.ensures stored)

@@ -1,9 +1,5 @@
-use Rattle.olr_run.proofs.Refusing.{outside_closed}
 use Rattle.olr_run.proofs.Restoring.{loads_finished}
 use Rattle.olr_run.proofs.loader.Loader.finish.Goals as goal
-
-pub returns-then-in_batch-clause-refused : goal.returns-then-in_batch-clause-refused
-returns-then-in_batch-clause-refused c = λ is. outside_closed c.args.self c.if-in_batch.true
 
 pub returns-in-Ok-clause-finished : goal.returns-in-Ok-clause-finished
 returns-in-Ok-clause-finished c = λ s a.
