@@ -1,26 +1,24 @@
 -- A string in whose way nothing stands is distinct for both kinds of receivers.
-use Rattle.olr_spec.proofs.Common.{◌≡◌, ◌≢◌, ℕ, zero, suc, ◌+◌, ◌*◌, ◌<◌, ◌≤◌, ◌⊎◌, inl, inr, ℤ, Bool, true, false, not, ◌||◌, []}
-use Rattle.olr_spec.proofs.Common.{◌==◌, cond, nat_lt, List, ◌∷◌, ◌++◌, map, filter, length, slice_get, slice_index, Some, refl}
-use Rattle.olr_spec.proofs.Common.{option_map, sym, ap, ◌∙◌, subst, IsTrue, arith, cases_Bool, cases_eq, or_cases, or_left, None}
-use Rattle.olr_spec.proofs.Common.{or_right, and_parts, and_from, eqb-true, eq-eqb, ne_eqb, ltb-true, lt-ltb, le-ltb, list_any_at}
-use Rattle.olr_spec.proofs.Common.{Map, IsMap, has, has_line, has_node, line_at, start, end, Path, is_path, path_fault, Points}
-use Rattle.olr_spec.proofs.Common.{extended_path, EncodingWith, Reference, Leg, leg, legs, kept_points, candidates, Side, Measure}
-use Rattle.olr_spec.proofs.Common.{node_on, coordinate_on, list_any, is_nearest, has_no_twin, both_ways, ◌&&◌}
+use Rattle.olr_spec.proofs.Common.{◌≡◌, ◌≢◌, suc, ◌+◌, ◌*◌, ◌<◌, [], cond, List, ◌++◌, Some, refl, None, Path, legs, Side, ◌&&◌}
+use Rattle.olr_spec.proofs.Common.{ℕ, zero, Bool, true, ◌||◌, ◌==◌, arith, eq-eqb, ne_eqb, lt-ltb, le-ltb, IsMap, start, Points}
+use Rattle.olr_spec.proofs.Common.{◌≤◌, ◌⊎◌, ℤ, not, ◌∷◌, map, sym, ap, ◌∙◌, Map, has, end, Leg, leg}
+use Rattle.olr_spec.proofs.Common.{false, nat_lt, filter, length, IsTrue, or_left, line_at, is_path, Measure, node_on, list_any}
+use Rattle.olr_spec.proofs.Common.{slice_get, slice_index, list_any_at, extended_path, EncodingWith, kept_points, coordinate_on}
+use Rattle.olr_spec.proofs.Common.{option_map, cases_Bool, cases_eq, and_parts, path_fault, candidates, is_nearest, has_no_twin}
+use Rattle.olr_spec.proofs.Common.{or_cases, or_right, and_from, eqb-true, ltb-true, has_line, has_node, Reference, not-false}
 use Rattle.olr_spec.specs.Margins.{Margin}
 use Rattle.olr_spec.specs.Receiver.{Outgoing, Incoming, sector_on, are_twins, decoded_coord, last_number}
-use Rattle.olr_spec.specs.Recovery.{line_by, IsLineAtWith, OwnLinesWith, own_lines, Weighted, DistinctWith, lon_apart, lat_apart}
+use Rattle.olr_spec.specs.Recovery.{line_by, IsLineAtWith, OwnLinesWith, own_lines, Weighted, DistinctWith}
 use Rattle.olr_spec.specs.Directions.{direction_on, is_direction, is_beyond}
 use Rattle.olr_spec.specs.Ambiguity.{least_cosine, is_farther, usual_slack, is_outdone_for_all, lines_on, all_nodes, Obstacle}
-use Rattle.olr_spec.specs.Ambiguity.{Same_sector, Other_bearing, Other_node, is_twin_of, is_unclear, is_rival, obstacles_at}
-use Rattle.olr_spec.specs.Ambiguity.{side_at, obstacles_from, obstacles}
+use Rattle.olr_spec.specs.Ambiguity.{is_twin_of, is_unclear, is_rival, obstacles_at, side_at, obstacles_from, obstacles}
 use Rattle.olr_spec.proofs.Facts.{at_index, filter_has, exactly_in, exactly_out, has-all_nodes, known_record}
 use Rattle.olr_spec.proofs.FitLemmas.{by_answer}
 use Rattle.olr_spec.proofs.DecodedLemmas.{Kept}
-use Rattle.olr_spec.proofs.ReceiverLemmas.{same_path}
-use Rattle.olr_laws.specs.Directions.{is_outdone, stands_out, DistinctByDirectionWith}
-use Rattle.olr_laws.specs.AmbiguityLaws.{IsWeightedByLatitude, ClearIsDistinct}
-use Rattle.olr_laws.proofs.ReceiverLemmas.{got_index, every_candidate, outdone_of, same_place, known_out, known_in, size}
-use Rattle.olr_laws.proofs.ReceiverLemmas.{farther_by}
+use Rattle.olr_spec.proofs.ReceiverLemmas.{same_path, size}
+use Rattle.olr_laws.specs.Directions.{AtEachLrp, is_outdone, stands_out, DistinctByDirectionWith}
+use Rattle.olr_laws.specs.ReceiverLaws.{IsWeightedByLatitude, ClearIsDistinct}
+use Rattle.olr_laws.proofs.ReceiverLemmas.{got_index, every_candidate, outdone_of, same_place, IsOwn, own_lines_are, farther_by}
 
 -- ---- lists without elements
 
@@ -33,24 +31,10 @@ map_none {X} {Y} f [] e = refl
 map_none {X} {Y} f (x ∷ xs) e = absurd cc
 
 none_passes : (p : ℕ → Bool) (xs : List ℕ) → filter p xs ≡ [] → (x : ℕ) → has xs x ≡ true → p x ≡ false
-none_passes p xs none x h = elim (cases_Bool (p x)) [
-  | inl is ↦
-      let here = filter_has p xs x h is in
-      let empty : has (filter p xs) x ≡ false = ap (λ (zs : List ℕ). has zs x) none in
-      let never : ⊥ = cc (here, empty) in
-      absurd never
-  | inr isnt ↦ isnt
-]
+none_passes p xs none x h = grind (arith, cases_Bool (p x), filter_has p xs x h)
 
 none_of_any : (p : ℕ → Bool) (xs : List ℕ) → list_any p xs ≡ false → (x : ℕ) → has xs x ≡ true → p x ≡ false
-none_of_any p xs none x h = elim (cases_Bool (p x)) [
-  | inl is ↦
-      let at = at_index xs x h in
-      let some = list_any_at p xs at.0 0 at.1 (ap p at.2 ∙ is) in
-      let never : ⊥ = cc (some, none) in
-      absurd never
-  | inr isnt ↦ isnt
-]
+none_of_any p xs none x h = let at = at_index xs x h in grind (arith, cases_Bool (p x), list_any_at p xs at.0 0 at.1)
 
 -- ---- one LRP
 
@@ -71,91 +55,39 @@ module _ (M : Map) (m : IsMap M) (s : Side) (p : ℤ × ℤ) (x : ℕ) (known : 
   abbrev ys : List ℕ
   ys = lines_on s M (node_on s g)
 
-  abbrev Twins : List Obstacle
-  Twins = map (λ y. Same_sector y) (filter (is_twin_of M s x) ys)
-
-  abbrev Unclear : List Obstacle
-  Unclear = map (λ y. Other_bearing y) (filter (is_unclear M s x) ys)
-
-  abbrev Rivals : List Obstacle
-  Rivals = map (λ w. Other_node w) (filter (is_rival M s p x) (all_nodes M))
-
-  parts_none : (Twins ++ Unclear ≡ []) × (Rivals ≡ [])
-  parts_none = append_none (Twins ++ Unclear) Rivals none
-
-  twins_none : filter (is_twin_of M s x) ys ≡ []
-  twins_none = map_none (λ y. Same_sector y) (filter (is_twin_of M s x) ys) (append_none Twins Unclear parts_none.0).0
-
-  unclear_none : filter (is_unclear M s x) ys ≡ []
-  unclear_none = map_none (λ y. Other_bearing y) (filter (is_unclear M s x) ys) (append_none Twins Unclear parts_none.0).1
-
-  rivals_none : filter (is_rival M s p x) (all_nodes M) ≡ []
-  rivals_none = map_none (λ w. Other_node w) (filter (is_rival M s p x) (all_nodes M)) parts_none.1
+  parts_none : (filter (is_twin_of M s x) ys ≡ []) × (filter (is_unclear M s x) ys ≡ [])
+      × (filter (is_rival M s p x) (all_nodes M) ≡ [])
+  parts_none = grind (arith, append_none {X = Obstacle}, map_none {X = ℕ} {Y = Obstacle})
 
   here : (y : ℕ) → IsTrue (has_line M y) → node_on s (leg M y) ≡ node_on s g → has ys y ≡ true
   here y h e = ap (λ (v : ℕ). has (lines_on s M v) y) (sym e) ∙ on_side M s y h
 
   -- another line at the node is no twin, and is beyond the margin
+  twins_meet : (y : ℕ) → are_twins s g (leg M y) ≡ true → node_on s (leg M y) ≡ node_on s g
+  twins_meet y is = grind (arith, and_parts, eqb-true)
+
   not_twin : (y : ℕ) → IsTrue (has_line M y) → y ≢ x → are_twins s g (leg M y) ≡ false
-  not_twin y h n = elim (cases_Bool (are_twins s g (leg M y))) [
-    | inl is ↦
-        let at : node_on s (leg M y) ≡ node_on s g = twins_meet y is in
-        let none_there = none_passes (is_twin_of M s x) ys twins_none y (here y h at) in
-        let twin : is_twin_of M s x y ≡ true = and_from (not (y == x)) _ (ap not (ne_eqb y x n)) is in
-        absurd (both_ways (is_twin_of M s x y) none_there twin)
-    | inr isnt ↦ isnt
-  ]
-    where
-      twins_meet : (y : ℕ) → are_twins s g (leg M y) ≡ true → node_on s (leg M y) ≡ node_on s g
-      twins_meet y is =
-          let a = and_parts (node_on s g == node_on s (leg M y) && g.line.frc == (leg M y).line.frc && g.line.fow == (leg M y).line.fow) _ is in
-          let b = and_parts (node_on s g == node_on s (leg M y) && g.line.frc == (leg M y).line.frc) _ a.0 in
-          let c = and_parts (node_on s g == node_on s (leg M y)) _ b.0 in
-          sym (eqb-true _ _ c.0)
+  not_twin y h n =
+      grind (arith, cases_Bool (are_twins s g (leg M y)), twins_meet y, here y h, none_passes (is_twin_of M s x) ys parts_none.0 y, ne_eqb y x n)
 
   beyond_here : (y : ℕ) → IsTrue (has_line M y) → y ≢ x → node_on s (leg M y) ≡ node_on s g →
       is_beyond (sector_on s g) (direction_on s (leg M y)) ≡ true
   beyond_here y h n at =
-      let none_there = none_passes (is_unclear M s x) ys unclear_none y (here y h at) in
-      let twin = not_twin y h n in
-      let other : (not (are_twins s g (leg M y)) && not (is_beyond (sector_on s g) (direction_on s (leg M y)))) ≡ false =
-      sym (ap (λ (b : Bool). cond b (not (is_direction (direction_on s g))) (not (are_twins s g (leg M y)) && not (is_beyond (sector_on s g) (direction_on s (leg M y))))) (ne_eqb y x n)) ∙ none_there in
-      elim (cases_Bool (is_beyond (sector_on s g) (direction_on s (leg M y)))) [
-        | inl is ↦ is
-        | inr isnt ↦
-            let both = and_from (not (are_twins s g (leg M y))) (not (is_beyond (sector_on s g) (direction_on s (leg M y)))) (ap not twin) (ap not isnt) in
-            let never : ⊥ = cc (both, other) in
-            absurd never
-      ]
+      grind (arith, cases_Bool, not_twin y h n, none_passes (is_unclear M s x) ys parts_none.1 y (here y h at), ne_eqb y x n)
 
   has_direction : is_direction (direction_on s g) ≡ true
-  has_direction =
-      let none_there = none_passes (is_unclear M s x) ys unclear_none x (here x known refl) in
-      let self : not (is_direction (direction_on s g)) ≡ false =
-      sym (ap (λ (b : Bool). cond b (not (is_direction (direction_on s g))) (not (are_twins s g g) && not (is_beyond (sector_on s g) (direction_on s g)))) (eq-eqb x x refl)) ∙ none_there in
-      elim (cases_Bool (is_direction (direction_on s g))) [
-        | inl is ↦ is
-        | inr isnt ↦ let never : ⊥ = cc (self, ap not isnt) in absurd never
-      ]
+  has_direction = grind (arith, cases_Bool, none_passes (is_unclear M s x) ys parts_none.1 x (here x known refl), eq-eqb x x refl)
 
   -- a line at another node is outdone
   outdone_there : (y : ℕ) → IsTrue (has_line M y) → node_on s (leg M y) ≢ node_on s g → is_outdone_for_all s p g (leg M y) ≡ true
   outdone_there y h n =
       let w = node_on s (leg M y) in
       let on : has (all_nodes M) w ≡ true = has-all_nodes M w ∙ node_known M m s y h in
-      let none_there = none_passes (is_rival M s p x) (all_nodes M) rivals_none w on in
-      let none : list_any (λ z. not (is_outdone_for_all s p g (leg M z))) (lines_on s M w) ≡ false =
-      elim (cases_Bool (list_any (λ z. not (is_outdone_for_all s p g (leg M z))) (lines_on s M w))) [
-        | inl is ↦
-            let rival = and_from (not (w == node_on s g)) _ (ap not (ne_eqb w (node_on s g) n)) is in
-            absurd (both_ways (is_rival M s p x w) none_there rival)
-        | inr isnt ↦ isnt
-      ] in
-      let own = none_of_any (λ z. not (is_outdone_for_all s p g (leg M z))) (lines_on s M w) none y (on_side M s y h) in
-      elim (cases_Bool (is_outdone_for_all s p g (leg M y))) [
-        | inl is ↦ is
-        | inr isnt ↦ let never : ⊥ = cc (own, ap not isnt) in absurd never
-      ]
+      let other = λ (z : ℕ). not (is_outdone_for_all s p g (leg M z)) in
+      let none : list_any other (lines_on s M w) ≡ false =
+      sym (ap (λ (b : Bool). not b && list_any other (lines_on s M w)) (ne_eqb w (node_on s g) n))
+      ∙ none_passes (is_rival M s p x) (all_nodes M) parts_none.2 w on in
+      not-false _ (none_of_any other (lines_on s M w) none y (on_side M s y h))
 
   module _ (scale : ℕ) (far : Measure) (unit : 0 < scale) (all : (y : ℕ) → IsTrue (has_line M y) →
       Weighted (least_cosine p (coordinate_on s (leg M y))) 1000000 scale far p (coordinate_on s (leg M y))) where
@@ -165,89 +97,65 @@ module _ (M : Map) (m : IsMap M) (s : Side) (p : ℤ × ℤ) (x : ℕ) (known : 
         let own = coordinate_on s g in
         let other = coordinate_on s (leg M y) in
         farther_by (least_cosine p own) (least_cosine p other) 1000000 scale e far p own other unit (all x known) (all y h)
-        (elim (or_cases (nat_lt (lon_apart p own + lat_apart p own + e) (lat_apart p other)) _ f) [
-          | inl north ↦ inl (ltb-true _ _ north)
-          | inr east ↦ inr (ltb-true _ _ east)
-        ])
+        (grind (arith, or_cases, ltb-true))
 
     -- by more than the slack, or with a direction beyond the margin
     farther_or : (y : ℕ) → IsTrue (has_line M y) → node_on s (leg M y) ≢ node_on s g →
         (far p (coordinate_on s g) + scale * usual_slack < far p (coordinate_on s (leg M y)))
         ⊎ ((far p (coordinate_on s g) < far p (coordinate_on s (leg M y))) × (is_beyond (sector_on s g) (direction_on s (leg M y)) ≡ true))
-    farther_or y h n =
-        elim (or_cases (is_farther usual_slack p (coordinate_on s g) (coordinate_on s (leg M y))) _ (outdone_there y h n)) [
-          | inl far_off ↦ inl (farther_there usual_slack y h far_off)
-          | inr near ↦
-              let both = and_parts (is_farther 0 p (coordinate_on s g) (coordinate_on s (leg M y))) _ near in
-              let less = farther_there 0 y h both.0 in
-              inr (omega (arith, less), both.1)
-        ]
+    farther_or y h n = grind (arith, outdone_there y h n, or_cases, and_parts, farther_there usual_slack y h, farther_there 0 y h)
 
     nearest_here : IsTrue (is_nearest far s p g (candidates M))
     nearest_here =
         every_candidate M (λ c. node_on s c.1 == node_on s g || nat_lt (far p (coordinate_on s g)) (far p (coordinate_on s c.1)))
-        (λ y h. elim (cases_eq (node_on s (leg M y)) (node_on s g)) [
-          | inl same ↦ or_left (node_on s (leg M y) == node_on s g) _ (eq-eqb _ _ same)
-          | inr other ↦ or_right (node_on s (leg M y) == node_on s g) _ (elim (farther_or y h other) [
-            | inl far_off ↦ lt-ltb _ _ (omega (arith, far_off))
-            | inr near ↦ lt-ltb _ _ near.0
-          ])
-        ])
+        (λ y h. grind (arith, cases_eq (node_on s (leg M y)) (node_on s g), or_left, or_right, eq-eqb, lt-ltb, farther_or y h))
 
     alone_here : IsTrue (has_no_twin s x g (candidates M))
     alone_here =
         every_candidate M (λ c. c.0 == x || not (are_twins s g c.1))
-        (λ y h. elim (cases_eq y x) [
-          | inl same ↦ or_left (y == x) _ (eq-eqb y x same)
-          | inr other ↦ or_right (y == x) _ (ap not (not_twin y h other))
-        ])
+        (λ y h. grind (arith, cases_eq y x, or_left, or_right, eq-eqb, not_twin y h))
 
     stands_here : (slack : ℕ) → slack ≤ scale * usual_slack → IsTrue (stands_out far slack s p x g (candidates M))
     stands_here slack few =
         and_from (is_direction (direction_on s g)) _ has_direction
         (every_candidate M (λ c. c.0 == x || is_outdone far slack s p g c.1)
-        (λ y h. elim (cases_eq y x) [
-          | inl same ↦ or_left (y == x) _ (eq-eqb y x same)
-          | inr other ↦ or_right (y == x) _ (outdone_of slack _ _ _ (elim (cases_eq (node_on s (leg M y)) (node_on s g)) [
-            | inl at ↦
-                let same : far p (coordinate_on s (leg M y)) ≡ far p (coordinate_on s g) = ap (far p) (same_place M s x y at) in
-                inr (omega (arith, same), beyond_here y h other at)
-            | inr apart ↦ elim (farther_or y h apart) [
-              | inl far_off ↦ inl (omega (arith, far_off, few))
-              | inr near ↦ inr (omega (arith, near.0), near.1)
-            ]
-          ]))
-        ]))
+        (λ y h. grind (
+          arith,
+          cases_eq y x,
+          cases_eq (node_on s (leg M y)) (node_on s g),
+          or_left,
+          or_right,
+          eq-eqb,
+          outdone_of slack,
+          same_place M s x y,
+          beyond_here y h,
+          farther_or y h,
+          few,
+        )))
 
 -- ---- all LRPs
 
-clear_from : (M : Map) (r : Reference) (k : ℕ) (xs : List ℕ) → obstacles_from M r k xs ≡ [] → (j x : ℕ) →
-    slice_get xs j ≡ Some x → obstacles_at M (side_at r (k + j)) (decoded_coord r (k + j)) x ≡ []
-clear_from M r k [] none j x at = absurd cc
-clear_from M r k (y ∷ xs) none zero x at =
-    let first = (append_none (map (λ o. (k, o)) (obstacles_at M (side_at r k) (decoded_coord r k) y)) (obstacles_from M r (suc k) xs) none).0 in
-    let clear = map_none (λ o. (k, o)) (obstacles_at M (side_at r k) (decoded_coord r k) y) first in
-    let same : y ≡ x = cc at in
-    let here : k + 0 ≡ k = omega arith in
-    subst (λ (n : ℕ). obstacles_at M (side_at r n) (decoded_coord r n) x ≡ []) (sym here)
-    (subst (λ (z : ℕ). obstacles_at M (side_at r k) (decoded_coord r k) z ≡ []) same clear)
-clear_from M r k (y ∷ xs) none (suc j) x at =
-    let later = (append_none (map (λ o. (k, o)) (obstacles_at M (side_at r k) (decoded_coord r k) y)) (obstacles_from M r (suc k) xs) none).1 in
-    let step : suc k + j ≡ k + suc j = omega arith in
-    subst (λ (n : ℕ). obstacles_at M (side_at r n) (decoded_coord r n) x ≡ []) step (clear_from M r (suc k) xs later j x at)
+clear_from : (M : Map) (r : Reference) (k : ℕ) (xs : List ℕ) → obstacles_from M r k xs ≡ [] → (j n x : ℕ) → n ≡ k + j →
+    slice_get xs j ≡ Some x → obstacles_at M (side_at r n) (decoded_coord r n) x ≡ []
+clear_from M r k [] none j n x e at = absurd cc
+clear_from M r k (y ∷ xs) none zero n x e at =
+    let same : n ≡ k = omega arith in
+    let line : x ≡ y = cc at in
+    (λ i. obstacles_at M (side_at r (same i)) (decoded_coord r (same i)) (line i))
+    ∙ map_none (λ o. (k, o)) _ (append_none _ (obstacles_from M r (suc k) xs) none).0
+clear_from M r k (y ∷ xs) none (suc j) n x e at =
+    let rest = (append_none (map (λ o. (k, o)) (obstacles_at M (side_at r k) (decoded_coord r k) y)) _ none).1 in
+    clear_from M r (suc k) xs rest j n x (omega arith) at
 
-pub own_out : (ls ks : List ℕ) (k : ℕ) → k + 1 < length ks → slice_get (own_lines ls ks) k ≡ Some (line_by Outgoing ls (slice_index ks k))
-own_out ls [] k lt = absurd (omega arith)
-own_out ls (i ∷ []) k lt = absurd (omega arith)
+own_out : (ls ks : List ℕ) (k : ℕ) → k + 1 < length ks → slice_get (own_lines ls ks) k ≡ Some (line_by Outgoing ls (slice_index ks k))
 own_out ls (i ∷ j ∷ ks) zero lt = refl
 own_out ls (i ∷ j ∷ ks) (suc k) lt = own_out ls (j ∷ ks) k (omega arith)
+own_out ls _ k lt = absurd (omega arith)
 
-pub own_in : (ls ks : List ℕ) (k : ℕ) → k + 1 ≡ length ks → slice_get (own_lines ls ks) k ≡ Some (line_by Incoming ls (slice_index ks k))
-own_in ls [] k lt = absurd (omega arith)
+own_in : (ls ks : List ℕ) (k : ℕ) → k + 1 ≡ length ks → slice_get (own_lines ls ks) k ≡ Some (line_by Incoming ls (slice_index ks k))
 own_in ls (i ∷ []) zero lt = refl
-own_in ls (i ∷ []) (suc k) lt = absurd (omega arith)
-own_in ls (i ∷ j ∷ ks) zero lt = absurd (omega arith)
 own_in ls (i ∷ j ∷ ks) (suc k) lt = own_in ls (j ∷ ks) k (omega arith)
+own_in ls _ k lt = absurd (omega arith)
 
 module _ {g : Margin} (M : Map) (m : IsMap M) (P : Path) (is : IsTrue (is_path P.lines)) (sound : path_fault M P ≡ None)
     (r : Reference) (e : EncodingWith g M P (Points r)) (xs : List ℕ) (own : OwnLinesWith g M P xs) (none : obstacles M r xs ≡ [])
@@ -266,17 +174,12 @@ module _ {g : Margin} (M : Map) (m : IsMap M) (P : Path) (is : IsTrue (is_path P
       got_index (line_by s Lines) Points_kept k x
       (same_path M m P is sound r e (λ E js. option_map (line_by s E.lines) (slice_get (kept_points (legs M E.lines) E.pos E.neg js) k) ≡ Some x) at)
 
-  count : last_number r + 1 ≡ length Points_kept
-  count = size M m P is sound r e
-
   clear : (s : Side) (k x : ℕ) → side_at r k ≡ s → slice_get (own_lines Lines Points_kept) k ≡ Some (line_by s Lines (slice_index Points_kept k)) →
       IsLineAtWith g M P s k x → obstacles_at M s (decoded_coord r k) x ≡ []
   clear s k x side own at =
       let line : slice_get xs k ≡ Some x =
       ap (λ (zs : List ℕ). slice_get zs k) lines_are ∙ own ∙ ap (λ (z : ℕ). Some z) (at_point s k x at).1 in
-      let from_zero : 0 + k ≡ k = omega arith in
-      subst (λ (s : Side). obstacles_at M s (decoded_coord r k) x ≡ []) side
-      (subst (λ (n : ℕ). obstacles_at M (side_at r n) (decoded_coord r n) x ≡ []) from_zero (clear_from M r 0 xs none k x line))
+      (λ i. obstacles_at M (sym side i) (decoded_coord r k) x) ∙ clear_from M r 0 xs none k k x (omega arith) line
 
   -- the path's line x at LRP k is the nearest one without a twin, and stands out
   abbrev Distinguished : Side → ℕ → ℕ → Type 0
@@ -284,35 +187,38 @@ module _ {g : Margin} (M : Map) (m : IsMap M) (P : Path) (is : IsTrue (is_path P
       IsTrue (is_nearest far s (decoded_coord r k) (leg M x) (candidates M)) × IsTrue (has_no_twin s x (leg M x) (candidates M))
       × IsTrue (stands_out far slack s (decoded_coord r k) x (leg M x) (candidates M))
 
-  at_lrp : (s : Side) (k x : ℕ) → k ≤ last_number r → IsTrue (has_line M x) → obstacles_at M s (decoded_coord r k) x ≡ [] →
-      Distinguished s k x
-  at_lrp s k x up known none =
+  at_lrp : (s : Side) (k x : ℕ) → IsOwn M r s k x → obstacles_at M s (decoded_coord r k) x ≡ [] → Distinguished s k x
+  at_lrp s k x own none =
       let p = decoded_coord r k in
-      let all = λ (y : ℕ) (h : IsTrue (has_line M y)). w.all s k y up h in (
-        nearest_here M m s p x known none scale far w.unit all,
-        alone_here M m s p x known none scale far w.unit all,
-        stands_here M m s p x known none scale far w.unit all slack few,
+      let all = λ (y : ℕ) (h : IsTrue (has_line M y)). w.all s k y own.up h in (
+        nearest_here M m s p x own.known none scale far w.unit all,
+        alone_here M m s p x own.known none scale far w.unit all,
+        stands_here M m s p x own.known none scale far w.unit all slack few,
       )
 
-  at_out : (k x : ℕ) → k < last_number r → IsLineAtWith g M P Outgoing k x → Distinguished Outgoing k x
-  at_out k x lt at =
-      at_lrp Outgoing k x (omega arith) (known_out M m P is sound r e k x lt at) (clear Outgoing k x
-      (ap (λ (b : Bool). cond b Outgoing Incoming) (lt-ltb k (last_number r) lt)) (own_out Lines Points_kept k (omega (arith, count))) at)
-
-  at_in : (x : ℕ) → IsLineAtWith g M P Incoming (last_number r) x → Distinguished Incoming (last_number r) x
-  at_in x at =
-      let k = last_number r in
-      at_lrp Incoming k x (omega arith) (known_in M m P is sound r e x at) (clear Incoming k x
-      (ap (λ (b : Bool). cond b Outgoing Incoming) (le-ltb k k (omega arith))) (own_in Lines Points_kept k (omega (arith, count))) at)
+  at_each : AtEachLrp g M P r Distinguished
+  at_each =
+      let lines = own_lines_are M m P is sound r e in
+      let long = size M m P is sound r e in
+      let last = last_number r in
+      record {
+        outgoing = λ k x lt at. at_lrp Outgoing k x (lines.outgoing k x lt at) (clear Outgoing k x
+            (ap (λ (b : Bool). cond b Outgoing Incoming) (lt-ltb k last lt)) (own_out Lines Points_kept k (omega (arith, long))) at);
+        incoming = λ x at. at_lrp Incoming last x (lines.incoming x at) (clear Incoming last x
+            (ap (λ (b : Bool). cond b Outgoing Incoming) (le-ltb last last (omega arith)))
+            (own_in Lines Points_kept last (omega (arith, long))) at);
+      }
 
   distinct : DistinctWith g far M P r × DistinctByDirectionWith g far slack M P r
-  distinct = (
-    record {
-      outgoing = λ k lt. record { nearest = λ x at. (at_out k x lt at).0; alone = λ x at. (at_out k x lt at).1 };
-      incoming = record { nearest = λ x at. (at_in x at).0; alone = λ x at. (at_in x at).1 };
-    },
-    record { outgoing = λ k x lt at. (at_out k x lt at).2; incoming = λ x at. (at_in x at).2 },
-  )
+  distinct =
+      let out = at_each.outgoing in
+      let back = at_each.incoming in (
+        record {
+          outgoing = λ k lt. record { nearest = λ x at. (out k x lt at).0; alone = λ x at. (out k x lt at).1 };
+          incoming = record { nearest = λ x at. (back x at).0; alone = λ x at. (back x at).1 };
+        },
+        record { outgoing = λ k x lt at. (out k x lt at).2; incoming = λ x at. (back x at).2 },
+      )
 
 pub clear_is_distinct : (g : Margin) → ClearIsDistinct g
 clear_is_distinct g M m P is r enc xs own none scale far w slack few =

@@ -1,16 +1,15 @@
 -- The angle from the middle of a sector, for directions in the sector and beyond its margin.
 use Rattle.olr_spec.proofs.Common.{◌≡◌, ℕ, zero, suc, ◌+◌, ◌*◌, ◌/◌, ◌%◌, ◌<◌, ◌≤◌, ℤ, pos, ◌-ℤ◌, ◌*ℤ◌, ◌≤ℤ◌, ◌<ℤ◌, Bool, true}
-use Rattle.olr_spec.proofs.Common.{false, not, nat_lt, nat_abs, int_le, List, [], ◌∷◌, map, arith, ints, refl, sym, ap, ◌∙◌, has}
+use Rattle.olr_spec.proofs.Common.{false, not, nat_lt, nat_abs, List, [], ◌∷◌, map, arith, ints, refl, sym, ap, ◌∙◌, has}
 use Rattle.olr_spec.proofs.Common.{subst, and_parts, and_from, leb-true, le-leb, cases_Bool, Vector, vector, boundary, beyond}
 use Rattle.olr_spec.proofs.Common.{quarter_turn, lies_between, IsSector, up_to, by_lt_z, le-ltb, lt-ltb, ltb-true, cases_lt}
-use Rattle.olr_spec.proofs.SectorLemmas.{has_below, same_at, turned, turns_into, le_yes, le_test, neg_right, neg_left}
+use Rattle.olr_spec.proofs.SectorLemmas.{has_below, same_at, turned, turns_into, neg_right, neg_left}
 use Rattle.std.proofs.Common.{neg_ℤ, int_lt}
 use Rattle.std.proofs.Math.Nat.{mul-le-mul_right}
 use Rattle.olr_spec.proofs.Facts.{has_cases}
 use Rattle.olr_spec.specs.Directions.{margin_start, margin_end, is_direction, is_beyond}
-use Rattle.olr_laws.specs.Directions.{middle, along, across, is_within, count_where, IsNearly}
-use Rattle.olr_laws.specs.DirectionLaws.{SeesByLimits}
-use Rattle.olr_spec.proofs.Common.{negsuc, inl, inr}
+use Rattle.olr_laws.specs.Directions.{middle, along, is_within, count_where, IsNearly}
+use Rattle.olr_laws.specs.ReceiverLaws.{SeesByLimits}
 
 -- Z is z, but for at most a 200th
 pub record Near (z Z : ℤ) : Type 0 where
@@ -58,10 +57,10 @@ of_quarter _ lt e n E N h g p q = absurd (omega arith)
 
 -- the sign of z is that of Z
 sign_above : (z Z : ℤ) → Near z Z → pos 0 ≤ℤ Z → pos 0 ≤ℤ z
-sign_above z Z p h = by_lt_z {P = pos 0 ≤ℤ z} z (pos 0) (λ less. let b = p.below (omega (arith, ints)) in omega (arith, ints)) (λ more. more)
+sign_above z Z p h = grind (arith, ints)
 
 sign_below : (z Z : ℤ) → Near z Z → Z <ℤ pos 0 → z ≤ℤ pos 0
-sign_below z Z p h = by_lt_z {P = z ≤ℤ pos 0} (pos 0) z (λ more. let b = p.above (omega (arith, ints)) in omega (arith, ints)) (λ less. less)
+sign_below z Z p h = grind (arith, ints)
 
 out_of_quarter : (j : ℕ) → j < 8 → Outside (margin_start j) (margin_end j) (middle j)
 out_of_quarter zero lt e n E N p q ahead right left =
@@ -97,25 +96,15 @@ along_turned : (m : Vector) (e n : ℤ) → along (quarter_turn m) (vector e n) 
 along_turned m e n = omega (arith, neg_right n m.east, neg_left n m.east, ints)
 
 near_neg : (z Z : ℤ) → Near z Z → Near (neg_ℤ z) (neg_ℤ Z)
-near_neg z Z p =
-    record {
-      above = λ h. let b = p.below (omega (arith, ints)) in omega (arith, ints);
-      below = λ h. let a = p.above (omega (arith, ints)) in omega (arith, ints);
-    }
+near_neg z Z p = record { above = λ h. grind (arith, ints); below = λ h. grind (arith, ints) }
 
 turned_inside : (b c m : Vector) → Inside b c m → Inside (quarter_turn b) (quarter_turn c) (quarter_turn m)
 turned_inside b c m i e n E N h g p q =
-    let here = i (neg_ℤ n) e (neg_ℤ N) E (coe 0 1 (t. pos 0 ≤ℤ beyond_turned b e n t) h)
-    (coe 0 1 (t. beyond_turned c e n t <ℤ pos 0) g) (near_neg n N q) p in
-    coe 1 0 (t. (pos 0 <ℤ along_turned m E N t) × ((pos 1000 *ℤ beyond_turned m E N t) ≤ℤ (pos 104 *ℤ along_turned m E N t))
-    × (neg_ℤ (pos 104 *ℤ along_turned m E N t) ≤ℤ (pos 1000 *ℤ beyond_turned m E N t))) here
+    grind (arith, beyond_turned b e n, beyond_turned c e n, beyond_turned m E N, along_turned m E N, near_neg n N q, i (neg_ℤ n) e (neg_ℤ N) E)
 
 turned_outside : (s f m : Vector) → Outside s f m → Outside (quarter_turn s) (quarter_turn f) (quarter_turn m)
 turned_outside s f m o e n E N p q ahead right left =
-    let here = o (neg_ℤ n) e (neg_ℤ N) E (near_neg n N q) p (coe 0 1 (t. pos 0 <ℤ along_turned m E N t) ahead)
-    (coe 0 1 (t. (pos 1000 *ℤ beyond_turned m E N t) ≤ℤ (pos 142 *ℤ along_turned m E N t)) right)
-    (coe 0 1 (t. neg_ℤ (pos 142 *ℤ along_turned m E N t) ≤ℤ (pos 1000 *ℤ beyond_turned m E N t)) left) in
-    coe 1 0 (t. (pos 0 ≤ℤ beyond_turned s e n t) × (beyond_turned f e n t <ℤ pos 0)) here
+    grind (arith, beyond_turned s e n, beyond_turned f e n, beyond_turned m E N, along_turned m E N, near_neg n N q, o (neg_ℤ n) e (neg_ℤ N) E)
 
 turned_at : (f : ℕ → Vector) → map (λ j. f (j + 8)) (up_to 24) ≡ map (λ j. quarter_turn (f j)) (up_to 24) → (k : ℕ) → k < 24 →
     f (k + 8) ≡ quarter_turn (f k)
@@ -155,48 +144,34 @@ near_of z Z h =
       below = λ p. (grind (arith, ints), grind (arith, ints));
     }
 
-lt_test : (a b : ℤ) → a <ℤ b → int_lt a b ≡ true
-lt_test a b h = grind (arith, ints)
-
 abs_few : (n : ℕ) (x y : ℤ) → pos 0 <ℤ x → (pos 1000 *ℤ y) ≤ℤ (pos n *ℤ x) → neg_ℤ (pos n *ℤ x) ≤ℤ (pos 1000 *ℤ y) →
     1000 * nat_abs y ≤ n * nat_abs x
-abs_few n (pos a) (pos b) ahead right left = omega (arith, ints)
-abs_few n (pos a) (negsuc b) ahead right left = omega (arith, ints)
-abs_few n (negsuc a) y ahead right left = absurd (omega (arith, ints))
+abs_few n x y ahead right left = grind (arith, ints)
 
 few_abs : (n : ℕ) (x y : ℤ) → pos 0 <ℤ x → 1000 * nat_abs y ≤ n * nat_abs x →
     ((pos 1000 *ℤ y) ≤ℤ (pos n *ℤ x)) × (neg_ℤ (pos n *ℤ x) ≤ℤ (pos 1000 *ℤ y))
-few_abs n (pos a) (pos b) ahead h = omega (arith, ints)
-few_abs n (pos a) (negsuc b) ahead h = omega (arith, ints)
-few_abs n (negsuc a) y ahead h = absurd (omega (arith, ints))
+few_abs n x y ahead h = grind (arith, ints)
 
-within_of : (t : ℕ) (m w : Vector) → 104000 ≤ t → pos 0 <ℤ along m w → 1000 * across m w ≤ 104 * nat_abs (along m w) →
+within_of : (t : ℕ) (m w : Vector) → 104000 ≤ t → pos 0 <ℤ along m w → 1000 * nat_abs (beyond m w) ≤ 104 * nat_abs (along m w) →
     is_within t m w ≡ true
 within_of t m w h ahead few =
     let more : 104000 * nat_abs (along m w) ≤ t * nat_abs (along m w) = mul-le-mul_right (nat_abs (along m w)) h in
-    and_from _ _ (lt_test (pos 0) (along m w) ahead) (le-leb _ _ (omega arith))
+    let front : int_lt (pos 0) (along m w) ≡ true = grind (arith, ints) in
+    and_from _ _ front (le-leb _ _ (omega arith))
 
 of_within : (t : ℕ) (m w : Vector) → t ≤ 142000 → is_within t m w ≡ true →
-    (pos 0 <ℤ along m w) × (1000 * across m w ≤ 142 * nat_abs (along m w))
+    (pos 0 <ℤ along m w) × (1000 * nat_abs (beyond m w) ≤ 142 * nat_abs (along m w))
 of_within t m w h is =
     let p = and_parts (int_lt (pos 0) (along m w)) _ is in
-    let all = leb-true (1000000 * across m w) (t * nat_abs (along m w)) p.1 in
-    let more : t * nat_abs (along m w) ≤ 142000 * nat_abs (along m w) = mul-le-mul_right (nat_abs (along m w)) h in (
-      by_lt_z {P = pos 0 <ℤ along m w} (pos 0) (along m w) (λ less. less)
-          (λ back. absurd (let never : ⊥ = let isnt : int_lt (pos 0) (along m w) ≡ false = grind (arith, ints) in cc (p.0, isnt) in never)),
-      omega arith,
-    )
+    let all = leb-true (1000000 * nat_abs (beyond m w)) (t * nat_abs (along m w)) p.1 in
+    let more : t * nat_abs (along m w) ≤ 142000 * nat_abs (along m w) = mul-le-mul_right (nat_abs (along m w)) h in
+    grind (arith, ints)
 
 between_of : (b c v : Vector) → lies_between b c v ≡ true → (pos 0 ≤ℤ beyond b v) × (beyond c v <ℤ pos 0)
-between_of b c v h =
-    let p = and_parts (int_le (pos 0) (beyond b v)) _ h in (
-      le_yes (pos 0) (beyond b v) p.0,
-      by_lt_z {P = beyond c v <ℤ pos 0} (beyond c v) (pos 0) (λ less. less)
-          (λ back. absurd (let never : ⊥ = let isnt : int_lt (beyond c v) (pos 0) ≡ false = grind (arith, ints) in cc (p.1, isnt) in never)),
-    )
+between_of b c v h = grind (arith, ints, and_parts)
 
 is_between : (b c v : Vector) → pos 0 ≤ℤ beyond b v → beyond c v <ℤ pos 0 → lies_between b c v ≡ true
-is_between b c v from to = and_from _ _ (le_test (pos 0) (beyond b v) from) (lt_test (beyond c v) (pos 0) to)
+is_between b c v from to = grind (arith, ints, and_from)
 
 module _ (k : ℕ) (v w : Vector) (near : IsNearly v w) where
   inside_within : IsSector v.east v.north k → (t : ℕ) → 104000 ≤ t → is_within t (middle k) w ≡ true
@@ -218,24 +193,19 @@ module _ (k : ℕ) (v w : Vector) (near : IsNearly v w) where
 
 count_more : (p q : ℕ → Bool) → ((t : ℕ) → p t ≡ true → q t ≡ true) → (ts : List ℕ) → count_where p ts ≤ count_where q ts
 count_more p q h [] = omega arith
-count_more p q h (t ∷ ts) = grind (arith, cases_Bool (p t), cases_Bool (q t), h t, count_more p q h ts)
+count_more p q h (t ∷ ts) = grind (arith, cases_Bool, h t, count_more p q h ts)
 
 count_less : (p q : ℕ → Bool) → ((t : ℕ) → p t ≡ true → q t ≡ true) → (ts : List ℕ) (t : ℕ) → has ts t ≡ true → p t ≡ false →
     q t ≡ true → count_where p ts < count_where q ts
 count_less p q h [] t i n y = absurd cc
 count_less p q h (u ∷ ts) t i n y =
-    let rest = count_more p q h ts in
-    elim (has_cases u ts t i) [
-      | inl same ↦ grind (arith, same, n, y, rest)
-      | inr later ↦ grind (arith, cases_Bool (p u), cases_Bool (q u), h u, count_less p q h ts t later n y)
-    ]
+    grind (arith, has_cases u ts t i, cases_Bool, h u, count_more p q h ts, count_less p q h ts t)
 
 not_true : (b : Bool) → (b ≡ true → ⊥) → not b ≡ true
-not_true true h = absurd (h refl)
-not_true false h = refl
+not_true b h = grind (arith, cases_Bool b)
 
 below_limit : (u : ℕ) → (104000 ≤ u → ⊥) → nat_lt u 104000 ≡ true
-below_limit u h = elim (cases_lt u 104000) [ inl lt ↦ lt-ltb u 104000 lt | inr ge ↦ absurd (h ge) ]
+below_limit u h = grind (arith, cases_lt u 104000, lt-ltb)
 
 pub sees_by_limits : SeesByLimits
 sees_by_limits ts t among least most seen near =

@@ -1,11 +1,11 @@
 -- Bytes have no fault exactly if some reference encodes as them.
 use Rattle.olr_spec.proofs.Common.{inl, inr, ◌≡◌, ℕ, zero, suc, ◌+◌, ◌-◌, ◌*◌, ◌/◌, ◌%◌, ◌<◌, ◌≤◌, ℤ, pos, negsuc, ◌≤ℤ◌, false}
-use Rattle.olr_spec.proofs.Common.{List, ◌∷◌, ◌++◌, length, Option, Some, None, IfSome, IsTrue, refl, sym, ap, ◌∙◌, arith, nat_le}
-use Rattle.olr_spec.proofs.Common.{[], eqb-true, leb-false, get_or-append-add, int_le, flat_map, slice_index, cases_lt, and_from}
-use Rattle.olr_spec.proofs.Common.{or_parts, not-false, ints, within, fits16, First, Middle, Last, Reference, AreAttrs, IsFirst}
-use Rattle.olr_spec.proofs.Common.{IsMiddle, IsLast, IsReference, fits24, signed16, first_bytes, middle_bytes, last_bytes, flag}
-use Rattle.olr_spec.proofs.Common.{offset_bytes, ltb-false, recursion_from_All, Attrs, residue, signed24, attr_bytes, HasBytes}
-use Rattle.olr_spec.proofs.Common.{extra, bit, flags_of, attribute1_bytes, v3_fault, NoFault}
+use Rattle.olr_spec.proofs.Common.{List, ◌∷◌, ◌++◌, length, Option, Some, None, IfSome, IsTrue, refl, sym, ap, ◌∙◌, arith}
+use Rattle.olr_spec.proofs.Common.{nat_le, [], eqb-true, leb-false, get_or-append-add, int_le, flat_map, slice_index, cases_lt}
+use Rattle.olr_spec.proofs.Common.{and_from, or_parts, not-false, ints, within, fits16, First, Middle, Last, Reference}
+use Rattle.olr_spec.proofs.Common.{AreAttrs, IsFirst, IsMiddle, IsLast, IsReference, fits24, signed16, first_bytes}
+use Rattle.olr_spec.proofs.Common.{middle_bytes, last_bytes, flag, offset_bytes, ltb-false, recursion_from_All, Attrs, residue}
+use Rattle.olr_spec.proofs.Common.{signed24, attr_bytes, HasBytes, extra, bit, flags_of, attribute1_bytes, v3_fault, NoFault}
 use Rattle.olr_spec.proofs.SectorLemmas.{le_test}
 use Rattle.olr_spec.proofs.ReadLemmas.{AreBytes, attributes_behind, reserved, no_fault, encoded_passes}
 

@@ -1,32 +1,28 @@
 -- An accepted command has one reply, apart from out of memory a command has one outcome, counts are determined, and the
 -- claims hold of runs from the start.
 use Rattle.olr_commands.proofs.Common.{Map, IsMap, Path, Reference, Answer, EncodesWith, Margin, one_answer_with, one_decoding}
-use Rattle.olr_commands.proofs.Common.{bytes_decides, is_path, Refused, Refusal, some_answer_with, IfSome, not-false}
+use Rattle.olr_commands.proofs.Common.{bytes_decides, is_path, Refused, Refusal, some_answer_with, not-false}
 use Rattle.std.proofs.Common.{arith, ◌≡◌, ℕ, List, [], ◌∷◌, Option, Some, None, sym, ap, ◌∙◌, subst, Ok, Err, map, IsFalse, inl}
 use Rattle.std.proofs.Common.{inr, suc, false, not, length, IsTrue, refl}
-use Rattle.std.specs.Prelude.{◌↔◌, ◌==◌}
 use Rattle.olr_commands.specs.State.{Named, Content, ArePaths, IsContent, Change, State, Command, Make, Show, Report, Explain}
-use Rattle.olr_commands.specs.State.{Commit, IsState, Fault, HasCoords, step, step_in, path_named, Set_margin, Depends, Preview}
-use Rattle.olr_commands.specs.State.{Ambiguous, has_path, No_path, changes_made, changes_made_in, has_asked, IsBatch, with_held}
-use Rattle.olr_commands.specs.State.{after, Count_differs}
+use Rattle.olr_commands.specs.State.{Commit, IsState, Fault, HasCoords, step, path_named, Set_margin, Depends, Preview}
+use Rattle.olr_commands.specs.State.{Ambiguous, has_path, No_path, changes_made, has_asked, with_held}
 use Rattle.olr_commands.specs.Reply.{Entry, entry, Reply, HasAnswer, AllOf, ChangedOf, Differences, Shown, Explained, IsPaths}
-use Rattle.olr_commands.specs.Reply.{IsFields, IsChangeReply, IsRefusal, ByState, Lacks, Outcome, IsOutcome, Names, Held, Paths}
-use Rattle.olr_commands.specs.Reply.{lacks_memory, Obstacles}
-use Rattle.olr_laws.proofs.DependLemmas.{one_names, one_dependents, some_dependents}
-use Rattle.olr_laws.proofs.NamedObstacles.{one_obstacles, one_asked, some_asked}
+use Rattle.olr_commands.specs.Reply.{IsChangeReply, IsRefusal, ByState, Lacks, Outcome, IsOutcome, Names, Held, Paths}
+use Rattle.olr_commands.specs.Reply.{lacks_memory, Obstacles, Fields}
+use Rattle.olr_laws.proofs.DependLemmas.{one_dependents, some_dependents}
+use Rattle.olr_laws.proofs.NamedObstacles.{one_asked, some_asked}
 use Rattle.olr_commands.proofs.NameLemmas.{named_path}
 use Rattle.olr_commands.proofs.StateLemmas.{steps_keep, when_ok}
-use Rattle.olr_spec.specs.Encoding.{Points, Unknown_line, Broken, Offset_too_long, No_next_point}
+use Rattle.olr_spec.specs.Encoding.{Points}
 use Rattle.olr_spec.specs.Bytes.{IsReference, reference_bytes}
 use Rattle.olr_spec.proofs.FitLemmas.{encoded_fits}
 use Rattle.olr_commands.specs.Dump.{dump_changes, DumpsAgain}
-use Rattle.olr_commands.specs.Dependents.{Dependents}
-use Rattle.olr_commands.specs.Ambiguities.{AskedAmbiguities}
 use Rattle.olr_laws.specs.CommandLaws.{PreviewsCommit, MarginRaisesAll, OneReply, OneOutcome, SomeReply}
 use Rattle.olr_commands.specs.Counts.{Affects, By_name, CountIs, Raises}
 use Rattle.olr_commands.proofs.CountLemmas.{unconcerned}
 use Rattle.olr_commands.proofs.DumpLemmas.{dumps_lead}
-use Rattle.olr_commands.specs.History.{Run, AllHaveCoords, names, HeadlineOfHistories}
+use Rattle.olr_commands.specs.History.{Run, AllHaveCoords, HeadlineOfHistories}
 use Rattle.olr_commands.proofs.HistoryLemmas.{start_sound, names_changed, SoundOutcome, headline_of_outcomes}
 use Rattle.std.proofs.Math.Decide.{map_dec, ℕ_discrete}
 use Rattle.olr_spec.proofs.ListLemmas.{dec_same}
@@ -45,31 +41,18 @@ one_changed : (s : Content) (g : Margin) (M : Map) → IsMap M → (ps : List Na
 one_changed s g M m [] es fs a p q = p ∙ sym q
 one_changed s g M m (n ∷ ps) es fs a p q = grind (arith, one_answer_with, one_changed s g M m ps p.1 q.1 a.1 p.3 q.3)
 
-one_paths : (T : List Entry → Type 0) → ((es fs : List Entry) → T es → T fs → es ≡ fs) → (r q : Reply) → IsPaths r T →
-    IsPaths q T → r ≡ q
-one_paths T one r q p g = grind (arith, one)
-
-one_fields : (T : Reference → Type 0) → ((x y : Reference) → T x → T y → x ≡ y) → (r q : Reply) → IsFields r T →
-    IsFields q T → r ≡ q
-one_fields T one r q p g = grind (arith, one)
-
 -- the path of a name has one answer
 pub one_has : (c : Content) → IsContent c → (name : List ℕ) (A B : Answer) → HasAnswer c name A → HasAnswer c name B →
     A ≡ B
 one_has c i name A B p q =
     grind (arith, one_answer_with c.margin c.map i.map p.0 (named_path c.paths name p.0 i.paths p.1) A B p.2)
 
-one_shown : (c : Content) (name : List ℕ) → IsContent c → (es fs : List Entry) → Shown c name es → Shown c name fs →
-    es ≡ fs
-one_shown c name i es fs p q = grind (arith, one_has c i name p.0 q.0 p.1 q.1)
-
 one_explained : (text : List ℕ) (x y : Reference) → Explained text x → Explained text y → x ≡ y
 one_explained text x y p q = grind (arith, one_decoding x y p.2.0 q.2.0)
 
 one_difference : (s t : Content) → IsContent t → (r q : Reply) → IsPaths r (Differences s t) →
     IsPaths q (Differences s t) → r ≡ q
-one_difference s t j r q p g =
-    one_paths (Differences s t) (λ es fs. one_changed s t.margin t.map j.map t.paths es fs j.paths) r q p g
+one_difference s t j r q p g = grind (arith, one_changed s t.margin t.map j.map t.paths)
 
 one_held : (b : Option (List Change)) (s t : Content) → IsContent t → (r q : Reply) → IsChangeReply b s t r →
     IsChangeReply b s t q → r ≡ q
@@ -78,20 +61,19 @@ one_held (Some xs) s t j r q p g = p ∙ sym g
 
 -- what an open batch would lead to is sound
 held_sound : (s : State) → IsState s → IsContent (with_held s.content s.batch)
-held_sound s i = by s.batch i.batch where
-  by : (b : Option (List Change)) → IfSome b (IsBatch s.content) → IsContent (with_held s.content b)
-  by None h = i.content
-  by (Some xs) h = h.sound
+held_sound s i = grind arith
 
 pub one_reply : OneReply
 one_reply s t (Make x) r q i j p g = one_held s.batch s.content t.content j.content r q p g
-one_reply s t (Show name) r q i j p g = one_paths (Shown s.content name) (one_shown s.content name i.content) r q p g
-one_reply s t (Depends nodes) r q i j p g =
-    one_names (Dependents s.content nodes) (one_dependents s.content nodes) r q p g
-one_reply s t Report r q i j p g = grind (arith, one_paths, one_all)
-one_reply s t (Ambiguous name) r q i j p g =
-    one_obstacles (AskedAmbiguities s.content name) (one_asked s.content i.content name) r q p g
-one_reply s t (Explain text) r q i j p g = one_fields (Explained text) (one_explained text) r q p g
+one_reply s t (Show name) (Paths es) (Paths fs) i j p g = grind (arith, one_has s.content i.content name p.0 g.0 p.1 g.1)
+one_reply s t (Show name) r q i j p g = grind arith
+one_reply s t (Depends nodes) (Names x) (Names y) i j p g =
+    ap (λ (names : List (List ℕ)). Names names) (one_dependents s.content nodes x y p g)
+one_reply s t (Depends nodes) r q i j p g = grind arith
+one_reply s t Report r q i j p g = grind (arith, one_all)
+one_reply s t (Ambiguous name) r q i j p g = grind (arith, one_asked s.content i.content name)
+one_reply s t (Explain text) (Fields x) (Fields y) i j p g = ap (λ (r : Reference). Fields r) (one_explained text x y p g)
+one_reply s t (Explain text) r q i j p g = grind arith
 one_reply s t Preview r q i j p g =
     one_difference s.content (with_held s.content s.batch) (held_sound s i) r q p g
 one_reply s t (Commit count) r q i j p g = one_difference s.content t.content j.content r q p g
@@ -105,20 +87,13 @@ reported_by s c fault n (Lacks is may) = grind arith
 
 pub one_outcome : OneOutcome
 one_outcome s t u c (Ok r) (Ok w) i h n m p g = grind (arith, one_reply s t c r w i (steps_keep s t c i h p.0) p.1)
-one_outcome s t u c (Ok r) (Err f) i h n m p g = grind (arith, reported_by)
-one_outcome s t u c (Err f) (Ok w) i h n m p g = grind (arith, reported_by)
-one_outcome s t u c (Err f) (Err k) i h n m p g = grind (arith, reported_by)
+one_outcome s t u c o q i h n m p g = grind (arith, reported_by)
 
 -- ---- answers are equal or not
 
 -- a reason is decided by its kind and its number
 refusals_decide : (x y : Refusal) → Dec (x ≡ y)
-refusals_decide (Unknown_line n) (Unknown_line m) = map_dec (λ e. ap (λ (k : ℕ). Unknown_line k) e) (λ e. cc) (ℕ_discrete n m)
-refusals_decide (Broken n) (Broken m) = map_dec (λ e. ap (λ (k : ℕ). Broken k) e) (λ e. cc) (ℕ_discrete n m)
-refusals_decide (No_next_point n) (No_next_point m) =
-    map_dec (λ e. ap (λ (k : ℕ). No_next_point k) e) (λ e. cc) (ℕ_discrete n m)
-refusals_decide Offset_too_long Offset_too_long = yes refl
-refusals_decide x y = no (λ e. absurd cc)
+refusals_decide x y = grind (arith, ℕ_discrete)
 
 -- a reference is decided by its bytes
 Fits : Answer → Type 0
@@ -186,10 +161,8 @@ some_held None c d i j = let es = some_difference c d i j in (Paths es.0, es.1)
 some_held (Some xs) c d i j = (Held (suc (length xs)), refl)
 
 when_asked : (s t : State) (name : Option (List ℕ)) → step s (Ambiguous name) ≡ Ok t → not (has_asked s.content name) ≡ false
-when_asked s t name is = by s.batch is where
-  by : (b : Option (List Change)) → step_in s.content b (Ambiguous name) ≡ Ok t → not (has_asked s.content name) ≡ false
-  by None e = (when_ok (not (has_asked s.content name)) No_path (Ok (record { content = s.content; batch = None })) t e).0
-  by (Some xs) e = absurd cc
+when_asked s t name is =
+    grind (arith, when_ok (not (has_asked s.content name)) No_path (Ok (record { content = s.content; batch = None })) t)
 
 pub some_reply : SomeReply
 some_reply s t (Make x) i h is n =
@@ -213,16 +186,7 @@ some_reply s t c i h is n = (_, refl)
 
 -- a preview has the replies of the commit that may follow
 pub previews_commit : PreviewsCommit
-previews_commit s t count r is = by s.batch is where
-  by : (b : Option (List Change)) → step_in s.content b (Commit count) ≡ Ok t →
-      IsPaths r (Differences s.content (with_held s.content b)) ↔ IsPaths r (Differences s.content t.content)
-  by None e = absurd cc
-  by (Some xs) e =
-      let later : State = record { content = after s.content xs; batch = None } in
-      let made : Ok later ≡ Ok t = (when_ok (not (length xs == count)) Count_differs (Ok later) t e).1 in
-      let there : after s.content xs ≡ t.content = cc in
-      subst (λ (d : Content). IsPaths r (Differences s.content (after s.content xs)) ↔ IsPaths r (Differences s.content d))
-      there ((λ h. h), (λ h. h))
+previews_commit s t count r is = grind (arith, when_ok)
 
 -- ---- counts
 
@@ -233,7 +197,7 @@ one_count P (x ∷ xs) n m p q = grind (arith, one_count P xs, one_count P xs n 
 -- a claim that holds of nothing
 pub no_count : {A : Type 0} (P : A → Type 0) → ((x : A) → ¬ P x) → (xs : List A) (n : ℕ) → CountIs P xs n → n ≡ 0
 no_count P none [] n p = p
-no_count P none (x ∷ xs) n p = elim p [ inl h ↦ absurd (none x h.0) | inr h ↦ no_count P none xs n h.1 ]
+no_count P none (x ∷ xs) n p = grind (arith, none x, no_count P none xs n)
 
 pub no_rise : (s t : State) (c : Command) (n : ℕ) → changes_made s c ≡ [] → Raises s c t n → n ≡ 0
 no_rise s t c n none h = grind (arith, no_count, unconcerned)
@@ -247,15 +211,8 @@ all_counted P all [] = refl
 all_counted P all (x ∷ xs) = inl (all x, (length xs, all_counted P all xs, refl))
 
 pub margin_raises : MarginRaisesAll
-margin_raises s t g closed is = by s.batch closed is where
-  by : (b : Option (List Change)) → b ≡ None → step_in s.content b (Make (Set_margin g)) ≡ Ok t →
-      CountIs (Affects s.content (changes_made_in b (Make (Set_margin g)))) t.content.paths (length s.content.paths)
-  by None closed e =
-      let set : State = record { content = record s.content { margin = g }; batch = None } in
-      let there : set ≡ t = cc in
-      subst (λ (u : State). CountIs (Affects s.content (Set_margin g ∷ [])) u.content.paths (length s.content.paths)) there
-      (all_counted (Affects s.content (Set_margin g ∷ [])) (λ p. By_name refl) s.content.paths)
-  by (Some xs) closed e = absurd cc
+margin_raises s t g closed is =
+    grind (arith, all_counted (Affects s.content (Set_margin g ∷ [])) (λ p. By_name refl) s.content.paths)
 
 pub dumps_again : DumpsAgain
 dumps_again c i = ap (λ (d : Content). dump_changes d) (dumps_lead c i).1
@@ -263,9 +220,7 @@ dumps_again c i = ap (λ (d : Content). dump_changes d) (dumps_lead c i).1
 pub no_differences : (c : Content) (es : List Entry) → IsContent c → Differences c c es → es ≡ []
 no_differences c [] i d = refl
 no_differences c (e ∷ es) i d =
-    let here : names (e ∷ es) e.name = rw ((bytes_decides e.name e.name).1 refl) refl in
-    let h = ((names_changed c c (e ∷ es) i d).0 e.name).0 here in
-    absurd (h.2 h.1)
+    grind (arith, bytes_decides e.name e.name, names_changed c c (e ∷ es) i d)
 
 -- ---- runs from the start
 

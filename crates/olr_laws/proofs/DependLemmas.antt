@@ -1,10 +1,10 @@
 -- Which paths depend on nodes: that is decidable, so that the question has exactly one answer; and an edit affects only such
 -- paths, and those that name a line which it adds.
-use Rattle.olr_spec.proofs.Common.{arith, ◌≡◌, ◌≢◌, ◌⊎◌, inl, inr, ℕ, zero, suc, ◌+◌, ◌-◌, ◌<◌, ◌≤◌, true, List, [], ◌∷◌, length}
-use Rattle.olr_spec.proofs.Common.{IsTrue, refl, sym, ◌∙◌, subst, append-nil, ◌||◌, Ok, MatchOption, cases_Bool, both_ways}
-use Rattle.olr_spec.proofs.Common.{or_left, Map, IsMap, Edit, Add_node, Move_node, Drop_node, Add_line, Set_line, Drop_line, has}
-use Rattle.olr_spec.proofs.Common.{has_line, edited, start, end, dm, lines_out, touched_nodes, touched_lines, Reaches, Path, Sees}
-use Rattle.olr_spec.proofs.Common.{is_path, extended_path, NodeOf, CoverageQuery, IsQueryWith, query_to_with, FootWith, dec_le}
+use Rattle.olr_spec.proofs.Common.{arith, ◌≢◌, ◌⊎◌, zero, true, List, refl, subst, ◌||◌, IsMap, Edit, start, Path, Sees, dec_le}
+use Rattle.olr_spec.proofs.Common.{◌≡◌, length, IsTrue, or_left, Set_line, has_line, edited, Reaches, is_path, NodeOf, FootWith}
+use Rattle.olr_spec.proofs.Common.{inl, inr, ℕ, suc, ◌+◌, ◌-◌, ◌<◌, ◌≤◌, ◌∷◌, sym, ◌∙◌, Ok, Map, has, end, dm}
+use Rattle.olr_spec.proofs.Common.{[], touched_nodes, touched_lines, extended_path, CoverageQuery, query_to_with, Bool-discrete}
+use Rattle.olr_spec.proofs.Common.{append-nil, MatchOption, cases_Bool, both_ways, Add_line, Drop_line, lines_out, IsQueryWith}
 use Rattle.std.proofs.Math.Decide.{dec_lt, map_dec, ℕ_discrete}
 use Rattle.olr_spec.specs.Margins.{Margin}
 use Rattle.olr_spec.specs.Footprint.{FootOfWith, TouchedWith, On_path, On_start_run, On_end_run, Within_reach}
@@ -15,25 +15,15 @@ use Rattle.olr_spec.proofs.RouteLemmas.{positive}
 use Rattle.olr_spec.proofs.RunLemmas.{leaving}
 use Rattle.olr_spec.proofs.TestedLemmas.{some_last_tested, one_query}
 use Rattle.olr_commands.specs.State.{Named, Content, ArePaths, On_map}
-use Rattle.olr_commands.specs.Reply.{Reply, IsNames}
 use Rattle.olr_commands.specs.Counts.{Picks, Affects, By_name, By_node, By_line}
 use Rattle.olr_commands.specs.Dependents.{DependsOn, Dependents, On_node, On_line}
 use Rattle.olr_laws.specs.CommandLaws.{NamesAdded, AffectedDepend}
-use Rattle.std.proofs.Common.{ap, Bool, false}
 
 -- ---- one answer
 
-pub one_names : (T : List (List ℕ) → Type 0) → ((x y : List (List ℕ)) → T x → T y → x ≡ y) → (r q : Reply) →
-    IsNames r T → IsNames q T → r ≡ q
-one_names T one r q p g = grind (arith, one)
-
 one_picked : {A : Type 0} (P : A → Type 0) (xs ys zs : List A) → Picks P xs ys → Picks P xs zs → ys ≡ zs
 one_picked P [] ys zs p q = p ∙ sym q
-one_picked {A} P (x ∷ xs) ys zs (inl p) (inl q) =
-    p.1.2 ∙ ap (λ (ws : List A). x ∷ ws) (one_picked P xs p.1.0 q.1.0 p.1.1 q.1.1) ∙ sym q.1.2
-one_picked P (x ∷ xs) ys zs (inl p) (inr q) = absurd (q.0 p.0)
-one_picked P (x ∷ xs) ys zs (inr p) (inl q) = absurd (p.0 q.0)
-one_picked P (x ∷ xs) ys zs (inr p) (inr q) = one_picked P xs ys zs p.1 q.1
+one_picked P (x ∷ xs) ys zs p q = grind (arith, one_picked P xs)
 
 pub one_dependents : (c : Content) (nodes : List ℕ) (x y : List (List ℕ)) → Dependents c nodes x → Dependents c nodes y →
     x ≡ y
@@ -43,17 +33,12 @@ one_dependents c nodes x y p q =
 -- ---- it is decidable
 
 dec_or : {A B : Type 0} → Dec A → Dec B → Dec (A ⊎ B)
-dec_or (yes a) e = yes (inl a)
-dec_or (no f) (yes b) = yes (inr b)
-dec_or (no f) (no g) = no (λ s. elim s [ inl a ↦ f a | inr b ↦ g b ])
+dec_or d e = grind arith
 
 -- one of a list's numbers, or none
 dec_some : (Q : ℕ → Type 0) → ((x : ℕ) → Dec (Q x)) → (xs : List ℕ) → Dec ((x : ℕ) × IsTrue (has xs x) × Q x)
 dec_some Q d [] = no (λ h. absurd (let never = h.1 in cc))
-dec_some Q d (x ∷ xs) =
-    map_dec (λ s. elim s [ inl q ↦ (x, has_here x xs, q) | inr r ↦ (r.0, has_there x xs r.0 r.1, r.2) ])
-    (λ h. elim (has_cases x xs h.0 h.1) [ inl e ↦ inl (subst Q (sym e) h.2) | inr t ↦ inr (h.0, t, h.2) ])
-    (dec_or (d x) (dec_some Q d xs))
+dec_some Q d (x ∷ xs) = grind (arith, d x, dec_some Q d xs, has_here, has_there, has_cases x xs)
 
 module _ (g : Margin) (M : Map) (m : IsMap M) (v : ℕ) where
   -- the first line of a route from s
@@ -134,10 +119,6 @@ module _ (g : Margin) (M : Map) (m : IsMap M) (v : ℕ) where
       (λ r. no (λ h. h))
 
 module _ (g : Margin) (M : Map) (m : IsMap M) (nodes : List ℕ) where
-  dec_true : (b : Bool) → Dec (IsTrue b)
-  dec_true true = yes refl
-  dec_true false = no (λ h. absurd cc)
-
   dec_depends : (P : Path) → IsTrue (is_path P.lines) → Dec (DependsOn g M nodes P)
   dec_depends P is =
       map_dec (λ s. elim s [
@@ -147,7 +128,7 @@ module _ (g : Margin) (M : Map) (m : IsMap M) (nodes : List ℕ) where
       (λ d. elim d [ On_node v on f ↦ inl (v, on, f) | On_line x there at own ↦ inr (x, own, (there, at)) ])
       (dec_or (dec_some (λ v. FootWith g M P v) (λ v. dec_foot g M m v P is) nodes)
       (dec_some (λ x. IsTrue (has_line M x) × IsTrue (has nodes (start M x) || has nodes (end M x)))
-      (λ x. dec_and (dec_true (has_line M x)) (dec_true (has nodes (start M x) || has nodes (end M x)))) P.lines))
+      (λ x. dec_and (Bool-discrete (has_line M x) true) (Bool-discrete (has nodes (start M x) || has nodes (end M x)) true)) P.lines))
 
   pub some_dependents : (ps : List Named) → ArePaths ps →
       (qs : List Named) × Picks (λ p. DependsOn g M nodes p.path) ps qs
@@ -161,9 +142,6 @@ module _ (g : Margin) (M : Map) (m : IsMap M) (nodes : List ℕ) where
 
 -- ---- what an edit affects
 
-only : (y x : ℕ) → IsTrue (has (y ∷ []) x) → y ≡ x
-only y x on = elim (has_cases y [] x on) [ inl e ↦ e | inr later ↦ absurd (let never = later in cc) ]
-
 module _ (c : Content) (N : Map) (e : Edit) (nodes : List ℕ) (p : Named) (made : edited c.map e ≡ Ok N)
     (given : (v : ℕ) → IsTrue (has (touched_nodes c.map e) v) → IsTrue (has nodes v)) where
   abbrev M : Map
@@ -172,18 +150,10 @@ module _ (c : Content) (N : Map) (e : Edit) (nodes : List ℕ) (p : Named) (made
   -- a line that an edit of the map touches begins at a touched node
   begins : (e : Edit) → edited M e ≡ Ok N → (x : ℕ) → IsTrue (has (touched_lines e) x) → IsTrue (has_line M x) →
       IsTrue (has (touched_nodes M e) (start M x))
-  begins (Add_node v place) ok x on there = absurd cc
-  begins (Move_node v place) ok x on there = absurd cc
-  begins (Drop_node v) ok x on there = absurd cc
-  begins (Add_line y l) ok x on there =
-      let known : has_line M y ≡ true = subst (λ (z : ℕ). has_line M z ≡ true) (sym (only y x on)) there in
-      absurd (let never = rw known at ok in cc)
-  begins (Set_line y frc fow len shape) ok x on there =
-      subst (λ (z : ℕ). IsTrue (has (start M y ∷ end M y ∷ []) (start M z))) (only y x on)
-      (has_here (start M y) (end M y ∷ []))
-  begins (Drop_line y) ok x on there =
-      subst (λ (z : ℕ). IsTrue (has (start M y ∷ end M y ∷ []) (start M z))) (only y x on)
-      (has_here (start M y) (end M y ∷ []))
+  begins (Add_line y l) ok x on there = grind (arith, has_cases y [] x on)
+  begins (Set_line y frc fow len shape) ok x on there = grind (arith, has_cases y [] x on, has_here)
+  begins (Drop_line y) ok x on there = grind (arith, has_cases y [] x on, has_here)
+  begins e ok x on there = absurd cc
 
   by_affected : Affects c (On_map e ∷ []) p → DependsOn c.margin M nodes p.path ⊎ NamesAdded M e p.path
   by_affected (By_name h) = absurd cc

@@ -1,22 +1,17 @@
 -- Every receiver that compares directions recovers the legs between the remaining LRPs.
 use Rattle.olr_spec.specs.Margins.{Margin}
-use Rattle.olr_spec.proofs.Common.{◌*◌, lt-ltb, le-ltb, ◌≡◌, ◌≢◌, ℕ, ◌+◌, ◌≤◌, ◌<◌, ◌⊎◌, nat_lt, nat_le, ℤ, pos, Bool, true, ◌↔◌}
-use Rattle.olr_spec.proofs.Common.{false, IsTrue, IsFalse, arith, eqb-true, ltb-true, leb-true, cases_eq, cases_Bool, or_cases}
-use Rattle.olr_spec.proofs.Common.{and_parts, nat_abs, ap, sym, ◌∙◌, subst, refl, inl, inr, ◌&&◌, ◌||◌, not, ◌==◌, Map, has_line}
-use Rattle.olr_spec.proofs.Common.{line_at, leg, Leg, candidates, Side, IsSector, sector, Vector, coordinate_on, both_ways}
+use Rattle.olr_spec.proofs.Common.{◌*◌, nat_le, Bool, true, false, IsTrue, arith, subst, refl, ◌&&◌, ◌||◌, ◌==◌, Side, Vector}
+use Rattle.olr_spec.proofs.Common.{lt-ltb, le-ltb, nat_lt, ℤ, IsFalse, cases_eq, or_cases, nat_abs, has_line, line_at, IsSector}
+use Rattle.olr_spec.proofs.Common.{◌≡◌, ◌≢◌, ◌+◌, ◌≤◌, ◌<◌, ◌⊎◌, pos, ◌↔◌, ap, sym, ◌∙◌, inl, inr, not, Map, leg, Leg}
+use Rattle.olr_spec.proofs.Common.{ℕ, eqb-true, ltb-true, leb-true, cases_Bool, and_parts, candidates, coordinate_on, both_ways}
 use Rattle.olr_spec.proofs.SectorLemmas.{sector_is}
 use Rattle.olr_spec.proofs.ReceiverLemmas.{Describes, recovered_by, passes}
 use Rattle.olr_spec.specs.Receiver.{Lrp, Rating, NowhereWorse, SomewhereBetter, Outgoing, Incoming, sector_on}
 use Rattle.olr_spec.specs.Directions.{direction_on, is_direction, is_beyond}
 use Rattle.olr_laws.specs.Directions.{DirectionReceiver, TakesByDirection, rating_by, is_outdone, stands_out, weighted}
 use Rattle.olr_laws.specs.Directions.{Differences}
-use Rattle.olr_laws.specs.DirectionLaws.{RecoveredByDirection, SomeByWeights}
+use Rattle.olr_laws.specs.ReceiverLaws.{RecoveredByDirection, SomeByWeights}
 use Rattle.std.proofs.Math.Nat.{mul-le-mul_left, mul-lt-mul_of_pos_left, mul-add}
-
--- the bearing of a candidate is the sector of its direction
-sector_is_of : (s : Side) (g : Leg) → sector_on s g ≡ sector (direction_on s g).east (direction_on s g).north
-sector_is_of Outgoing g = refl
-sector_is_of Incoming g = refl
 
 some_direction : (v : Vector) → is_direction v ≡ true → ¬ ((v.east ≡ pos 0) × (v.north ≡ pos 0))
 some_direction v h e =
@@ -25,25 +20,13 @@ some_direction v h e =
 -- a direction is in the sector of its bearing
 pub in_sector : (s : Side) (g : Leg) → is_direction (direction_on s g) ≡ true →
     IsSector (direction_on s g).east (direction_on s g).north (sector_on s g)
-in_sector s g h =
-    let v = direction_on s g in
-    subst (λ (k : ℕ). IsSector v.east v.north k) (sym (sector_is_of s g)) (sector_is v.east v.north (some_direction v h))
+in_sector Outgoing g h = sector_is _ _ (some_direction (direction_on Outgoing g) h)
+in_sector Incoming g h = sector_is _ _ (some_direction (direction_on Incoming g) h)
 
 abbrev StandsOut : DirectionReceiver → Map → Side → ℤ × ℤ → ℕ → Type 0
 StandsOut D M s p x = IsTrue (stands_out D.by.far D.by.slack s p x (leg M x) (candidates M))
 
-pub irreflexive : (D : DirectionReceiver) (a : Rating) → IsFalse (D.prefers a a)
-irreflexive D a = elim (cases_Bool (D.prefers a a)) [ inl is ↦ D.strict a a is | inr isnt ↦ isnt ]
-
--- a candidate that is farther by more than the slack, or no nearer with its bearing beyond the reach
-pub either_outdone : (D : DirectionReceiver) (a b : Rating) → a.frc ≤ b.frc → a.fow ≤ b.fow → a.bearing ≤ D.by.reach →
-    (a.far + D.by.slack < b.far) ⊎ ((a.far ≤ b.far) × (D.by.reach < b.bearing)) → IsTrue (D.prefers a b)
-either_outdone D a b c f i (inl farther) = D.nearer a b farther c f i
-either_outdone D a b c f i (inr beyond) =
-    D.monotone a b (record { far = beyond.0; frc = c; fow = f; bearing = omega (arith, beyond.1) })
-    (inr (inr (inr (omega (arith, beyond.1)))))
-
-pub outdone_either : (slack a b : ℕ) (beyond : Bool) →
+outdone_either : (slack a b : ℕ) (beyond : Bool) →
     (nat_lt (a + slack) b || nat_le a b && beyond) ≡ true → (a + slack < b) ⊎ ((a ≤ b) × (beyond ≡ true))
 outdone_either slack a b beyond h = grind (arith, or_cases, ltb-true, leb-true, and_parts)
 
@@ -67,30 +50,28 @@ module _ (D : DirectionReceiver) (M : Map) (t : Lrp) (x : ℕ) (d : Describes M 
       let v = direction_on t.side (leg M y) in
       let frc : D.by.frc_apart t.frc (line_at M x).frc ≤ D.by.frc_apart t.frc (line_at M y).frc = grind (arith, d.frc, D.by.frcs t.frc (line_at M y).frc) in
       let fow : D.by.fow_apart t.fow (line_at M x).fow ≤ D.by.fow_apart t.fow (line_at M y).fow = grind (arith, d.fow, D.by.fows t.fow (line_at M y).fow) in
-      either_outdone D (rating_by D.by t (leg M x)) (rating_by D.by t (leg M y)) frc fow inside
-      (elim (outdone_either D.by.slack (far (leg M x)) (far (leg M y)) (is_beyond (sector_on t.side (leg M x)) v) (outdone y h n)) [
-        | inl farther ↦ inl farther
-        | inr both ↦ inr (
-          both.0,
-          (D.by.bearings (coordinate_on t.side (leg M y))).outside t.bearing v own_sector.0
-              (ap (λ (k : ℕ). is_beyond k v) d.bearing ∙ both.1),
-        )
-      ])
+      let a = rating_by D.by t (leg M x) in
+      let b = rating_by D.by t (leg M y) in
+      elim (outdone_either D.by.slack (far (leg M x)) (far (leg M y)) (is_beyond (sector_on t.side (leg M x)) v) (outdone y h n)) [
+        | inl farther ↦ D.nearer a b farther frc fow inside
+        | inr both ↦
+            let out = (D.by.bearings (coordinate_on t.side (leg M y))).outside t.bearing v own_sector.0
+            (ap (λ (k : ℕ). is_beyond k v) d.bearing ∙ both.1) in
+            D.monotone a b (record { far = both.0; frc = frc; fow = fow; bearing = omega (arith, out, inside) })
+            (inr (inr (inr (omega (arith, out, inside)))))
+      ]
 
   own_best : (y : ℕ) → IsTrue (has_line M y) → IsFalse (D.prefers (rating_by D.by t (leg M y)) (rating_by D.by t (leg M x)))
   own_best y h = elim (cases_eq y x) [
-    | inl same ↦ grind (arith, same, irreflexive D (rating_by D.by t (leg M x)))
+    | inl same ↦ grind (arith, same, cases_Bool, D.strict)
     | inr other ↦ D.strict _ _ (preferred y h other)
   ]
 
   -- so a receiver chooses it, and no other
   takes_own : (y : ℕ) → TakesByDirection D M t y ↔ (y ≡ x)
   takes_own y = (
-    (λ k. elim (cases_eq y x) [
-      | inl same ↦ same
-      | inr other ↦ absurd (both_ways _ (k.best x d.known) (preferred y k.known other))
-    ]),
-    (λ e. subst (λ (z : ℕ). TakesByDirection D M t z) (sym e) (record { known = d.known; best = own_best })),
+    (λ k. grind (arith, cases_eq y x, both_ways, k.best x d.known, preferred y k.known)),
+    (λ e. subst (TakesByDirection D M t) (sym e) (record { known = d.known; best = own_best })),
   )
 
 pub recovered_by_direction : (g : Margin) → RecoveredByDirection g

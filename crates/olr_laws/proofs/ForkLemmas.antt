@@ -1,7 +1,7 @@
 -- Two lines in one sector, of other classes.
-use Rattle.olr_spec.proofs.Common.{ℤ, pos, ◌-ℤ◌, ◌*◌, nat_abs, nat_lt, ints, not, not-true, ◌≡◌, ℕ, ◌≤◌, true, false, [], ◌∷◌, ap}
-use Rattle.olr_spec.proofs.Common.{refl, ◌∙◌, subst, IsTrue, arith, Map, IsMap, has_line, dm, passing, Candidate, To_end, Points}
-use Rattle.olr_spec.proofs.Common.{Encodes, reference, Leg, leg, fit16, candidates, has, List}
+use Rattle.olr_spec.proofs.Common.{nat_lt, ints, not, not-true, ◌≡◌, ℕ, ◌≤◌, true, [], ◌∷◌, ap, refl, ◌∙◌, subst, IsTrue, arith}
+use Rattle.olr_spec.proofs.Common.{has_line, passing, Candidate, To_end, Points, Encodes, reference, Leg, leg, fit16}
+use Rattle.olr_spec.proofs.Common.{candidates, has, List}
 use Rattle.olr_spec.specs.Receiver.{Outgoing, Incoming, decoded_coord, Lrp, lrp_at, Rating}
 use Rattle.olr_spec.specs.Recovery.{Distinct, DistinctAt}
 use Rattle.olr_laws.specs.Rows.{axes_sum}
@@ -9,85 +9,61 @@ use Rattle.olr_laws.specs.MapRows.{fork_map, fork_path, fork_nodes, fork_records
 use Rattle.olr_laws.specs.MapRows.{degrees10, TakesOther}
 use Rattle.olr_laws.specs.Directions.{DirectionReceiver, TakesByDirection, exceeded, rating_by, weighted, SeesDirections}
 use Rattle.olr_laws.specs.Directions.{count_where, Differences}
-use Rattle.olr_laws.proofs.MapLemmas.{leg_in, sound, has_line_is, leg_is, passing_is, candidates_are, each_line}
+use Rattle.olr_laws.proofs.MapLemmas.{leg_in, sound, has_line_is, leg_is, passing_is, candidates_are, each_line, IsRoad, long}
+use Rattle.olr_laws.proofs.MapLemmas.{road}
 use Rattle.olr_laws.proofs.RowLemmas.{IsRow, encodes, distinct_at}
-use Rattle.olr_laws.proofs.SideRoadLemmas.{IsRoad, road}
 use Rattle.olr_laws.proofs.AngleLemmas.{sees_by_limits}
 use Rattle.olr_laws.proofs.DirectionLemmas.{by_weights}
 use Rattle.olr_laws.proofs.ReceiverLemmas.{apart}
 
-record IsFork (M : Map) : Type 0 where
-  sound : IsMap M
-  line10 : IsRoad M 10 fork10 1 2
-  all : candidates M ≡ fork_lines
-  valid1 : passing M 1 ≡ false
-  valid2 : passing M 2 ≡ false
+line10 : IsRoad fork_map 10 fork10 1 2
+line10 = road fork_nodes fork_records tt tt 10 1 2 (refl, refl, refl)
 
-is_fork : IsFork fork_map
-is_fork =
+leg_fits : Candidate fork_map (10 ∷ []) 0 1
+leg_fits =
     record {
-      sound = sound fork_nodes fork_records tt tt refl refl;
-      line10 = road fork_nodes fork_records tt tt 10 1 2 (refl, refl, refl);
-      all = candidates_are fork_nodes fork_records tt tt;
-      valid1 = passing_is fork_nodes fork_records tt tt 1;
-      valid2 = passing_is fork_nodes fork_records tt tt 2;
+      after = omega arith;
+      upto = omega arith;
+      covered = λ lt. absurd (omega arith);
+      near = omega (arith, long line10);
+      fits = λ i. fit16 (line10.is i).begin (line10.is i).finish;
     }
 
-module _ (M : Map) (is : IsFork M) where
-  dm_is : dm M 10 ≡ 4890
-  dm_is = ap (λ (g : Leg). g.line.len) is.line10.is
-
-  leg_fits : Candidate M (10 ∷ []) 0 1
-  leg_fits =
-      record {
-        after = omega arith;
-        upto = omega arith;
-        covered = λ lt. absurd (omega arith);
-        near = omega (arith, dm_is);
-        fits = λ i. fit16 (is.line10.is i).begin (is.line10.is i).finish;
-      }
-
-  row : IsRow M fork_path (1 ∷ []) (fork10 ∷ []) fork_lines fork_reference
-  row =
-      record {
-        sound = is.sound;
-        is = refl;
-        none = simp (is.line10.known, dm_is);
-        starts = ap (passing M) is.line10.from ∙ is.valid1;
-        ends = ap (passing M) is.line10.to ∙ is.valid2;
-        follow = (To_end refl leg_fits, λ j c. omega (arith, c.after, c.upto));
-        along = λ i. is.line10.is i ∷ [];
-        all = is.all;
-        answer = λ i. Points (reference (is.line10.is i ∷ []) 0 0 (1 ∷ []));
-      }
-
-  distinct : Distinct axes_sum M fork_path fork_reference
-  distinct =
-      record {
-        outgoing = λ k lt. let first : 0 ≡ k = omega arith in
-            subst (λ (k : ℕ). DistinctAt axes_sum M fork_path Outgoing k (decoded_coord fork_reference k)) first
-            (distinct_at M _ _ _ _ _ row Outgoing 0 10 fork10 refl is.line10.is axes_sum refl refl);
-        incoming = distinct_at M _ _ _ _ _ row Incoming 1 10 fork10 refl is.line10.is axes_sum refl refl;
-      }
-
 pub fork_candidates : candidates fork_map ≡ fork_lines
-fork_candidates = is_fork.all
+fork_candidates = candidates_are fork_nodes fork_records tt tt
+
+fork_row : IsRow fork_map fork_path (1 ∷ []) (fork10 ∷ []) fork_lines fork_reference
+fork_row =
+    record {
+      sound = sound fork_nodes fork_records tt tt refl refl;
+      is = refl;
+      none = simp (line10.known, long line10);
+      starts = ap (passing fork_map) line10.from ∙ passing_is fork_nodes fork_records tt tt 1;
+      ends = ap (passing fork_map) line10.to ∙ passing_is fork_nodes fork_records tt tt 2;
+      follow = (To_end refl leg_fits, λ j c. omega (arith, c.after, c.upto));
+      along = λ i. line10.is i ∷ [];
+      all = fork_candidates;
+      answer = λ i. Points (reference (line10.is i ∷ []) 0 0 (1 ∷ []));
+    }
 
 pub fork_answer : Encodes fork_map fork_path (Points fork_reference)
-fork_answer = encodes fork_map _ _ _ _ _ (row fork_map is_fork)
+fork_answer = encodes fork_map _ _ _ _ _ fork_row
 
 pub fork_distinct : Distinct axes_sum fork_map fork_path fork_reference
-fork_distinct = distinct fork_map is_fork
+fork_distinct =
+    record {
+      outgoing = λ k lt. let first : 0 ≡ k = omega arith in
+          subst (λ (k : ℕ). DistinctAt axes_sum fork_map fork_path Outgoing k (decoded_coord fork_reference k)) first
+          (distinct_at fork_map _ _ _ _ _ fork_row Outgoing 0 10 fork10 refl line10.is axes_sum refl refl);
+      incoming = distinct_at fork_map _ _ _ _ _ fork_row Incoming 1 10 fork10 refl line10.is axes_sum refl refl;
+    }
 
 -- ---- a receiver by degrees
-
-no_change : (z : ℤ) → 200 * nat_abs (z -ℤ z) ≤ nat_abs z
-no_change z = let none : z -ℤ z ≡ pos 0 = omega (arith, ints) in omega (arith, ap nat_abs none)
 
 sees : (ts : List ℕ) → IsTrue (has ts 105104) → SeesDirections (exceeded ts) (count_where (λ u. nat_lt u 104000) ts)
 sees ts six =
     sees_by_limits ts 105104 six (omega arith) (omega arith) (λ v. v)
-    (λ v. record { east = no_change v.east; north = no_change v.north })
+    (λ v. record { east = grind (arith, ints); north = grind (arith, ints) })
 
 pub by_scores : SeesDirections (exceeded (105104 ∷ 212557 ∷ 324920 ∷ [])) 0
 by_scores = sees (105104 ∷ 212557 ∷ 324920 ∷ []) refl

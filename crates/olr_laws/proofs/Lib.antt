@@ -6,7 +6,6 @@ pub mod MarginRowLemmas
 pub mod AngleLemmas
 pub mod DirectionLemmas
 pub mod RowLemmas
-mod SideRoadLemmas
 pub mod MorningLemmas
 pub mod ForkLemmas
 pub mod CommandLemmas

@@ -17,7 +17,7 @@ use Rattle.olr_input.specs.LineRecords.{HasNoEnd, EachIs, if_any, is_rejected, l
 use Rattle.olr_input.specs.Lines.{BetweenRecords, is_line_end}
 use Rattle.olr_input.specs.Machine.{is_quoted, state_after}
 use Rattle.std.proofs.lemmas.Bool.{cases_Bool}
-use Rattle.olr_laws.specs.LineLaws.{LineGivesOne, SingleStay, FirstLine, IsRecordOf, LinesGiveRecords, FormlessRejected}
+use Rattle.olr_laws.specs.RunLaws.{LineGivesOne, SingleStay, FirstLine, IsRecordOf, LinesGiveRecords, FormlessRejected}
 use Rattle.csv.specs.declared.parser.State.TheVariants as st
 
 -- ---- one line
@@ -88,8 +88,7 @@ first_line b bytes h = ap (λ (x : List ℕ). map line_record (lines_of x)) (unm
 -- ---- inputs of which no line is rejected
 
 between_after : (e : ℕ) → IsEnd e → BetweenRecords (after e)
-between_after e (inl h) = rw h (inl refl)
-between_after e (inr h) = rw h (inr refl)
+between_after e h = grind arith
 
 abbrev Are : State → List ℕ → List (List Field) → Type 0
 Are s xs rs = AreRecords default_config s xs rs

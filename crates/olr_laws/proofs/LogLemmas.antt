@@ -1,9 +1,9 @@
 -- A run that is cut off, and the next one from what is left of its log.
 use Rattle.std.proofs.Common.{◌≡◌, ◌∙◌, ℕ, Bool, true, false, List, [], ◌∷◌, ◌++◌, take, length, Option, Some, None, Ok, Err}
 use Rattle.std.proofs.Common.{inl, refl, sym, ap, subst, suc, Result, length-append, ◌+◌}
-use Rattle.olr_run.proofs.Common.{append-nil, append_assoc, Appends, Outcome, run_join, Field, read, Claims, SoundOutcome, texts}
-use Rattle.olr_run.proofs.Common.{SoundOutcomes, In_last, records_of, outcome_text, Registered, Represents, EndedOn, Known}
-use Rattle.olr_run.proofs.Common.{RunFault}
+use Rattle.olr_run.proofs.Common.{append-nil, append_assoc, Appends, Outcome, run_join, Field, read, Claims, SoundOutcome}
+use Rattle.olr_run.proofs.Common.{texts, SoundOutcomes, In_last, records_of, outcome_text, Registered, Represents, EndedOn}
+use Rattle.olr_run.proofs.Common.{Known, RunFault}
 use Rattle.olr_commands.specs.State.{Change, Content, IsContent, IsState, State, step, Abort}
 use Rattle.olr_commands.proofs.HistoryLemmas.{start_sound}
 use Rattle.olr_commands.proofs.StateLemmas.{steps_keep}

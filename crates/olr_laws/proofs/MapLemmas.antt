@@ -1,8 +1,8 @@
 -- What a map of given nodes and lines has.
-use Rattle.olr_spec.proofs.Common.{◌≡◌, ℕ, Bool, true, false, List, [], ◌∷◌, map, filter, list_all, Option, Some, unwrap_or, T}
-use Rattle.olr_spec.proofs.Common.{is_some, IsTrue, ◌&&◌, ◌∙◌, ap, sym, cond, nat_cmp, get, entries, Line, Coord, IsMap, has_line}
-use Rattle.olr_spec.proofs.Common.{has_node, line_at, coord_at, no_line, no_coord, is_good, is_coord, are_coords, lines_where}
-use Rattle.olr_spec.proofs.Common.{passing, passes_between, leg, Leg, candidates, has, ◌==◌, and_parts}
+use Rattle.olr_spec.proofs.Common.{◌≡◌, ℕ, Bool, true, List, [], ◌∷◌, map, filter, list_all, unwrap_or, T, is_some, IsTrue}
+use Rattle.olr_spec.proofs.Common.{◌&&◌, ◌∙◌, ap, sym, nat_cmp, get, entries, Line, Coord, IsMap, has_line, has_node, line_at}
+use Rattle.olr_spec.proofs.Common.{coord_at, no_line, no_coord, is_good, is_coord, are_coords, lines_where, Map, start, end, dm}
+use Rattle.olr_spec.proofs.Common.{passing, passes_between, leg, Leg, candidates, has, ◌==◌, and_parts, arith, cases_Bool}
 use Rattle.olr_spec.proofs.Facts.{has_number}
 use Rattle.std.specs.FinMap.{entries-from_sorted, get-from_sorted}
 use Rattle.std.specs.FinMap.Entries.{find, is_sorted}
@@ -39,11 +39,15 @@ IsGoodIn ns ls x =
     (is_good (line_in ls x) ≡ true) × (is_some (find nat_cmp (line_in ls x).from ns) ≡ true)
     × (is_some (find nat_cmp (line_in ls x).to ns) ≡ true) × (are_coords (line_in ls x).shape ≡ true)
 
-good_either : (b : Bool) (c : Coord) (o : Option Coord) → is_coord c ≡ true →
-    (is_some o ≡ true → is_coord (unwrap_or o no_coord) ≡ true) → is_some (cond b (Some c) o) ≡ true →
-    is_coord (unwrap_or (cond b (Some c) o) no_coord) ≡ true
-good_either true c o here later h = here
-good_either false c o here later h = later h
+-- line x is g, and leads from node v to node w
+pub record IsRoad (M : Map) (x : ℕ) (g : Leg) (v w : ℕ) : Type 0 where
+  pub known : IsTrue (has_line M x)
+  pub is : leg M x ≡ g
+  pub from : start M x ≡ v
+  pub to : end M x ≡ w
+
+pub long : {M : Map} {x : ℕ} {g : Leg} {v w : ℕ} → IsRoad M x g v w → dm M x ≡ g.line.len
+long r = ap (λ (g : Leg). g.line.len) r.is
 
 module _ (ns : List (ℕ × Coord)) (ls : List (ℕ × Line)) (sn : T (is_sorted nat_cmp ns)) (sl : T (is_sorted nat_cmp ls)) where
   records_are : entries (map_of ns ls).lines ≡ ls
@@ -72,6 +76,16 @@ module _ (ns : List (ℕ × Coord)) (ls : List (ℕ × Line)) (sn : T (is_sorted
         finish = coord_at_is (line_at_is x i).to i;
       }
 
+  pub road : (x v w : ℕ) → (is_some (find nat_cmp x ls) ≡ true) × ((line_in ls x).from ≡ v) × ((line_in ls x).to ≡ w) →
+      IsRoad (map_of ns ls) x (leg_in ns ls x) v w
+  road x v w r =
+      record {
+        known = has_line_is x ∙ r.0;
+        is = leg_is x;
+        from = ap (λ (l : Line). l.from) (line_at_is x) ∙ r.1;
+        to = ap (λ (l : Line). l.to) (line_at_is x) ∙ r.2;
+      }
+
   numbers_are : (test : Line → Bool) → lines_where (map_of ns ls) test ≡ numbers_in ls test
   numbers_are test i = map (λ e. e.0) (filter (λ e. test e.1) (records_are i))
 
@@ -92,18 +106,12 @@ module _ (ns : List (ℕ × Coord)) (ls : List (ℕ × Line)) (sn : T (is_sorted
   good_nodes : (es : List (ℕ × Coord)) → list_all (λ e. is_coord e.1) es ≡ true → (v : ℕ) →
       is_some (find nat_cmp v es) ≡ true → is_coord (coord_in es v) ≡ true
   good_nodes [] a v h = absurd cc
-  good_nodes (e ∷ es) a v h =
-      let both = and_parts _ _ a in
-      good_either (eq_by_cmp nat_cmp v e.0) e.1 (find nat_cmp v es) both.0 (good_nodes es both.1 v) h
+  good_nodes (e ∷ es) a v h = grind (arith, and_parts, cases_Bool (eq_by_cmp nat_cmp v e.0), good_nodes es)
 
   -- the four parts of the test of line x
   pub good_line : list_all (is_good_in ns ls) (numbers_in ls (λ _. true)) ≡ true → (x : ℕ) →
       IsTrue (has_line (map_of ns ls) x) → IsGoodIn ns ls x
-  good_line a x h =
-      let p = and_parts _ _ (each_line (is_good_in ns ls) a x h) in
-      let q = and_parts _ _ p.1 in
-      let r = and_parts _ _ q.1 in
-      (p.0, q.0, r.0, r.1)
+  good_line a x h = grind (arith, and_parts, each_line (is_good_in ns ls) a x h)
 
   pub sound : list_all (is_good_in ns ls) (numbers_in ls (λ _. true)) ≡ true → list_all (λ e. is_coord e.1) ns ≡ true →
       IsMap (map_of ns ls)

@@ -1,13 +1,12 @@
 -- The worked rows on margins.
-use Rattle.olr_spec.proofs.Common.{inl, inr, ◌≡◌, ◌≢◌, ℕ, ◌<◌, ◌≤◌, List, [], ◌∷◌, refl, sym, ap, ◌∙◌, IsTrue, arith, ◌||◌, ◌==◌}
-use Rattle.olr_spec.proofs.Common.{not, Map, IsMap, has_line, start, end, dm, dm_of, IsRoute, UniqueShortest, Line, or_cases, ◌⊎◌}
-use Rattle.olr_spec.proofs.Common.{eqb-true, eq-eqb, CoveredWith, length, first, not-true}
+use Rattle.olr_spec.proofs.Common.{inl, inr, ◌≡◌, ◌≢◌, ℕ, ◌<◌, ◌≤◌, List, [], ◌∷◌, refl, sym, ap, ◌∙◌, IsTrue, arith, ◌||◌}
+use Rattle.olr_spec.proofs.Common.{◌==◌, not, Map, IsMap, has_line, start, end, dm, dm_of, IsRoute, UniqueShortest, or_cases}
+use Rattle.olr_spec.proofs.Common.{◌⊎◌, eqb-true, eq-eqb, CoveredWith, length, first, not-true}
 use Rattle.olr_spec.specs.Margins.{counted, counted_dm}
 use Rattle.olr_spec.proofs.RouteLemmas.{positive}
 use Rattle.olr_spec.proofs.CountedLemmas.{counted_own, counted_other, counted_route}
-use Rattle.olr_laws.specs.MarginRows.{fifty, row_nodes, roads, roads_records, roads_path, loop_map, loop_records, loop_path}
-use Rattle.olr_laws.proofs.MapLemmas.{sound, line_at_is, line_in, leg_in, each_line}
-use Rattle.olr_laws.proofs.SideRoadLemmas.{IsRoad, road, long}
+use Rattle.olr_laws.specs.MapRows.{fifty, row_nodes, roads, roads_records, roads_path, loop_map, loop_records, loop_path}
+use Rattle.olr_laws.proofs.MapLemmas.{sound, line_at_is, line_in, leg_in, each_line, IsRoad, long, road}
 
 -- a rival that is no longer
 beaten : (M : Map) (s t : ℕ) (xs ys : List ℕ) → IsRoute M s t ys → ys ≢ xs → dm_of M ys ≤ dm_of M xs → ¬ UniqueShortest M s t xs
@@ -56,15 +55,7 @@ from_2 : (y : ℕ) → IsTrue (has_line (roads 1000 1010) y) → start (roads 10
 from_2 y h from =
     let all = each_line row_nodes (roads_records 1000 1010) tt tt
     (λ y. not ((line_in (roads_records 1000 1010) y).from == 2) || (y == 20 || y == 21)) refl y h in
-    let at : (line_in (roads_records 1000 1010) y).from ≡ 2 =
-    ap (λ (l : Line). l.from) (sym (line_at_is row_nodes (roads_records 1000 1010) tt tt y)) ∙ from in
-    elim (or_cases (not ((line_in (roads_records 1000 1010) y).from == 2)) (y == 20 || y == 21) all) [
-      | inl n ↦
-          let there = eq-eqb (line_in (roads_records 1000 1010) y).from 2 at in
-          let isnt = not-true ((line_in (roads_records 1000 1010) y).from == 2) n in
-          absurd (let never : ⊥ = cc (there, isnt) in never)
-      | inr e ↦ elim (or_cases (y == 20) (y == 21) e) [ inl f ↦ inl (eqb-true y 20 f) | inr f ↦ inr (eqb-true y 21 f) ]
-    ]
+    grind (arith, or_cases, eqb-true, eq-eqb, not-true, line_at_is row_nodes (roads_records 1000 1010) tt tt y)
 
 after_20 : (y : ℕ) (ys : List ℕ) → y ≡ 20 → IsRoute (roads 1000 1010) (end (roads 1000 1010) y) 3 ys → y ∷ ys ≢ 20 ∷ [] →
     dm_of (roads 1000 1010) (20 ∷ []) < dm_of (roads 1000 1010) (y ∷ ys)

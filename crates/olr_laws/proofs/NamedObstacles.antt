@@ -1,7 +1,7 @@
 -- The ambiguities of strings: the question has exactly one answer, which names each string in whose way something
 -- stands, and nothing else.
-use Rattle.std.proofs.Common.{arith, ◌≡◌, ◌≢◌, inl, inr, ℕ, false, List, [], ◌∷◌, ◌++◌, map, not, Some, None, Option, IsTrue, sym}
-use Rattle.std.proofs.Common.{Contains, refl, ap, ◌∙◌, subst}
+use Rattle.std.proofs.Common.{arith, ◌≡◌, ◌≢◌, inl, inr, ℕ, false, List, [], ◌∷◌, ◌++◌, map, not, Some, None, Option, IsTrue}
+use Rattle.std.proofs.Common.{sym, Contains, refl, ap, ◌∙◌, subst}
 use Rattle.std.proofs.lemmas.List.Elements.{Contains-append_left, Contains-append_right, Contains-append_cases}
 use Rattle.olr_commands.proofs.Common.{Map, IsMap, Path, is_path, Margin, Answer, Refused, EncodesWith, one_answer_with}
 use Rattle.olr_commands.proofs.Common.{some_answer_with, not-false}
@@ -13,15 +13,10 @@ use Rattle.olr_spec.proofs.FitLemmas.{by_answer}
 use Rattle.olr_spec.proofs.ListLemmas.{Contains-here, Contains-later, Contains-cases}
 use Rattle.olr_commands.proofs.NameLemmas.{named_path}
 use Rattle.olr_commands.specs.State.{Named, Content, ArePaths, IsContent, path_named, has_asked}
-use Rattle.olr_commands.specs.Reply.{Reply, IsObstacles}
 use Rattle.olr_commands.specs.Ambiguities.{NamedObstacle, named, obstacles_of, Ambiguity, Ambiguities, AskedAmbiguities}
-use Rattle.olr_laws.specs.AmbiguityLaws.{UnnamedIsDistinct, NamedStands, StandsFor}
+use Rattle.olr_laws.specs.ReceiverLaws.{UnnamedIsDistinct, NamedStands, StandsFor}
 use Rattle.olr_laws.proofs.AmbiguityLemmas.{clear_is_distinct}
 use Rattle.olr_spec.proofs.OptionLemmas.{some_of}
-
-pub one_obstacles : (T : List NamedObstacle → Type 0) → ((x y : List NamedObstacle) → T x → T y → x ≡ y) → (r q : Reply) →
-    IsObstacles r T → IsObstacles q T → r ≡ q
-one_obstacles T one r q p g = grind (arith, one)
 
 -- ---- of one path
 
@@ -65,10 +60,7 @@ pub one_asked : (c : Content) → IsContent c → (name : Option (List ℕ)) →
     AskedAmbiguities c name es → AskedAmbiguities c name fs → es ≡ fs
 one_asked c i None es fs a b = one_all c.margin c.map i.map c.paths i.paths es fs a b
 one_asked c i (Some name) es fs a b =
-    let there : Some a.0 ≡ Some b.0 = sym a.1 ∙ b.1 in
-    let same : a.0 ≡ b.0 = cc in
-    one_ambiguity c.margin c.map i.map (record { name = name; path = a.0 }) (named_path c.paths name a.0 i.paths a.1) es fs a.2
-    (subst (λ (P : Path). Ambiguity c.margin c.map (record { name = name; path = P }) fs) (sym same) b.2)
+    grind (arith, one_ambiguity c.margin c.map i.map (record { name = name; path = a.0 }) (named_path c.paths name a.0 i.paths a.1) es fs a.2)
 
 pub some_asked : (c : Content) → IsContent c → (name : Option (List ℕ)) → not (has_asked c name) ≡ false →
     (es : List NamedObstacle) × AskedAmbiguities c name es
@@ -116,10 +108,7 @@ none_named n (o ∷ os) none = absurd (none (named n o) (Contains-here (named n 
 
 pub path_in : (ps : List Named) (p : Named) → ArePaths ps → Contains ps p → IsTrue (is_path p.path.lines)
 path_in [] p a c = absurd (let lt = c.1 in omega arith)
-path_in (q ∷ ps) p a c = elim (Contains-cases q p ps c) [
-  | inl e ↦ subst (λ (n : Named). IsTrue (is_path n.path.lines)) e a.0
-  | inr later ↦ path_in ps p a.1 later
-]
+path_in (q ∷ ps) p a c = grind (arith, Contains-cases q p ps c, path_in ps p a.1)
 
 pub unnamed_is_distinct : UnnamedIsDistinct
 unnamed_is_distinct c i es a p at unnamed r e scale far w slack few =
@@ -138,10 +127,7 @@ unnamed_is_distinct c i es a p at unnamed r e scale far w slack few =
 -- an element of a list that a function gives
 of_map : {A B : Type 0} (f : A → B) (xs : List A) (y : B) → Contains (map f xs) y → (x : A) × Contains xs x × (y ≡ f x)
 of_map f [] y c = absurd (let lt = c.1 in omega arith)
-of_map f (x ∷ xs) y c = elim (Contains-cases (f x) y (map f xs) c) [
-  | inl e ↦ (x, Contains-here x xs, sym e)
-  | inr later ↦ let r = of_map f xs y later in (r.0, Contains-later x r.0 xs r.1, r.2)
-]
+of_map f (x ∷ xs) y c = grind (arith, Contains-cases (f x) y (map f xs) c, Contains-here x xs, Contains-later x, of_map f xs y)
 
 stands : (g : Margin) (M : Map) (p : Named) (own : List NamedObstacle) → Ambiguity g M p own → (e : NamedObstacle) → Contains own e →
     StandsFor g M p e

@@ -1,9 +1,11 @@
 -- Where a node isn't farther by the test, there is a measure by which it isn't.
-use Rattle.olr_spec.proofs.Common.{◌≡◌, ℕ, ◌+◌, ◌-◌, ◌*◌, ◌≤◌, max, ℤ, ◌-ℤ◌, nat_abs, Bool, true, false, ◌&&◌, ◌==◌, cond, refl, ap, arith, IsFalse, Coord, Measure, ints, eq-eqb, eqb-true, ltb-false, or_parts, and_parts, and_from, pos}
+use Rattle.olr_spec.proofs.Common.{◌≡◌, ℕ, ◌+◌, ◌-◌, ◌*◌, ◌≤◌, max, ℤ, ◌-ℤ◌, nat_abs, Bool, true, false, ◌&&◌, ◌==◌, cond, refl}
+use Rattle.olr_spec.proofs.Common.{ap, arith, IsFalse, Coord, Measure, ints, eq-eqb, eqb-true, ltb-false, or_parts, and_parts}
+use Rattle.olr_spec.proofs.Common.{and_from, pos}
 use Rattle.std.proofs.Math.Nat.{div-le_of_le-mul, mul-le-mul_left}
 use Rattle.olr_spec.specs.Recovery.{Weighted, lon_apart, lat_apart}
 use Rattle.olr_spec.specs.Ambiguity.{cosine_up_to, thousandths_up, least_cosine, is_farther}
-use Rattle.olr_laws.specs.AmbiguityLaws.{NoSharperTest}
+use Rattle.olr_laws.specs.ReceiverLaws.{NoSharperTest}
 
 cosine_most : (lat : ℕ) → cosine_up_to lat ≤ 1000000
 cosine_most lat =
@@ -35,7 +37,7 @@ at_itself : (c : Coord) → is_at c c ≡ true
 at_itself c = and_from _ _ (eq-eqb _ 0 (no_change c.lon)) (eq-eqb _ 0 (no_change c.lat))
 
 as_far : (p c d : ℤ) → nat_abs (d -ℤ c) ≡ 0 → nat_abs (p -ℤ d) ≡ nat_abs (p -ℤ c)
-as_far p c d none = let same : d ≡ c = omega (arith, none, ints) in ap (λ (z : ℤ). nat_abs (p -ℤ z)) same
+as_far p c d none = omega (arith, none, ints)
 
 same_place : (p : ℤ × ℤ) (c d : Coord) → is_at c d ≡ true → (lon_apart p d ≡ lon_apart p c) × (lat_apart p d ≡ lat_apart p c)
 same_place p c d is =

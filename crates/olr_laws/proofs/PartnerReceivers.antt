@@ -1,63 +1,27 @@
 -- A receiver on a partner's map that takes the path's own line at each LRP recovers the legs, and nothing else.
-use Rattle.olr_spec.proofs.Common.{◌≡◌, ℕ, suc, ◌+◌, ◌-◌, List, [], ◌∷◌, length, map, Some, None, slice_get, slice_index, refl, ⊤}
-use Rattle.olr_spec.proofs.Common.{sym, ap, ◌∙◌, arith, IsTrue, ◌↔◌, Map, IsMap, Path, is_path, path_fault, Reference, Points}
-use Rattle.olr_spec.proofs.Common.{EncodingWith, Middle, middle_points_with, attrs_with, legs, stretch, extended_path, RecoversTo}
-use Rattle.olr_spec.proofs.Common.{reference_by_kept_with, RecoversLast, Attrs}
-use Rattle.olr_spec.proofs.DecodedLemmas.{Kept, Front, Back, form}
+use Rattle.olr_spec.proofs.Common.{◌≡◌, ℕ, zero, suc, ◌+◌, ◌-◌, List, [], ◌∷◌, length, drop, map, Some, None, slice_get}
+use Rattle.olr_spec.proofs.Common.{slice_index, refl, sym, ap, ◌∙◌, subst, arith, IsTrue, ◌↔◌, Map, IsMap, Path, is_path}
+use Rattle.olr_spec.proofs.Common.{path_fault, Reference, Points, EncodingWith, Middle, middle_points_with, attrs_with, legs}
+use Rattle.olr_spec.proofs.Common.{stretch, extended_path, RecoversTo, RecoversLast, Attrs}
+use Rattle.olr_spec.proofs.DecodedLemmas.{Kept, form}
 use Rattle.olr_spec.proofs.Facts.{path_also, path_at}
 use Rattle.olr_spec.proofs.FitLemmas.{by_answer}
 use Rattle.olr_spec.proofs.PartnerLemmas.{recovered_elsewhere}
-use Rattle.olr_spec.proofs.ReceiverLemmas.{same_path}
+use Rattle.olr_spec.proofs.ReceiverLemmas.{line_at_point, same_path, size}
 use Rattle.olr_spec.specs.Elsewhere.{RecoversLegs}
 use Rattle.olr_spec.specs.Margins.{Margin}
-use Rattle.olr_spec.specs.Receiver.{Lrp, Outgoing, Incoming, RecoversBy, RecoversFrom, attributes, last_lrp, last_number, lrp_at}
+use Rattle.olr_spec.specs.Receiver.{Lrp, Outgoing, Incoming, RecoversBy, RecoversFrom, attributes, last_lrp, last_number}
+use Rattle.olr_spec.specs.Receiver.{lrp_at}
 use Rattle.olr_spec.specs.Recovery.{IsStretchesWith, stretches}
-use Rattle.olr_laws.specs.CommandLaws.{TakesOwn, ReadElsewhere}
+use Rattle.olr_laws.specs.ReceiverLaws.{TakesOwn, ReadElsewhere}
 use Rattle.olr_laws.proofs.NamedObstacles.{path_in}
-use Rattle.olr_laws.proofs.ReceiverLemmas.{line_at_point, size}
 
-module _ (takes : Lrp → ℕ) (g : Margin) (M N : Map) (ls : List ℕ) where
-  abbrev T : Lrp → ℕ → Type 0
-  T t y = y ≡ takes t
-
-  -- the attributes of the LRPs h, i and js but the last
-  abbrev Along : ℕ → ℕ → List ℕ → List Attrs
-  Along h i js = attrs_with g (legs M ls) h i ∷ map (λ (m : Middle). m.attrs) (middle_points_with g (legs M ls) h i js)
-
-  -- the own lines are taken at the LRPs ks, from LRP k on
-  abbrev Taken : Reference → ℕ → List ℕ → Type 0
-  Taken r k [] = ⊤
-  Taken r k (h ∷ []) = takes (last_lrp r) ≡ slice_index ls (h - 1)
-  Taken r k (h ∷ i ∷ js) =
-      (takes (lrp_at r k (attrs_with g (legs M ls) h i)) ≡ slice_index ls h) × Taken r (suc k) (i ∷ js)
-
-  from_point : (r : Reference) (k h i : ℕ) (js : List ℕ) → RecoversLegs g M N ls (h ∷ i ∷ js) → Taken r (suc k) (i ∷ js) →
-      (ws : List (List ℕ)) → RecoversFrom T N r k (slice_index ls h) (Along h i js) ws ↔ (ws ≡ stretches ls (h ∷ i ∷ js))
-  from_point r k h i [] route o ws =
-      let c = (attrs_with g (legs M ls) h i).lfrc in (
-        (λ z. z.4 ∙ ap (λ (v : List ℕ). v ∷ [])
-            ((route z.1).0 (coe 0 1 (n. RecoversLast N c (slice_index ls h) ((z.2 ∙ o) n) z.1) z.3))),
-        (λ e. (slice_index ls (i - 1), stretch ls h i, sym o, (route (stretch ls h i)).1 refl, e)),
-      )
-  from_point r k h i (j ∷ js) route o ws =
-      let c = (attrs_with g (legs M ls) h i).lfrc in
-      let rest = from_point r (suc k) i j js route.1 o.1 in (
-        (λ z.
-            let yes = z.3 ∙ o.0 in
-            let w : z.1 ≡ stretch ls h i = (route.0 z.1).0 (coe 0 1 (n. RecoversTo N c (slice_index ls h) (yes n) z.1) z.4) in
-            z.5 ∙ (λ n. w n ∷ (rest z.2).0 (coe 0 1 (m. RecoversFrom T N r (suc k) (yes m) (Along i j js) z.2) z.6) n)),
-        (λ e. (slice_index ls i, stretch ls h i, _, sym o.0, (route.0 (stretch ls h i)).1 refl, e, (rest _).1 refl)),
-      )
-
-  from_first : (p q h i : ℕ) (js : List ℕ) → RecoversLegs g M N ls (h ∷ i ∷ js) →
-      Taken (reference_by_kept_with g (legs M ls) p q h i js) 0 (h ∷ i ∷ js) → (ws : List (List ℕ)) →
-      RecoversBy T N (reference_by_kept_with g (legs M ls) p q h i js) ws ↔ (ws ≡ stretches ls (h ∷ i ∷ js))
-  from_first p q h i js route o ws =
-      let r = reference_by_kept_with g (legs M ls) p q h i js in
-      let rest = from_point r 0 h i js route o.1 ws in (
-        (λ z. let yes = z.1 ∙ o.0 in rest.0 (coe 0 1 (n. RecoversFrom T N r 0 (yes n) (Along h i js) ws) z.2)),
-        (λ e. (slice_index ls h, sym o.0, rest.1 e)),
-      )
+-- what is left of a list from an element on
+split_at : {X : Type 0} (k : ℕ) (xs : List X) (y : X) (ys : List X) → drop k xs ≡ y ∷ ys → (slice_get xs k ≡ Some y) × (drop (suc k) xs ≡ ys)
+split_at zero [] y ys e = absurd cc
+split_at zero (x ∷ xs) y ys e = (cc, cc)
+split_at (suc k) [] y ys e = absurd cc
+split_at (suc k) (x ∷ xs) y ys e = split_at k xs y ys e
 
 module _ (takes : Lrp → ℕ) {g : Margin} (M N : Map) (m : IsMap M) (P : Path) (is : IsTrue (is_path P.lines))
     (none : path_fault M P ≡ None) (r : Reference) (e : EncodingWith g M P (Points r)) (own : TakesOwn takes g M P r) where
@@ -67,47 +31,59 @@ module _ (takes : Lrp → ℕ) {g : Margin} (M N : Map) (m : IsMap M) (P : Path)
   abbrev Points_kept : List ℕ
   Points_kept = Kept M P is none r e
 
-  taken_first : (k h i : ℕ) → slice_get Points_kept (k + 0) ≡ Some h →
-      slice_get (attributes r) (k + 0) ≡ Some (attrs_with g (legs M Lines) h i) →
-      takes (lrp_at r k (attrs_with g (legs M Lines) h i)) ≡ slice_index Lines h
-  taken_first k h i at along =
-      let on : k + 0 ≡ k = omega arith in
-      own.outgoing k (slice_index Lines h) (attrs_with g (legs M Lines) h i) (ap (slice_get (attributes r)) (sym on) ∙ along)
-      (line_at_point M m P is none r e Outgoing k h (ap (slice_get Points_kept) (sym on) ∙ at))
+  abbrev T : Lrp → ℕ → Type 0
+  T t y = y ≡ takes t
 
-  taken_from : (k h i : ℕ) (js : List ℕ) → ((n : ℕ) → slice_get Points_kept (k + n) ≡ slice_get (h ∷ i ∷ js) n) →
-      ((n : ℕ) → slice_get (attributes r) (k + n) ≡ slice_get (Along takes g M N Lines h i js) n) →
-      k + length (h ∷ i ∷ js) ≡ last_number r + 1 → Taken takes g M N Lines r k (h ∷ i ∷ js)
-  taken_from k h i [] at along long =
-      let last : k + 1 ≡ last_number r = omega arith in (
-        taken_first k h i (at 0) (along 0),
-        own.incoming (slice_index Lines (i - 1))
-            (line_at_point M m P is none r e Incoming (last_number r) i (ap (slice_get Points_kept) (sym last) ∙ at 1)),
+  -- the attributes of the LRPs h, i and js but the last
+  abbrev Along : ℕ → ℕ → List ℕ → List Attrs
+  Along h i js = attrs_with g (legs M Lines) h i ∷ map (λ (m : Middle). m.attrs) (middle_points_with g (legs M Lines) h i js)
+
+  taken : (k h : ℕ) (hs : List ℕ) (a : Attrs) (attrs : List Attrs) → drop k Points_kept ≡ h ∷ hs → drop k (attributes r) ≡ a ∷ attrs →
+      takes (lrp_at r k a) ≡ slice_index Lines h
+  taken k h hs a attrs at along =
+      own.outgoing k (slice_index Lines h) a (split_at k (attributes r) a attrs along).0
+      (line_at_point M m P is none r e Outgoing k h (split_at k Points_kept h hs at).0)
+
+  taken_last : (k h : ℕ) → k ≡ last_number r → drop k Points_kept ≡ h ∷ [] → takes (last_lrp r) ≡ slice_index Lines (h - 1)
+  taken_last k h last at =
+      own.incoming (slice_index Lines (h - 1)) (line_at_point M m P is none r e Incoming (last_number r) h
+      (subst (λ (n : ℕ). slice_get Points_kept n ≡ Some h) last (split_at k Points_kept h [] at).0))
+
+  -- from the path's own line at LRP k the legs after it are recovered
+  from_point : (k h i : ℕ) (js : List ℕ) → drop k Points_kept ≡ h ∷ i ∷ js → drop k (attributes r) ≡ Along h i js →
+      k + length (h ∷ i ∷ js) ≡ last_number r + 1 → RecoversLegs g M N Lines (h ∷ i ∷ js) → (ws : List (List ℕ)) →
+      RecoversFrom T N r k (slice_index Lines h) (Along h i js) ws ↔ (ws ≡ stretches Lines (h ∷ i ∷ js))
+  from_point k h i [] at along long route ws =
+      let c = (attrs_with g (legs M Lines) h i).lfrc in
+      let o = taken_last (suc k) i (omega arith) (split_at k Points_kept h (i ∷ []) at).1 in (
+        (λ z. z.4 ∙ ap (λ (v : List ℕ). v ∷ [])
+            ((route z.1).0 (coe 0 1 (n. RecoversLast N c (slice_index Lines h) ((z.2 ∙ o) n) z.1) z.3))),
+        (λ q. (slice_index Lines (i - 1), stretch Lines h i, sym o, (route (stretch Lines h i)).1 refl, q)),
       )
-  taken_from k h i (j ∷ js) at along long =
-      let step : (n : ℕ) → suc k + n ≡ k + suc n = λ n. omega arith in (
-        taken_first k h i (at 0) (along 0),
-        taken_from (suc k) i j js (λ n. ap (slice_get Points_kept) (step n) ∙ at (suc n))
-            (λ n. ap (slice_get (attributes r)) (step n) ∙ along (suc n)) (omega arith),
+  from_point k h i (j ∷ js) at along long route ws =
+      let c = (attrs_with g (legs M Lines) h i).lfrc in
+      let later = (split_at k Points_kept h (i ∷ j ∷ js) at).1 in
+      let attrs = (split_at k (attributes r) (attrs_with g (legs M Lines) h i) (Along i j js) along).1 in
+      let o = taken (suc k) i (j ∷ js) (attrs_with g (legs M Lines) i j) _ later attrs in
+      let rest = from_point (suc k) i j js later attrs (omega arith) route.1 in (
+        (λ z.
+            let yes = z.3 ∙ o in
+            let w : z.1 ≡ stretch Lines h i = (route.0 z.1).0 (coe 0 1 (n. RecoversTo N c (slice_index Lines h) (yes n) z.1) z.4) in
+            z.5 ∙ (λ n. w n ∷ (rest z.2).0 (coe 0 1 (m. RecoversFrom T N r (suc k) (yes m) (Along i j js) z.2) z.6) n)),
+        (λ q. (slice_index Lines i, stretch Lines h i, _, sym o, (route.0 (stretch Lines h i)).1 refl, q, (rest _).1 refl)),
       )
 
-  recovered : RecoversLegs g M N Lines Points_kept → (ws : List (List ℕ)) →
-      RecoversBy (T takes g M N Lines) N r ws ↔ IsStretchesWith g M P ws
+  recovered : RecoversLegs g M N Lines Points_kept → (ws : List (List ℕ)) → RecoversBy T N r ws ↔ IsStretchesWith g M P ws
   recovered route ws =
       let f = form M P is none r e in
-      let kept : Points_kept ≡ f.h ∷ f.i ∷ f.js = f.kept in
-      let zero : (n : ℕ) → 0 + n ≡ n = λ n. omega arith in
-      let long : 0 + length (f.h ∷ f.i ∷ f.js) ≡ last_number r + 1 = omega (arith, ap length kept, size M m P is none r e) in
-      let all : Taken takes g M N Lines r 0 (f.h ∷ f.i ∷ f.js) =
-      taken_from 0 f.h f.i f.js (λ n. ap (slice_get Points_kept) (zero n) ∙ ap (λ (ks : List ℕ). slice_get ks n) kept)
-      (λ n. ap (slice_get (attributes r)) (zero n) ∙ ap (λ (q : Reference). slice_get (attributes q) n) f.fields_are) long in
-      let by : RecoversBy (T takes g M N Lines) N r ws ↔ (ws ≡ stretches Lines Points_kept) =
-      coe 1 0 (i. RecoversBy (T takes g M N Lines) N (f.fields_are i) ws ↔ (ws ≡ stretches Lines (kept i)))
-      (from_first takes g M N Lines (Front M P is none r e) (Back M P is none r e) f.h f.i f.js
-      (coe 0 1 (i. RecoversLegs g M N Lines (kept i)) route)
-      (coe 0 1 (i. Taken takes g M N Lines (f.fields_are i) 0 (f.h ∷ f.i ∷ f.js)) all) ws) in (
-        (λ z. path_also e (by.0 z)),
-        (λ p. by.1 (same_path M m P is none r e _ p)),
+      let along : attributes r ≡ Along f.h f.i f.js = ap attributes f.fields_are in
+      let first = taken 0 f.h (f.i ∷ f.js) r.first.attrs _ f.kept refl in
+      let long : 0 + length (f.h ∷ f.i ∷ f.js) ≡ last_number r + 1 = omega (arith, ap length f.kept, size M m P is none r e) in
+      let rest = from_point 0 f.h f.i f.js f.kept along long (coe 0 1 (n. RecoversLegs g M N Lines (f.kept n)) route) ws in
+      let by : RecoversFrom T N r 0 (slice_index Lines f.h) (attributes r) ws ↔ (ws ≡ stretches Lines Points_kept) =
+      coe 1 0 (n. RecoversFrom T N r 0 (slice_index Lines f.h) (along n) ws ↔ (ws ≡ stretches Lines (f.kept n))) rest in (
+        (λ z. path_also e (by.0 (coe 0 1 (n. RecoversFrom T N r 0 ((z.1 ∙ first) n) (attributes r) ws) z.2))),
+        (λ p. (slice_index Lines f.h, sym first, by.1 (same_path M m P is none r e _ p))),
       )
 
 pub read_elsewhere : ReadElsewhere

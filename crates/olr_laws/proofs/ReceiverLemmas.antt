@@ -1,19 +1,19 @@
 -- Where the LRPs of an answer are decoded, that receivers exist, and what the legs between the LRPs say.
 use Rattle.olr_spec.specs.Margins.{Margin}
-use Rattle.olr_spec.proofs.Common.{IsPointWith, ◌≡◌, ℕ, zero, suc, ◌+◌, ℤ, true, List, ◌∷◌, length, ◌<◌, ◌≤◌, Some, None, is_some}
-use Rattle.olr_spec.proofs.Common.{IsTrue, ap, ◌∙◌, subst, arith, nat_le, [], slice_get, option_map, leb-true, slice_index, Map}
-use Rattle.olr_spec.proofs.Common.{cases_Bool, IsMap, coord_at, Path, is_path, node_at, Reference, Points, path_fault, IsNear}
-use Rattle.olr_spec.proofs.Common.{EncodingWith, slice_get-get_or, decoded, ◌-◌, refl, nat_lt, ◌==◌, ◌*◌, ◌-ℤ◌, ◌/◌, eqb-true}
-use Rattle.olr_spec.proofs.Common.{ltb-true, lt-ltb, le-ltb, nat_abs, or_cases, ints, offset, Measure, Coord, decoded_bound, map}
-use Rattle.olr_spec.proofs.Common.{IsWeighted, is_spaced, IsCut, IsClose, SomeReceiver, SomeWeighted, sym, inl, inr, Bool, pos}
-use Rattle.olr_spec.proofs.Common.{Option, unwrap_or, cond, AllZip, get_or, AllPass-from_list_all, cases_lt, or_left, or_right}
-use Rattle.olr_spec.proofs.Common.{start, end, extended_path, first, last, AreJoined, stretch, Leg, leg, legs, attrs_with, Middle}
-use Rattle.olr_spec.proofs.Common.{first_kept, last_kept, kept_points, middle_points_with, last_two, reference_by_kept_with, Side}
-use Rattle.olr_spec.proofs.Common.{is_nearest, coordinate_on, dm_of, concat, list_all-from_AllPass, cond-false, has, has_line}
-use Rattle.olr_spec.proofs.Common.{candidates, list_all, and_parts, up_to, lines_where, ◌&&◌, get_or_default, list_all-map, ◌⊎◌}
-use Rattle.olr_spec.proofs.Common.{◌||◌, and_from, le-leb, node_on}
-use Rattle.olr_spec.specs.Recovery.{are_cosines, lon_apart, lat_apart, line_by, IsLineAtWith, stretches, IsStretchesWith, IsStep}
-use Rattle.olr_spec.specs.Recovery.{IsLeftWith, are_spaced, Weighted, is_cosine}
+use Rattle.olr_spec.proofs.Common.{IsPointWith, ◌≡◌, ℕ, zero, suc, ◌+◌, ℤ, true, List, ◌∷◌, length, ◌<◌, ◌≤◌, Some, None}
+use Rattle.olr_spec.proofs.Common.{is_some, IsTrue, ap, ◌∙◌, subst, arith, nat_le, [], slice_get, option_map, leb-true}
+use Rattle.olr_spec.proofs.Common.{slice_index, Map, cases_Bool, IsMap, coord_at, Path, is_path, node_at, Reference, Points}
+use Rattle.olr_spec.proofs.Common.{path_fault, IsNear, EncodingWith, slice_get-get_or, decoded, ◌-◌, refl, nat_lt, ◌==◌, ◌*◌}
+use Rattle.olr_spec.proofs.Common.{◌-ℤ◌, ◌/◌, eqb-true, ltb-true, lt-ltb, le-ltb, nat_abs, or_cases, ints, offset, Measure}
+use Rattle.olr_spec.proofs.Common.{Coord, decoded_bound, map, IsWeighted, IsCut, IsClose, SomeReceiver, SomeWeighted, sym, inl}
+use Rattle.olr_spec.proofs.Common.{inr, Bool, pos, Option, unwrap_or, cond, AllZip, get_or, AllPass-from_list_all, cases_lt}
+use Rattle.olr_spec.proofs.Common.{or_left, or_right, start, end, extended_path, first, last, AreJoined, stretch, Leg, leg}
+use Rattle.olr_spec.proofs.Common.{legs, attrs_with, Middle, first_kept, last_kept, kept_points, middle_points_with, last_two}
+use Rattle.olr_spec.proofs.Common.{reference_by_kept_with, Side, is_nearest, coordinate_on, dm_of, concat}
+use Rattle.olr_spec.proofs.Common.{list_all-from_AllPass, cond-false, has, has_line, candidates, list_all, and_parts, up_to}
+use Rattle.olr_spec.proofs.Common.{lines_where, ◌&&◌, get_or_default, list_all-map, ◌⊎◌, ◌||◌, and_from, le-leb, node_on}
+use Rattle.olr_spec.specs.Recovery.{are_cosines, lon_apart, lat_apart, line_by, IsLineAtWith, stretches, IsStretchesWith}
+use Rattle.olr_spec.specs.Recovery.{IsStep, IsLeftWith, are_spaced, Weighted, is_cosine}
 use Rattle.olr_spec.proofs.Facts.{path_also, path_at, Each, has_index, at_index, has-lines_where, has_last, last_index, Known}
 use Rattle.olr_spec.proofs.Facts.{LinkedWith, follow_linked_with, kept_linked_with, empty_stretch, stretch_first, positive}
 use Rattle.olr_spec.proofs.Facts.{next_start}
@@ -26,11 +26,11 @@ use Rattle.olr_spec.specs.Receiver.{Rating, IsDifference, Outgoing, Incoming, la
 use Rattle.olr_spec.proofs.SectorLemmas.{has_below}
 use Rattle.olr_spec.proofs.JoinedLemmas.{extended_joined}
 use Rattle.olr_spec.specs.Directions.{is_direction, is_beyond, direction_on}
-use Rattle.olr_laws.specs.Directions.{is_spaced_by, is_outdone, is_clear, stands_out}
-use Rattle.olr_laws.specs.DirectionLaws.{ClearStandsOut, DecodedNear, DecodedPoints, StretchesJoin, OffsetsWith, DistancesWith}
-use Rattle.olr_laws.specs.DirectionLaws.{Nearest}
+use Rattle.olr_laws.specs.Directions.{AtEachLrp, is_spaced_by, is_outdone, is_clear, stands_out}
+use Rattle.olr_laws.specs.ReceiverLaws.{ClearStandsOut, DecodedNear, DecodedPoints, StretchesJoin, OffsetsWith, DistancesWith}
+use Rattle.olr_laws.specs.ReceiverLaws.{Nearest}
 use Rattle.olr_spec.proofs.QueryLemmas.{stretch_parts}
-use Rattle.olr_spec.proofs.ReceiverLemmas.{same_path, passes}
+use Rattle.olr_spec.proofs.ReceiverLemmas.{same_path, passes, size}
 use Rattle.std.proofs.Common.{lt_of_mul-lt-mul_right}
 
 pub got_index : (f : ℕ → ℕ) (ks : List ℕ) (k v : ℕ) → option_map f (slice_get ks k) ≡ Some v → (k < length ks)
@@ -68,7 +68,7 @@ some_receiver far = (
   refl,
 )
 
--- ---- the nearest node
+-- ---- a node that is farther
 
 -- the bound of the measure for a node, with e more, and that it is less than the measure for another
 own_bound : (u scale a b e f : ℕ) → u ≤ scale → f ≤ u * a + scale * b → f + scale * e ≤ scale * (a + b + e)
@@ -125,16 +125,6 @@ farther n d scale e k far p a b some unit here there near spaced =
           (nat_abs (a.lon -ℤ b.lon)) (few n d scale there.u unit there.least there.most) some near.lon near.lat
           (triangle p.0 a.lon b.lon) east)
     ])
-
-nearer : (n d scale k : ℕ) (far : Measure) (p : ℤ × ℤ) (a b : Coord) → 0 < d → 0 < scale → Weighted n d scale far p a →
-    Weighted n d scale far p b → IsNear k p a → is_spaced n d k a b ≡ true → far p a < far p b
-nearer n d scale k far p a b some unit here there near spaced =
-    let over = farther n d scale 0 k far p a b some unit here there near
-    (elim (or_cases (nat_le (3 * decoded_bound k) (nat_abs (a.lat -ℤ b.lat))) _ spaced) [
-      | inl north ↦ inl (omega (arith, leb-true (3 * decoded_bound k) (nat_abs (a.lat -ℤ b.lat)) north))
-      | inr east ↦ inr (omega (arith, leb-true (3 * (d * decoded_bound k)) (n * nat_abs (a.lon -ℤ b.lon)) east))
-    ]) in
-    omega arith
 
 -- the weighted sum with this cosine
 of_cosine : (n d scale : ℕ) (cosine : Measure) (p : ℤ × ℤ) (c : Coord) → is_cosine n d scale (cosine p c) ≡ true →
@@ -222,10 +212,9 @@ module _ (M : Map) (m : IsMap M) (ls : List ℕ) (known : Each (Known M) ls) whe
 
 linked_bounds : (g : Margin) (M : Map) (ls ks : List ℕ) → LinkedWith g M ls ks → (k : ℕ) → suc k < length ks →
     (slice_index ks k < slice_index ks (suc k)) × (slice_index ks (suc k) ≤ length ls)
-linked_bounds g M ls [] l k h = absurd (omega arith)
-linked_bounds g M ls (p ∷ []) l k h = absurd (omega arith)
 linked_bounds g M ls (p ∷ q ∷ ks) l zero h = (l.0.after, l.0.upto)
 linked_bounds g M ls (p ∷ q ∷ ks) l (suc k) h = linked_bounds g M ls (q ∷ ks) l.1 k (omega arith)
+linked_bounds g M ls _ l k h = absurd (omega arith)
 
 at_start : (M : Map) (ls : List ℕ) (i : ℕ) → i < length ls → node_at M ls i ≡ start M (slice_index ls i)
 at_start M ls i h = ap (λ (b : Bool). cond b (start M (slice_index ls i)) (end M (last ls))) (lt-ltb i (length ls) h)
@@ -265,16 +254,13 @@ pub all_candidates : (M : Map) (f g : ℕ × Leg → Bool) →
     IsTrue (list_all f (candidates M)) → IsTrue (list_all g (candidates M))
 all_candidates M f g more a = every_candidate M g (λ x known. more x known (passes M f a x known))
 
-spaced_nearest : (n d scale : ℕ) (far : Measure) (M : Map) (r : Reference) → IsWeighted n d scale far M r → (k : ℕ) →
-    k ≤ last_number r → (s : Side) (x : ℕ) → IsTrue (has_line M x) →
-    IsNear k (decoded_coord r k) (coordinate_on s (leg M x)) → IsTrue (are_spaced n d k s (leg M x) (candidates M)) →
-    IsTrue (is_nearest far s (decoded_coord r k) (leg M x) (candidates M))
-spaced_nearest n d scale far M r w k up s x known near =
-    all_candidates M _ _ (λ y there t.
-    let closer = nearer n d scale k far (decoded_coord r k) (coordinate_on s (leg M x)) (coordinate_on s (leg M y)) w.some w.unit (w.all s k x up known) (w.all s k y up there) near in
-    grind (arith, or_cases, or_left, or_right, lt-ltb))
-
 -- ---- an answer
+
+-- line x is on the map, and the LRP k of the reference is decoded near its node
+pub record IsOwn (M : Map) (r : Reference) (s : Side) (k x : ℕ) : Type 0 where
+  pub known : IsTrue (has_line M x)
+  pub up : k ≤ last_number r
+  pub near : IsNear k (decoded_coord r k) (coordinate_on s (leg M x))
 
 module _ {g : Margin} (M : Map) (m : IsMap M) (P : Path) (is : IsTrue (is_path P.lines)) (none : path_fault M P ≡ None)
     (r : Reference) (e : EncodingWith g M P (Points r)) where
@@ -284,16 +270,19 @@ module _ {g : Margin} (M : Map) (m : IsMap M) (P : Path) (is : IsTrue (is_path P
   abbrev Points_kept : List ℕ
   Points_kept = Kept M P is none r e
 
-  pub line_at_point : (s : Side) (k p : ℕ) → slice_get Points_kept k ≡ Some p → IsLineAtWith g M P s k (line_by s Lines p)
-  line_at_point s k p at = path_also e (ap (option_map (line_by s Lines)) at)
+  -- LRP k is decoded near the node of its position
+  near_kept : (k : ℕ) → k < length Points_kept →
+      (d : ℤ × ℤ) × (decoded r k ≡ Some d) × IsNear k d (coord_at M (node_at M Lines (slice_index Points_kept k)))
+  near_kept k lt =
+      let near = (answer_decodes M P is none r e).near k lt in
+      let s = extended_sound M P is none e.before e.after e.tried in
+      (near.0, near.1, subst (IsNear k near.0) (position_is M m Lines s.known (slice_index Points_kept k) s.size) near.2)
 
   near_point : (k v : ℕ) → IsPointWith g M P k v → (d : ℤ × ℤ) × (decoded r k ≡ Some d) × IsNear k d (coord_at M v)
   near_point k v p =
       let at = got_index (node_at M Lines) Points_kept k v (path_at m is none e p) in
-      let near = (answer_decodes M P is none r e).near k at.0 in
-      let s = extended_sound M P is none e.before e.after e.tried in
-      let place = position_is M m Lines s.known (slice_index Points_kept k) s.size ∙ ap (coord_at M) at.1 in
-      (near.0, near.1, subst (IsNear k near.0) place near.2)
+      let near = near_kept k at.0 in
+      (near.0, near.1, subst (λ (w : ℕ). IsNear k near.0 (coord_at M w)) at.1 near.2)
 
   point_at : (k : ℕ) → is_some (decoded r k) ≡ true → (v : ℕ) × IsPointWith g M P k v
   point_at k h =
@@ -303,13 +292,10 @@ module _ {g : Margin} (M : Map) (m : IsMap M) (P : Path) (is : IsTrue (is_path P
         path_also e (ap (option_map (node_at M Lines)) (slice_get-get_or Points_kept k 0 (omega arith))),
       )
 
-  pub size : last_number r + 1 ≡ length Points_kept
-  size = omega (arith, (answer_decodes M P is none r e).count)
-
-  formed : Form g M Lines Points_kept (Front M P is none r e) (Back M P is none r e) r
+  abbrev formed : Form g M Lines Points_kept (Front M P is none r e) (Back M P is none r e) r
   formed = form M P is none r e
 
-  pub known_lines : Each (Known M) Lines
+  known_lines : Each (Known M) Lines
   known_lines = (extended_sound M P is none e.before e.after e.tried).known
 
   stretches_are : (ws : List (List ℕ)) → IsStretchesWith g M P ws → ws ≡ stretches Lines (formed.h ∷ formed.i ∷ formed.js)
@@ -325,53 +311,45 @@ module _ {g : Margin} (M : Map) (m : IsMap M) (P : Path) (is : IsTrue (is_path P
   all_steps : (ws : List (List ℕ)) → IsStretchesWith g M P ws → AllZip (λ a w. IsStep a (dm_of M w)) (attributes r) ws
   all_steps ws s = grind (arith, formed.fields_are, stretches_are ws s, steps_of M m Lines known_lines g formed.h)
 
-  -- ---- the nearest node
+  -- ---- the path's own lines
 
   bounds : (k : ℕ) → k < last_number r →
       (slice_index Points_kept k < slice_index Points_kept (k + 1)) × (slice_index Points_kept (k + 1) ≤ length Lines)
   bounds k h =
       let on : k + 1 ≡ suc k = omega arith in
-      grind (arith, size, formed.kept, linked_bounds g M Lines (formed.h ∷ formed.i ∷ formed.js) formed.linked k)
+      let long = size M m P is none r e in
+      grind (arith, long, formed.kept, linked_bounds g M Lines (formed.h ∷ formed.i ∷ formed.js) formed.linked k)
 
-  -- LRP k is decoded near the node of its line x
-  near_line : (s : Side) (k x : ℕ) → k ≤ last_number r → IsLineAtWith g M P s k x →
-      ((i : ℕ) → slice_index Points_kept k ≡ i → coord_at M (node_at M Lines i) ≡ coordinate_on s (leg M (line_by s Lines i))) →
-      IsNear k (decoded_coord r k) (coordinate_on s (leg M x))
-  near_line s k x h at on =
+  -- a line leaves position p, or enters it
+  abbrev HasLine : Side → ℕ → Type 0
+  HasLine Outgoing p = p < length Lines
+  HasLine Incoming p = (0 < p) × (p ≤ length Lines)
+
+  at_position : (s : Side) (p : ℕ) → HasLine s p → IsTrue (has_line M (line_by s Lines p))
+      × (coord_at M (node_at M Lines p) ≡ coordinate_on s (leg M (line_by s Lines p)))
+  at_position Outgoing p lt = (known_lines _ (has_index Lines p lt), ap (coord_at M) (at_start M Lines p lt))
+  at_position Incoming p up = (
+    known_lines _ (has_index Lines (p - 1) (omega (arith, up))),
+    ap (coord_at M) (at_end M m Lines known_lines (extended_joined M P is none e.before e.after e.tried) p up.0 up.1),
+  )
+
+  own_line : (s : Side) (k x : ℕ) → k ≤ last_number r → HasLine s (slice_index Points_kept k) → IsLineAtWith g M P s k x →
+      IsOwn M r s k x
+  own_line s k x h on at =
       let there = same_path M m P is none r e _ at in
-      let near = (answer_decodes M P is none r e).near k (omega (arith, size)) in
-      let some = (extended_sound M P is none e.before e.after e.tried).size in
-      let place_is = position_is M m Lines known_lines (slice_index Points_kept k) some ∙ on (slice_index Points_kept k) refl
-      ∙ ap (λ (y : ℕ). coordinate_on s (leg M y)) (got_index (line_by s Lines) Points_kept k x there).1 in
-      coe 0 1 (i. IsNear k (sym (ap (λ (o : Option (ℤ × ℤ)). unwrap_or o (pos 0, pos 0)) near.1) i) (place_is i)) near.2
+      let near = near_kept k (omega (arith, size M m P is none r e)) in
+      let line = at_position s (slice_index Points_kept k) on in
+      let place : decoded_coord r k ≡ near.0 = ap (λ (o : Option (ℤ × ℤ)). unwrap_or o (pos 0, pos 0)) near.1 in
+      subst (IsOwn M r s k) (got_index (line_by s Lines) Points_kept k x there).1
+      (record { known = line.0; up = h; near = coe 0 1 (i. IsNear k (sym place i) (line.1 i)) near.2 })
 
-  near_out : (k x : ℕ) → k < last_number r → IsLineAtWith g M P Outgoing k x → IsNear k (decoded_coord r k) (leg M x).begin
-  near_out k x h at = grind (arith, bounds k h, near_line Outgoing k x, at_start M Lines)
-
-  near_in : (x : ℕ) → IsLineAtWith g M P Incoming (last_number r) x →
-      IsNear (last_number r) (decoded_coord r (last_number r)) (leg M x).finish
-  near_in x at =
-      let b = bounds (length r.middle) (omega arith) in
-      near_line Incoming (last_number r) x (omega arith) at
-      (λ i is_i. ap (coord_at M) (at_end M m Lines known_lines
-      (extended_joined M P is none e.before e.after e.tried) i (omega (arith, is_i, b.0)) (omega (arith, is_i, b.1))))
-
-  known_at : (s : Side) (k x : ℕ) → IsLineAtWith g M P s k x →
-      ((i : ℕ) → slice_index Points_kept k ≡ i → IsTrue (has_line M (line_by s Lines i))) → IsTrue (has_line M x)
-  known_at s k x at known =
-      let there = same_path M m P is none r e _ at in
-      subst (λ (y : ℕ). IsTrue (has_line M y)) (got_index (line_by s Lines) Points_kept k x there).1 (known (slice_index Points_kept k) refl)
-
-  pub known_out : (k x : ℕ) → k < last_number r → IsLineAtWith g M P Outgoing k x → IsTrue (has_line M x)
-  known_out k x h at =
-      let b = bounds k h in
-      known_at Outgoing k x at (λ i is_i. known_lines _ (has_index Lines i (omega (arith, is_i, b.0, b.1))))
-
-  pub known_in : (x : ℕ) → IsLineAtWith g M P Incoming (last_number r) x → IsTrue (has_line M x)
-  known_in x at =
-      let b = bounds (length r.middle) (omega arith) in
-      known_at Incoming (last_number r) x at
-      (λ i is_i. known_lines _ (has_index Lines (i - 1) (omega (arith, is_i, b.0, b.1))))
+  pub own_lines_are : AtEachLrp g M P r (IsOwn M r)
+  own_lines_are =
+      record {
+        outgoing = λ k x h. own_line Outgoing k x (omega arith) (omega (arith, bounds k h));
+        incoming = λ x. let b = bounds (length r.middle) (omega arith) in
+            own_line Incoming (last_number r) x (omega arith) (omega (arith, b.0), omega (arith, b.1));
+      }
 
 pub decoded_near : (g : Margin) → DecodedNear g
 decoded_near g M m P is r e = let p = by_answer M P r e in near_point M m P is p.0 r p.1
@@ -403,69 +381,73 @@ offsets_close g M m P is r e = let p = by_answer M P r e in cuts M m P is p.0 r 
 pub steps_close : (g : Margin) → DistancesWith g
 steps_close g M m P is r e ws s = let p = by_answer M P r e in all_steps M m P is p.0 r p.1 ws s
 
-pub nearest_own : (g : Margin) → Nearest g
-nearest_own g M m P is r e n d scale far w = let p = by_answer M P r e in (
-  (λ k x h at. spaced_nearest n d scale far M r w k (omega arith) Outgoing x (known_out M m P is p.0 r p.1 k x h at)
-      (near_out M m P is p.0 r p.1 k x h at)),
-  (λ x at. spaced_nearest n d scale far M r w (last_number r) (omega arith) Incoming x
-      (known_in M m P is p.0 r p.1 x at) (near_in M m P is p.0 r p.1 x at)),
-)
-
--- ---- without the decoded coordinate
+-- ---- the nearest node, and without the decoded coordinate
 
 pub outdone_of : (slack a b : ℕ) (beyond : Bool) → (a + slack < b) ⊎ ((a ≤ b) × (beyond ≡ true)) →
     (nat_lt (a + slack) b || nat_le a b && beyond) ≡ true
 outdone_of slack a b beyond h = grind (arith, lt-ltb, le-leb, or_left, or_right, and_from)
 
-spaced_either : (n d e k : ℕ) (a b : Coord) → is_spaced_by n d e k a b ≡ true →
-    (3 * decoded_bound k + e ≤ nat_abs (a.lat -ℤ b.lat)) ⊎ (3 * (d * decoded_bound k) + d * e ≤ n * nat_abs (a.lon -ℤ b.lon))
-spaced_either n d e k a b h = grind (arith, or_cases, leb-true)
-
 pub same_place : (M : Map) (s : Side) (x y : ℕ) → node_on s (leg M y) ≡ node_on s (leg M x) →
     coordinate_on s (leg M y) ≡ coordinate_on s (leg M x)
 same_place M s x y e = grind arith
 
-module _ (n d scale e : ℕ) (far : Measure) (M : Map) (r : Reference) (w : IsWeighted n d scale far M r) (k : ℕ)
-    (up : k ≤ last_number r) (s : Side) (x : ℕ) (known : IsTrue (has_line M x))
-    (near : IsNear k (decoded_coord r k) (coordinate_on s (leg M x))) where
-  out : (y : ℕ) → (far (decoded_coord r k) (coordinate_on s (leg M x)) + scale * e < far (decoded_coord r k) (coordinate_on s (leg M y)))
-      ⊎ ((far (decoded_coord r k) (coordinate_on s (leg M x)) ≤ far (decoded_coord r k) (coordinate_on s (leg M y)))
-      × (is_beyond (sector_on s (leg M x)) (direction_on s (leg M y)) ≡ true)) →
-      (y == x || is_outdone far (scale * e) s (decoded_coord r k) (leg M x) (leg M y)) ≡ true
-  out y h = or_right (y == x) _ (outdone_of (scale * e) _ _ _ h)
+module _ (n d scale : ℕ) (far : Measure) (M : Map) (r : Reference) (w : IsWeighted n d scale far M r) (s : Side) (k x : ℕ)
+    (own : IsOwn M r s k x) where
+  -- how far the node of line y is
+  abbrev away : ℕ → ℕ
+  away y = far (decoded_coord r k) (coordinate_on s (leg M y))
 
-  other_outdone : (y : ℕ) → IsTrue (has_line M y) →
+  farther_off : (e y : ℕ) → IsTrue (has_line M y) →
+      (3 * decoded_bound k + e ≤ nat_abs ((coordinate_on s (leg M x)).lat -ℤ (coordinate_on s (leg M y)).lat))
+      ⊎ (3 * (d * decoded_bound k) + d * e ≤ n * nat_abs ((coordinate_on s (leg M x)).lon -ℤ (coordinate_on s (leg M y)).lon)) →
+      away x + scale * e < away y
+  farther_off e y there =
+      farther n d scale e k far (decoded_coord r k) (coordinate_on s (leg M x)) (coordinate_on s (leg M y)) w.some w.unit
+      (w.all s k x own.up own.known) (w.all s k y own.up there) own.near
+
+  spaced_nearest : IsTrue (are_spaced n d k s (leg M x) (candidates M)) →
+      IsTrue (is_nearest far s (decoded_coord r k) (leg M x) (candidates M))
+  spaced_nearest = all_candidates M _ _ (λ y there t.
+      grind (arith, or_cases, or_left, or_right, leb-true, lt-ltb, farther_off 0 y there))
+
+  other_outdone : (e y : ℕ) → IsTrue (has_line M y) →
       (y == x || is_spaced_by n d e k (coordinate_on s (leg M x)) (coordinate_on s (leg M y))
       || node_on s (leg M y) == node_on s (leg M x) && is_beyond (sector_on s (leg M x)) (direction_on s (leg M y))) ≡ true →
       (y == x || is_outdone far (scale * e) s (decoded_coord r k) (leg M x) (leg M y)) ≡ true
-  other_outdone y there t =
+  other_outdone e y there t =
+      let out = outdone_of (scale * e) (away x) (away y) (is_beyond (sector_on s (leg M x)) (direction_on s (leg M y))) in
       let spaced_y = is_spaced_by n d e k (coordinate_on s (leg M x)) (coordinate_on s (leg M y)) in
-      let at_node = node_on s (leg M y) == node_on s (leg M x) in
-      let beyond_y = is_beyond (sector_on s (leg M x)) (direction_on s (leg M y)) in
-      elim (or_cases (y == x || spaced_y) (at_node && beyond_y) t) [
+      elim (or_cases (y == x || spaced_y) _ t) [
         | inl front ↦ elim (or_cases (y == x) spaced_y front) [
           | inl same ↦ or_left (y == x) _ same
-          | inr spaced ↦ out y (inl (farther n d scale e k far (decoded_coord r k) (coordinate_on s (leg M x))
-              (coordinate_on s (leg M y)) w.some w.unit (w.all s k x up known) (w.all s k y up there) near (spaced_either n d e k (coordinate_on s (leg M x)) (coordinate_on s (leg M y)) spaced)))
+          | inr spaced ↦ or_right (y == x) _ (out (inl (farther_off e y there (grind (arith, or_cases, leb-true)))))
         ]
         | inr here ↦
-            let both = and_parts at_node beyond_y here in
-            let place = same_place M s x y (eqb-true _ _ both.0) in
-            let as_far : far (decoded_coord r k) (coordinate_on s (leg M y)) ≡ far (decoded_coord r k) (coordinate_on s (leg M x)) = ap (far (decoded_coord r k)) place in
-            out y (inr (omega arith, both.1))
+            let both = and_parts (node_on s (leg M y) == node_on s (leg M x)) _ here in
+            let as_far : away y ≡ away x = ap (far (decoded_coord r k)) (same_place M s x y (eqb-true _ _ both.0)) in
+            or_right (y == x) _ (out (inr (omega arith, both.1)))
       ]
 
-  clear_out : IsTrue (is_clear n d e k s x (leg M x) (candidates M)) →
+  clear_out : (e : ℕ) → IsTrue (is_clear n d e k s x (leg M x) (candidates M)) →
       IsTrue (stands_out far (scale * e) s (decoded_coord r k) x (leg M x) (candidates M))
-  clear_out h =
+  clear_out e h =
       let p = and_parts (is_direction (direction_on s (leg M x))) _ h in
-      and_from _ _ p.0 (all_candidates M _ _ other_outdone p.1)
+      and_from _ _ p.0 (all_candidates M _ _ (other_outdone e) p.1)
+
+pub nearest_own : (g : Margin) → Nearest g
+nearest_own g M m P is r e n d scale far w =
+    let p = by_answer M P r e in
+    let lines = own_lines_are M m P is p.0 r p.1 in
+    record {
+      outgoing = λ k x h at. spaced_nearest n d scale far M r w Outgoing k x (lines.outgoing k x h at);
+      incoming = λ x at. spaced_nearest n d scale far M r w Incoming (last_number r) x (lines.incoming x at);
+    }
 
 pub clear_stands_out : (g : Margin) → ClearStandsOut g
-clear_stands_out g M m P is r enc n d scale e far w out back = let p = by_answer M P r enc in
+clear_stands_out g M m P is r enc n d scale e far w clear =
+    let p = by_answer M P r enc in
+    let lines = own_lines_are M m P is p.0 r p.1 in
     record {
-      outgoing = λ k x h at. clear_out n d scale e far M r w k (omega arith) Outgoing x (known_out M m P is p.0 r p.1 k x h at)
-          (near_out M m P is p.0 r p.1 k x h at) (out k x h at);
-      incoming = λ x at. clear_out n d scale e far M r w (last_number r) (omega arith) Incoming x (known_in M m P is p.0 r p.1 x at)
-          (near_in M m P is p.0 r p.1 x at) (back x at);
+      outgoing = λ k x h at. clear_out n d scale far M r w Outgoing k x (lines.outgoing k x h at) e (clear.outgoing k x h at);
+      incoming = λ x at. clear_out n d scale far M r w Incoming (last_number r) x (lines.incoming x at) e (clear.incoming x at);
     }

@@ -1,10 +1,10 @@
 -- A path of a worked row, to which nothing is added: its answer, and its lines at the LRPs.
-use Rattle.olr_spec.proofs.Common.{◌≡◌, ℕ, zero, suc, ◌+◌, ◌<◌, Bool, true, false, List, [], ◌∷◌, ◌++◌, refl, sym, ap, ◌∙◌, subst}
-use Rattle.olr_spec.proofs.Common.{IsTrue, arith, Some, None, cond, append-nil, add-zero, Map, IsMap, start, end, passing, first}
-use Rattle.olr_spec.proofs.Common.{last, dm_of, Path, StartRun, EndRun, LongestStart, LongestEnd, Tried, extended_path, is_path}
-use Rattle.olr_spec.proofs.Common.{path_fault, Follow, Points, Encodes, Encoding, Leg, leg, legs, answer_by_points, Option, Side}
-use Rattle.olr_spec.proofs.Common.{Refusal, Refused, MatchOption, Reference, Measure, candidates, option_map, slice_get}
-use Rattle.olr_spec.proofs.Common.{kept_points, is_nearest, has_no_twin, cases_Bool}
+use Rattle.olr_spec.proofs.Common.{◌≡◌, ℕ, zero, suc, ◌+◌, ◌<◌, Bool, true, false, List, [], ◌∷◌, ◌++◌, refl, sym, ap, ◌∙◌}
+use Rattle.olr_spec.proofs.Common.{subst, IsTrue, arith, Some, None, cond, append-nil, add-zero, Map, IsMap, start, end}
+use Rattle.olr_spec.proofs.Common.{passing, first, last, dm_of, Path, StartRun, EndRun, LongestStart, LongestEnd, Tried}
+use Rattle.olr_spec.proofs.Common.{extended_path, is_path, path_fault, Follow, Points, Encodes, Encoding, Leg, leg, legs}
+use Rattle.olr_spec.proofs.Common.{answer_by_points, Option, Side, Refusal, Refused, MatchOption, Reference, Measure}
+use Rattle.olr_spec.proofs.Common.{candidates, option_map, slice_get, kept_points, is_nearest, has_no_twin, cases_Bool}
 use Rattle.olr_spec.proofs.Facts.{path_at}
 use Rattle.olr_spec.specs.Receiver.{Outgoing, Incoming, last_number, decoded_coord}
 use Rattle.olr_spec.specs.Recovery.{IsLineAt, line_by, DistinctAt}
@@ -15,8 +15,7 @@ use Rattle.olr_laws.specs.Directions.{DistinctByDirection, stands_out}
 -- no line leads to the lines ls or on from them
 no_start_run : (M : Map) (ls : List ℕ) → passing M (start M (first ls)) ≡ false → (c : List ℕ) → StartRun M c ls → c ≡ []
 no_start_run M ls h [] r = refl
-no_start_run M ls h (x ∷ []) r = grind (arith, r.0.joins, r.0.through)
-no_start_run M ls h (x ∷ y ∷ c) r = absurd (let none = no_start_run M ls h (y ∷ c) r.1 in cc)
+no_start_run M ls h (x ∷ c) r = grind (arith, no_start_run M ls h c)
 
 no_end_run : (M : Map) (ls : List ℕ) → passing M (end M (last ls)) ≡ false → (c : List ℕ) → EndRun M ls c → c ≡ []
 no_end_run M ls h [] r = refl
@@ -100,23 +99,22 @@ module _ (M : Map) (P : Path) (js : List ℕ) (gs : List Leg) (cs : List (ℕ ×
     pub own_is : (x : ℕ) → IsLineAt M P s k x → y ≡ x
     own_is x at = let there = line_found s k x at in cc (there, on)
 
-    -- line y is distinct at LRP k, by the lines of the map
+    -- a test of line y by the lines of the map
+    holds : (Q : ℕ → Leg → List (ℕ × Leg) → Bool) → Q y g cs ≡ true → (x : ℕ) → IsLineAt M P s k x →
+        IsTrue (Q x (leg M x) (candidates M))
+    holds Q h x at =
+        subst (λ (x : ℕ). IsTrue (Q x (leg M x) (candidates M))) (own_is x at) ((λ i. Q y (is_g i) (w.all i)) ∙ h)
+
+    -- it is distinct at LRP k
     pub distinct_at : is_nearest far s (decoded_coord r k) g cs ≡ true → has_no_twin s y g cs ≡ true →
         DistinctAt far M P s k (decoded_coord r k)
     distinct_at near none =
-        record {
-          nearest = λ x at. subst (λ (x : ℕ). IsTrue (is_nearest far s (decoded_coord r k) (leg M x) (candidates M))) (own_is x at)
-              ((λ i. is_nearest far s (decoded_coord r k) (is_g i) (w.all i)) ∙ near);
-          alone = λ x at. subst (λ (x : ℕ). IsTrue (has_no_twin s x (leg M x) (candidates M))) (own_is x at)
-              ((λ i. has_no_twin s y (is_g i) (w.all i)) ∙ none);
-        }
+        record { nearest = holds (λ _. is_nearest far s (decoded_coord r k)) near; alone = holds (has_no_twin s) none }
 
     -- it stands out
     pub stands_at : (slack : ℕ) → stands_out far slack s (decoded_coord r k) y g cs ≡ true → (x : ℕ) → IsLineAt M P s k x →
         IsTrue (stands_out far slack s (decoded_coord r k) x (leg M x) (candidates M))
-    stands_at slack out x at =
-        subst (λ (x : ℕ). IsTrue (stands_out far slack s (decoded_coord r k) x (leg M x) (candidates M))) (own_is x at)
-        ((λ i. stands_out far slack s (decoded_coord r k) y (is_g i) (w.all i)) ∙ out)
+    stands_at slack = holds (stands_out far slack s (decoded_coord r k))
 
   -- the path's line at LRP k is line y, which is g and stands out
   abbrev Stands : Measure → ℕ → Side → ℕ → ℕ → Leg → Type 0

@@ -1,7 +1,7 @@
 -- A run is determined by what it reads, reports out of memory only where that may be, and rebuilds a dumped content.
-use Rattle.olr_run.proofs.Common.{◌&&◌, is_err, cases_Bool, both_ways, or_parts, Outcome, lacks_memory, Field, CommandOutcome}
-use Rattle.olr_run.proofs.Common.{RecordOutcome, Outcomes, AreAnswered, AllHadMemory, IsFalse, IsRefusal, ByState, read, may_lack}
-use Rattle.std.proofs.Common.{◌≡◌, Bool, true, false, List, [], ◌∷◌, Ok, Err, refl, sym, ◌∙◌, subst, arith, inl, inr, ◌⊎◌, IsTrue}
+use Rattle.olr_run.proofs.Common.{◌&&◌, is_err, or_parts, Outcome, Field, Outcomes, IsFalse, IsRefusal, ByState, read, may_lack}
+use Rattle.olr_run.proofs.Common.{cases_Bool, both_ways, lacks_memory, CommandOutcome, RecordOutcome, AreAnswered, AllHadMemory}
+use Rattle.std.proofs.Common.{◌≡◌, Bool, false, List, [], ◌∷◌, Ok, Err, refl, sym, ◌∙◌, subst, arith, inl, inr, ◌⊎◌, IsTrue}
 use Rattle.std.proofs.Common.{map, length, Result}
 use Rattle.olr_commands.specs.State.{State, Command, HasCoords, IsState, Memory, Fault, step}
 use Rattle.olr_records.specs.Records.{Read, HoldsList}
@@ -43,8 +43,7 @@ one_record s t u fields o q i n m h k = grind (arith, one_command, coords_read, 
 -- the remaining records after an outcome that does not end the run
 all_rest : (stop : Bool) (r : List Field) (rs : List (List Field)) (o : Outcome) (os : List Outcome) →
     (stop && is_err o) ≡ false → AreAnswered stop (r ∷ rs) (o ∷ os) → AreAnswered stop rs os
-all_rest true r rs o os e h = grind arith
-all_rest false r rs o os e h = grind arith
+all_rest stop r rs o os e h = grind (arith, cases_Bool stop)
 
 none_left : (stop : Bool) (r : List Field) (rs : List (List Field)) → AreAnswered stop (r ∷ rs) [] → ⊥
 none_left stop r rs h = grind (arith, cases_Bool)

@@ -1,10 +1,9 @@
 -- The records that show a node, or a line with its ends, are records of a dump.
-use Rattle.std.proofs.Common.{arith, ◌≡◌, inl, inr, ℕ, true, false, Bool, List, [], ◌∷◌, map, Some, Contains, sym, ◌∙◌}
-use Rattle.std.proofs.Common.{subst, nat_cmp, ◌==◌}
+use Rattle.std.proofs.Common.{arith, ◌≡◌, ℕ, true, List, [], ◌∷◌, map, Some, Contains, sym, ◌∙◌, nat_cmp, ◌==◌}
 use Rattle.std.specs.Prelude.{if◌then◌else◌}
 use Rattle.std.specs.FinMap.{get, entries, get-entries}
 use Rattle.std.specs.FinMap.Entries.{find}
-use Rattle.std.proofs.lemmas.Bool.{cases_eq, eq-eqb, ne_eqb}
+use Rattle.std.proofs.lemmas.Bool.{cases_Bool, cases_eq, eq-eqb, ne_eqb}
 use Rattle.std.proofs.lemmas.List.Elements.{Contains-append_left, Contains-append_right, Contains-append_cases}
 use Rattle.olr_spec.specs.Map.{Map, IsMap, has_node, has_line, coord_at, line_at, no_coord, no_line, start, end}
 use Rattle.olr_spec.proofs.AgreeLemmas.{some_is}
@@ -40,30 +39,29 @@ module _ (c : Content) where
       (sym (get-entries M.lines x) ∙ some_is (get M.lines x) no_line there))))
 
   nodes_dumped : (v : ℕ) (y : Change) → has_node M v ≡ true → Contains (node_changes M v) y → Contains (dump_changes c) y
-  nodes_dumped v y there on =
-      subst (Contains (dump_changes c)) (sym (Contains-one (node_change (v, coord_at M v)) y on)) (node_dumped v there)
-
-  other_dumped : (b : Bool) (v : ℕ) (y : Change) → has_node M v ≡ true →
-      Contains (if b then [] else node_changes M v) y → Contains (dump_changes c) y
-  other_dumped true v y there on = absurd (let lt = on.1 in omega arith)
-  other_dumped false v y there on = nodes_dumped v y there on
+  nodes_dumped v y there on = grind (arith, Contains-one (node_change (v, coord_at M v)) y on, node_dumped v there)
 
   ends_dumped : (v w : ℕ) (y : Change) → has_node M v ≡ true → has_node M w ≡ true →
       Contains (end_changes M v w) y → Contains (dump_changes c) y
   ends_dumped v w y first last on =
-      elim (Contains-append_cases (node_changes M v) (if v == w then [] else node_changes M w) y on) [
-        | inl here ↦ nodes_dumped v y first here
-        | inr there ↦ other_dumped (v == w) w y last there
-      ]
+      grind (
+        arith,
+        cases_Bool (v == w),
+        Contains-append_cases (node_changes M v) (if v == w then [] else node_changes M w) y on,
+        nodes_dumped v y first,
+        nodes_dumped w y last,
+      )
 
   lines_dumped : IsMap M → (x : ℕ) (y : Change) → has_line M x ≡ true → Contains (line_changes M x) y →
       Contains (dump_changes c) y
   lines_dumped m x y there on =
-      elim (Contains-append_cases (end_changes M (start M x) (end M x)) (line_change (x, line_at M x) ∷ []) y on) [
-        | inl at_end ↦ ends_dumped (start M x) (end M x) y (m.starts x there) (m.ends x there) at_end
-        | inr own ↦ subst (Contains (dump_changes c)) (sym (Contains-one (line_change (x, line_at M x)) y own))
-            (line_dumped x there)
-      ]
+      grind (
+        arith,
+        Contains-append_cases (end_changes M (start M x) (end M x)) (line_change (x, line_at M x) ∷ []) y on,
+        ends_dumped (start M x) (end M x) y (m.starts x there) (m.ends x there),
+        Contains-one (line_change (x, line_at M x)) y,
+        line_dumped x there,
+      )
 
 pub shown_dumped : ShownAreDumped
 shown_dumped c n x m = ((λ there on. nodes_dumped c n x there on), (λ there on. lines_dumped c m n x there on))

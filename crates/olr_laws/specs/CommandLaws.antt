@@ -1,16 +1,10 @@
 -- The laws of states, replies and counts.
-use Rattle.std.specs.Prelude.{◌≡◌, ◌≢◌, ◌⊎◌, ◌↔◌, ℕ, List, [], ◌∷◌, length, slice_get, Some, None, Ok, Contains, IsTrue, IsFalse}
+use Rattle.std.specs.Prelude.{◌≡◌, ◌≢◌, ◌⊎◌, ◌↔◌, ℕ, List, [], ◌∷◌, length, None, Ok, Contains, IsTrue, IsFalse}
 use Rattle.olr_spec.specs.Map.{Map, IsMap, Edit, edited, touched_nodes, touched_lines, has, has_node, has_line}
-use Rattle.olr_spec.specs.Elsewhere.{HasNoOther, IsNearlyAlong, HasClasses, KeptLines, suffices}
-use Rattle.olr_spec.specs.Encoding.{Points, EncodesWith}
 use Rattle.olr_spec.specs.Extension.{Path}
 use Rattle.olr_spec.specs.Margins.{Margin}
-use Rattle.olr_spec.specs.Receiver.{Lrp, Outgoing, Incoming, RecoversBy, attributes, last_lrp, last_number, lrp_at}
-use Rattle.olr_spec.specs.Recovery.{IsLineAtWith, IsStretchesWith}
-use Rattle.olr_spec.specs.Reference.{Attrs, Reference}
-use Rattle.olr_commands.specs.State.{Content, IsContent, Add_path, Set_path, Set_margin, Make, State, Command, Explain}
-use Rattle.olr_commands.specs.State.{Begin, Preview, Commit, Abort, HasCoords, IsState, step, changes_made, Named}
-use Rattle.olr_commands.specs.State.{Change, On_map}
+use Rattle.olr_commands.specs.State.{Content, Add_path, Set_path, Set_margin, Make, State, Command, Explain, Begin, Preview}
+use Rattle.olr_commands.specs.State.{Commit, Abort, HasCoords, IsState, step, changes_made, Named, Change, On_map}
 use Rattle.olr_commands.specs.Dump.{dump_changes, node_changes, line_changes}
 use Rattle.olr_commands.specs.Dependents.{DependsOn}
 use Rattle.olr_commands.specs.Reply.{Reply, IsReply, Outcome, IsOutcome, lacks_memory}
@@ -87,20 +81,3 @@ AffectedDepend =
     (c : Content) (N : Map) (e : Edit) (nodes : List ℕ) (p : Named) → edited c.map e ≡ Ok N →
     ((v : ℕ) → IsTrue (has (touched_nodes c.map e) v) → IsTrue (has nodes v)) → Affects c (On_map e ∷ []) p →
     DependsOn c.margin c.map nodes p.path ⊎ NamesAdded c.map e p.path
-
--- the line that a receiver takes at each LRP of the reference r is the path's own
-pub record TakesOwn (takes : Lrp → ℕ) (g : Margin) (M : Map) (P : Path) (r : Reference) : Type 0 where
-  pub outgoing : (k x : ℕ) (a : Attrs) → slice_get (attributes r) k ≡ Some a → IsLineAtWith g M P Outgoing k x →
-      takes (lrp_at r k a) ≡ x
-  pub incoming : (x : ℕ) → IsLineAtWith g M P Incoming (last_number r) x → takes (last_lrp r) ≡ x
-
--- a partner's map has no road that ours lacks, and its lengths and classes along the path differ from ours within the margin:
--- there a receiver that takes the right line at each LRP of the path's string recovers the legs between them, and nothing else
-abbrev pub ReadElsewhere : Type 0
-ReadElsewhere =
-    (c : Content) → IsContent c → (N : Map) → IsMap N → HasNoOther c.map N → (a b : ℕ) → IsTrue (suffices c.margin a b)
-    → (p : Named) → Contains c.paths p → (r : Reference) → EncodesWith c.margin c.map p.path (Points r)
-    → KeptLines c.margin c.map p.path (IsNearlyAlong a b c.map N)
-    → KeptLines c.margin c.map p.path (HasClasses c.margin c.map N)
-    → (takes : Lrp → ℕ) → TakesOwn takes c.margin c.map p.path r
-    → (ws : List (List ℕ)) → RecoversBy (λ t y. y ≡ takes t) N r ws ↔ IsStretchesWith c.margin c.map p.path ws

@@ -1,22 +1,13 @@
--- The values of the worked rows of commands.
-use Rattle.std.specs.Prelude.{List, [], ◌∷◌, codes, pos, neg_ℤ, Option, None, Some}
+-- The values of the worked rows of commands and records.
+use Rattle.std.specs.Prelude.{◌≡◌, ℕ, ℤ, pos, neg_ℤ, List, [], ◌∷◌, ◌++◌, ◌==◌, if◌then◌else◌, flat_map, map, codes, Option}
+use Rattle.std.specs.Prelude.{None, Some}
 use Rattle.std.specs.FinMap.{insert, empty}
-use Rattle.olr_spec.specs.Map.{empty_map, no_coord}
-use Rattle.olr_spec.specs.Reference.{Reference}
-use Rattle.olr_laws.specs.MarginRows.{fifty}
-use Rattle.olr_laws.specs.Rows.{reference1}
-use Rattle.olr_commands.specs.State.{no_content, after, State, Change, Add_path}
-
--- the reference of the second worked path
-abbrev pub reference2 : Reference
-reference2 =
-    record {
-      first = reference1.first;
-      middle = [];
-      last = record { dlon = pos 155; dlat = neg_ℤ (pos 453); frc = 3; fow = 2; bearing = 28 };
-      pos = None;
-      neg = None;
-    }
+use Rattle.olr_spec.specs.Coordinates.{Coord}
+use Rattle.olr_spec.specs.Map.{empty_map, no_coord, Add_node, Add_line}
+use Rattle.olr_commands.specs.State.{no_content, after, State, Change, Command, Fault, On_map, Add_path}
+use Rattle.olr_records.specs.Records.{line_between, Read, read}
+use Rattle.olr_records.specs.ReplyText.{fault_text}
+use Rattle.olr_laws.specs.MapRows.{fifty, path_of}
 
 -- a state with an open batch that holds these changes
 abbrev pub in_batch : List Change → State
@@ -24,7 +15,7 @@ in_batch xs = record { content = no_content; batch = Some xs }
 
 -- a path of one line, with the name a
 abbrev pub path_a : Change
-path_a = Add_path (codes "a") (record { lines = 10 ∷ []; pos = 0; neg = 0 })
+path_a = Add_path (codes "a") (path_of (10 ∷ []) 0 0)
 
 -- the state in which this path is registered, on the empty map
 abbrev pub with_a : Option (List Change) → State
@@ -38,3 +29,43 @@ with_fifty = record { content = record no_content { margin = fifty }; batch = No
 abbrev pub with_node : State
 with_node =
     record { content = record no_content { map = record empty_map { nodes = insert empty 1 no_coord } }; batch = None }
+
+-- ---- records
+
+-- a coordinate in units
+abbrev pub at : ℤ → ℤ → Coord
+at lon lat = record { lon = lon; lat = lat }
+
+abbrev pub zero : Coord
+zero = at (pos 0) (pos 0)
+
+-- the fields of a text, which are separated by commas
+abbrev pub before_fields : ℕ → List (List ℕ) → List (List ℕ)
+before_fields b [] = (b ∷ []) ∷ []
+before_fields b (field ∷ fields) = (b ∷ field) ∷ fields
+
+abbrev pub fields_of : List ℕ → List (List ℕ)
+fields_of [] = [] ∷ []
+fields_of (b ∷ bytes) = if b == 44 then [] ∷ fields_of bytes else before_fields b (fields_of bytes)
+
+-- the command of a record without quotes
+abbrev pub read_text : List ℕ → Read Command
+read_text text = read (fields_of text)
+
+-- a text of these lines
+abbrev pub text_of_lines : List (List ℕ) → List ℕ
+text_of_lines ls = flat_map (λ l. l ++ 10 ∷ []) ls
+
+-- a fault and the line of its text, row by row
+abbrev pub AreFaultTexts : List (Fault × List ℕ) → Type 0
+AreFaultTexts rows =
+    map (λ (r : Fault × List ℕ). fault_text r.0) rows ≡ map (λ (r : Fault × List ℕ). text_of_lines (r.1 ∷ [])) rows
+
+-- two nodes, a line with a shape point, and a path
+abbrev pub changes1 : List Change
+changes1 =
+    On_map (Add_node 1 (at (pos 2007639654400) (neg_ℤ (pos 32768))))
+    ∷ On_map (Add_node 2 (at (pos 0) (neg_ℤ (pos 58982400000000))))
+    ∷ On_map (Add_line 10 (line_between 1 2 3 2 5610
+    (record { at = 200; place = at (pos 2007698636800) (pos 16255673958400) } ∷ [])))
+    ∷ Add_path (codes "a") (path_of (10 ∷ []) 1500 0) ∷ []

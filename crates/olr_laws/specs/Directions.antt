@@ -5,8 +5,9 @@
 --     TakesByDirection D M t x      it may choose line x for the LRP t
 --     stands_out far slack s p x g cs      every other candidate is farther by more than the slack, or no nearer and
 --         beyond the margin
+--     AtEachLrp g M P r Q      Q holds of the path's own line at each LRP, with a margin of routes and classes
 --     DistinctByDirection far slack M P r, DistinctByDirectionWith g      the path's own line at each LRP has a direction,
---         and stands out; with a margin of routes and classes
+--         and stands out; with a margin
 --     is_clear n d e k s x g cs      the same by the map alone, without the decoded coordinate
 use Rattle.std.specs.Prelude.{ℕ, ◌+◌, ◌*◌, ◌+ℤ◌, ◌-ℤ◌, ◌*ℤ◌, int_lt, if◌then◌else◌, ◌<◌, ◌≤◌, ℤ, pos, nat_abs, Bool}
 use Rattle.std.specs.Prelude.{not, ◌&&◌, ◌||◌, ◌==◌, nat_le, nat_lt, List, [], ◌∷◌, slice_index_or, IsTrue, IsFalse}
@@ -35,16 +36,13 @@ first_middle =
 abbrev pub middle : ℕ → Vector
 middle k = slice_index_or (quarters 4 first_middle) k (vector (pos 0) (pos 0))
 
--- how far v leads along a direction m, and across it to either side
+-- how far v leads along a direction m
 abbrev pub along : Vector → Vector → ℤ
 along m v = v.east *ℤ m.east +ℤ v.north *ℤ m.north
 
-abbrev pub across : Vector → Vector → ℕ
-across m v = nat_abs (beyond m v)
-
 -- the angle between m and v has a tangent of at most t / 1000000
 abbrev pub is_within : ℕ → Vector → Vector → Bool
-is_within t m v = int_lt (pos 0) (along m v) && nat_le (1000000 * across m v) (t * nat_abs (along m v))
+is_within t m v = int_lt (pos 0) (along m v) && nat_le (1000000 * nat_abs (beyond m v)) (t * nat_abs (along m v))
 
 abbrev pub count_where : (ℕ → Bool) → List ℕ → ℕ
 count_where test [] = 0
@@ -66,10 +64,6 @@ pub record SeesDirections (apart : ℕ → Vector → ℕ) (reach : ℕ) : Type 
   pub inside : (k : ℕ) (v : Vector) → IsSector v.east v.north k → apart k v ≤ reach
   pub outside : (k : ℕ) (v : Vector) → k < 32 → IsTrue (is_beyond k v) → reach < apart k v
 
--- no value is nearer than the equal one
-abbrev pub SameIsNearest : (ℕ → ℕ → ℕ) → Type 0
-SameIsNearest apart = (a b : ℕ) → apart a a ≤ apart a b
-
 -- any measure, any differences of FRC and FOW by which no other value is nearer than the same one, and a difference of
 -- bearing that may depend on where the candidate is
 pub record Differences : Type 0 where
@@ -79,8 +73,8 @@ pub record Differences : Type 0 where
   pub frc_apart : ℕ → ℕ → ℕ
   pub fow_apart : ℕ → ℕ → ℕ
   pub bearing_apart : Coord → ℕ → Vector → ℕ
-  pub frcs : SameIsNearest frc_apart
-  pub fows : SameIsNearest fow_apart
+  pub frcs : (a b : ℕ) → frc_apart a a ≤ frc_apart a b
+  pub fows : (a b : ℕ) → fow_apart a a ≤ fow_apart a b
   pub bearings : (c : Coord) → SeesDirections (bearing_apart c) reach
 
 -- and any preference by which a candidate that is nowhere worse and somewhere better is preferred. One that is nearer by
@@ -94,13 +88,11 @@ pub record DirectionReceiver : Type 0 where
       IsTrue (prefers a b)
   pub strict : (a b : Rating) → IsTrue (prefers a b) → IsFalse (prefers b a)
 
-abbrev pub rating_at : Differences → Lrp → Leg → Coord → Rating
-rating_at d t g c =
+abbrev pub rating_by : Differences → Lrp → Leg → Rating
+rating_by d t g =
+    let c = coordinate_on t.side g in
     let turn = d.bearing_apart c t.bearing (direction_on t.side g) in
     record { far = d.far t.place c; frc = d.frc_apart t.frc g.line.frc; fow = d.fow_apart t.fow g.line.fow; bearing = turn }
-
-abbrev pub rating_by : Differences → Lrp → Leg → Rating
-rating_by d t g = rating_at d t g (coordinate_on t.side g)
 
 -- no candidate is preferred to line x
 pub record TakesByDirection (D : DirectionReceiver) (M : Map) (t : Lrp) (x : ℕ) : Type 0 where
@@ -124,12 +116,14 @@ abbrev pub stands_out : Measure → ℕ → Side → ℤ × ℤ → ℕ → Leg 
 stands_out far slack s p x g cs =
     is_direction (direction_on s g) && list_all (λ c. c.0 == x || is_outdone far slack s p g c.1) cs
 
--- at each LRP of the reference r
-pub record DistinctByDirectionWith (g : Margin) (far : Measure) (slack : ℕ) (M : Map) (P : Path) (r : Reference) : Type 0 where
-  pub outgoing : (k x : ℕ) → k < last_number r → IsLineAtWith g M P Outgoing k x →
-      IsTrue (stands_out far slack Outgoing (decoded_coord r k) x (leg M x) (candidates M))
-  pub incoming : (x : ℕ) → IsLineAtWith g M P Incoming (last_number r) x →
-      IsTrue (stands_out far slack Incoming (decoded_coord r (last_number r)) x (leg M x) (candidates M))
+-- Q holds of the path's own line at each LRP of the reference r
+pub record AtEachLrp (g : Margin) (M : Map) (P : Path) (r : Reference) (Q : Side → ℕ → ℕ → Type 0) : Type 0 where
+  pub outgoing : (k x : ℕ) → k < last_number r → IsLineAtWith g M P Outgoing k x → Q Outgoing k x
+  pub incoming : (x : ℕ) → IsLineAtWith g M P Incoming (last_number r) x → Q Incoming (last_number r) x
+
+abbrev pub DistinctByDirectionWith : Margin → Measure → ℕ → Map → Path → Reference → Type 0
+DistinctByDirectionWith g far slack M P r =
+    AtEachLrp g M P r (λ s k x. IsTrue (stands_out far slack s (decoded_coord r k) x (leg M x) (candidates M)))
 
 -- without a margin
 abbrev pub DistinctByDirection : Measure → ℕ → Map → Path → Reference → Type 0

@@ -1,14 +1,10 @@
 pub mod Rows
 pub mod Directions
-pub mod DirectionLaws
-pub mod AmbiguityLaws
+pub mod ReceiverLaws
 pub mod MapRows
-pub mod MarginRows
 pub mod CommandLaws
 pub mod CommandRows
 pub mod RecordLaws
-pub mod RecordRows
 pub mod RunLaws
 pub mod RunRows
-pub mod LineLaws
 pub mod LogLaws

@@ -1,4 +1,5 @@
 -- The values of the worked rows, calculated by hand: lines with the coordinates of their ends, references and bytes.
+--     Gives f rows, AllGive f xs y      what a function gives for some values
 --     line_between v w ..      a line with its attributes and the coordinates of its ends
 --     legs1, reference1, bytes1      the first worked path, of three lines; its reference with three LRPs, and the
 --         bytes of it
@@ -7,13 +8,21 @@
 --     morning_lines, twin_lines      all lines of the first worked path's map, and those of one where line 20 has a
 --         twin
 --     axes_sum, by_cosine      measures: the sum of both axes, and the sum with the cosine of the latitude
-use Rattle.std.specs.Prelude.{ℕ, ◌+◌, ◌-◌, ◌*◌, ◌/◌, List, [], ◌∷◌, pos, neg_ℤ, nat_abs, Some, None}
+use Rattle.std.specs.Prelude.{◌≡◌, ℕ, ◌+◌, ◌-◌, ◌*◌, ◌/◌, List, [], ◌∷◌, pos, neg_ℤ, nat_abs, map, Some, None}
 use Rattle.olr_spec.specs.Coordinates.{Coord, coord}
 use Rattle.olr_spec.specs.Map.{ShapePoint}
 use Rattle.olr_spec.specs.Bearings.{Leg, thousandths}
 use Rattle.olr_spec.specs.Reference.{Attrs, Reference}
 use Rattle.olr_spec.specs.Receiver.{Measure}
 use Rattle.olr_spec.specs.Recovery.{lon_apart, lat_apart}
+
+-- a value and what f gives for it, row by row
+abbrev pub Gives : {X Y : Type 0} → (X → Y) → List (X × Y) → Type 0
+Gives {X} {Y} f rows = map (λ (r : X × Y). f r.0) rows ≡ map (λ (r : X × Y). r.1) rows
+
+-- for each of these values f gives y
+abbrev pub AllGive : {X Y : Type 0} → (X → Y) → List X → Y → Type 0
+AllGive {X} {Y} f xs y = map f xs ≡ map (λ (x : X). y) xs
 
 -- a coordinate north of the equator and east of Greenwich
 abbrev pub place : ℕ → ℕ → Coord
@@ -65,24 +74,33 @@ reference1 =
       neg = None;
     }
 
+-- the reference of the second worked path
+abbrev pub reference2 : Reference
+reference2 =
+    record {
+      first = reference1.first;
+      middle = [];
+      last = record { dlon = pos 155; dlat = neg_ℤ (pos 453); frc = 3; fow = 2; bearing = 28 };
+      pos = None;
+      neg = None;
+    }
+
+-- the first byte, the coordinate, the attributes and the DNP of line 10, the relative coordinate of its end, and further bytes
+abbrev pub bytes_of : ℕ → ℕ → List ℕ → List ℕ
+bytes_of status attribute rest =
+    status ∷ 0x04 ∷ 0x5b ∷ 0x5b ∷ 0x23 ∷ 0x46 ∷ 0xf5 ∷ attribute ∷ 0x6c ∷ 0x09 ∷ 0x00 ∷ 0x9b ∷ 0xfe ∷ 0x3b ∷ rest
+
 -- CwRbWyNG9RpsCQCb/jsbtAT/6/+jK1lE in base64
 abbrev pub bytes1 : List ℕ
-bytes1 =
-    0x0b ∷ 0x04 ∷ 0x5b ∷ 0x5b ∷ 0x23 ∷ 0x46 ∷ 0xf5 ∷ 0x1a ∷ 0x6c ∷ 0x09 ∷ 0x00 ∷ 0x9b ∷ 0xfe ∷ 0x3b ∷ 0x1b ∷ 0xb4 ∷ 0x04
-    ∷ 0xff ∷ 0xeb ∷ 0xff ∷ 0xa3 ∷ 0x2b ∷ 0x59 ∷ 0x44 ∷ []
+bytes1 = bytes_of 0x0b 0x1a (0x1b ∷ 0xb4 ∷ 0x04 ∷ 0xff ∷ 0xeb ∷ 0xff ∷ 0xa3 ∷ 0x2b ∷ 0x59 ∷ 0x44 ∷ [])
 
 -- line 10 alone with a positive offset, whose byte is the last
 abbrev pub offset_bytes_of : ℕ → List ℕ
-offset_bytes_of byte =
-    0x0b ∷ 0x04 ∷ 0x5b ∷ 0x5b ∷ 0x23 ∷ 0x46 ∷ 0xf5 ∷ 0x1a ∷ 0x6c ∷ 0x09 ∷ 0x00 ∷ 0x9b ∷ 0xfe ∷ 0x3b ∷ 0x1a ∷ 0x5c ∷ byte
-    ∷ []
+offset_bytes_of byte = bytes_of 0x0b 0x1a (0x1a ∷ 0x5c ∷ byte ∷ [])
 
--- ---- bytes that decode to no reference
-
--- line 10 alone, with another version in the first byte, or another attribute byte
+-- line 10 alone, with another version in the first byte, or another attribute byte: they decode to no reference
 abbrev pub bytes2 : ℕ → ℕ → List ℕ
-bytes2 status attribute =
-    status ∷ 0x04 ∷ 0x5b ∷ 0x5b ∷ 0x23 ∷ 0x46 ∷ 0xf5 ∷ attribute ∷ 0x6c ∷ 0x09 ∷ 0x00 ∷ 0x9b ∷ 0xfe ∷ 0x3b ∷ 0x1a ∷ 0x1c ∷ []
+bytes2 status attribute = bytes_of status attribute (0x1a ∷ 0x1c ∷ [])
 
 -- ---- lines for bearings
 

@@ -1,9 +1,14 @@
 -- The values of the worked rows of runs.
-use Rattle.std.specs.Prelude.{ℕ, List, [], ◌∷◌, codes, None}
+use Rattle.std.specs.Prelude.{ℕ, false, List, [], ◌∷◌, codes, None}
 use Rattle.std.specs.FinMap.{insert, empty}
 use Rattle.olr_spec.specs.Map.{empty_map}
 use Rattle.olr_commands.specs.State.{no_content, State}
-use Rattle.olr_laws.specs.RecordRows.{zero, text_of_lines}
+use Rattle.olr_run.specs.Options.{Options}
+use Rattle.olr_laws.specs.CommandRows.{zero, text_of_lines}
+
+-- without arguments
+abbrev pub no_options : Options
+no_options = record { file = None; stop = false; lines = false; log = None; new = false; compact_at = None }
 
 -- a run of five records, four of them rejected
 abbrev pub input20 : List ℕ
@@ -19,10 +24,3 @@ output20 =
 abbrev pub state20 : State
 state20 =
     record { content = record no_content { map = record empty_map { nodes = insert empty 1 zero } }; batch = None }
-
--- a run that sets the margin and asks for it
-abbrev pub margin_input : List ℕ
-margin_input = text_of_lines (codes "margin,50,1" ∷ codes "show-margin" ∷ [])
-
-abbrev pub margin_output : List ℕ
-margin_output = text_of_lines (codes "ok,0" ∷ codes "ok,1" ∷ codes "margin,50,1" ∷ [])

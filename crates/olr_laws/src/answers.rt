@@ -5,9 +5,8 @@ ghost use Rattle.olr_spec.specs.Margins.{Margin};
 ghost use Rattle.olr_spec.specs.Reference.{kept_points, reference};
 ghost use Rattle.olr_spec.specs.Bytes.{reference_bytes};
 ghost use Rattle.olr_spec.specs.Decoded.{decoded};
-ghost use Rattle.olr_laws.specs.DirectionLaws;
-ghost use Rattle.olr_laws.specs.Rows.{legs1, leg10, reference1, bytes1, offset_bytes_of};
-ghost use Rattle.olr_laws.specs.CommandRows.{reference2};
+ghost use Rattle.olr_laws.specs.ReceiverLaws;
+ghost use Rattle.olr_laws.specs.Rows.{Gives, legs1, leg10, reference1, reference2, bytes1, offset_bytes_of};
 
 /// A path has exactly one answer on a map, and the reference of an answer fits its bits.
 pub fn laws_of_answers()
@@ -27,17 +26,14 @@ pub fn laws_of_points()
     ensures two_kept { (g : Margin) → Laws.TwoKept g }
     ensures routes_join { (g : Margin) → Laws.RoutesJoin g }
     ensures elsewhere { (g : Margin) → Laws.RoutesJoinElsewhere g }
-    ensures decoded_near { (g : Margin) → DirectionLaws.DecodedNear g }
-    ensures decoded_points { (g : Margin) → DirectionLaws.DecodedPoints g }
+    ensures decoded_near { (g : Margin) → ReceiverLaws.DecodedNear g }
+    ensures decoded_points { (g : Margin) → ReceiverLaws.DecodedPoints g }
 {}
 
 /// The LRPs that remain after the offsets, in dm from the start and from the end.
 pub fn rows_kept()
-    ensures all { kept_points legs1 1500 740 (1 ∷ 3 ∷ []) ≡ 0 ∷ 1 ∷ 3 ∷ [] }
-    ensures first_dropped { kept_points legs1 5610 0 (1 ∷ 3 ∷ []) ≡ 1 ∷ 3 ∷ [] }
-    ensures first_kept { kept_points legs1 5609 0 (1 ∷ 3 ∷ []) ≡ 0 ∷ 1 ∷ 3 ∷ [] }
-    ensures last_dropped { kept_points legs1 0 2740 (1 ∷ 3 ∷ []) ≡ 0 ∷ 1 ∷ [] }
-    ensures last_kept { kept_points legs1 0 2739 (1 ∷ 3 ∷ []) ≡ 0 ∷ 1 ∷ 3 ∷ [] }
+    ensures all { Gives (λ (e : ℕ × ℕ). kept_points legs1 e.0 e.1 (1 ∷ 3 ∷ [])) (((1500, 740), 0 ∷ 1 ∷ 3 ∷ [])
+        ∷ ((5610, 0), 1 ∷ 3 ∷ []) ∷ ((5609, 0), 0 ∷ 1 ∷ 3 ∷ []) ∷ ((0, 2740), 0 ∷ 1 ∷ []) ∷ ((0, 2739), 0 ∷ 1 ∷ 3 ∷ []) ∷ []) }
 {}
 
 /// The fields and bytes of the first worked path, by its LRPs and offsets.
@@ -52,8 +48,7 @@ pub fn rows_reference()
 
 /// The decoded LRPs of the first worked reference.
 pub fn rows_decoded()
-    ensures first { decoded reference1 0 ≡ Some (pos 2007636328125, pos 16255719140625) }
-    ensures second { decoded reference1 1 ≡ Some (pos 2008144232125, pos 16254234750225) }
-    ensures third { decoded reference1 2 ≡ Some (pos 2008075419325, pos 16253930007825) }
-    ensures past { decoded reference1 3 ≡ None }
+    ensures all { Gives (decoded reference1) ((0, Some (pos 2007636328125, pos 16255719140625))
+        ∷ (1, Some (pos 2008144232125, pos 16254234750225))
+        ∷ (2, Some (pos 2008075419325, pos 16253930007825)) ∷ (3, None) ∷ []) }
 {}

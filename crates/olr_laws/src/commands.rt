@@ -11,9 +11,9 @@ ghost use Rattle.olr_commands.specs.State.{Begin, Commit, Abort, start_state, st
 ghost use Rattle.olr_commands.specs.State.{Set_margin, Depends, Compact, Preview, Ambiguous};
 ghost use Rattle.olr_commands.specs.Reply.{Paths, Held, Records, Names, Obstacles, IsReply, takes_memory, may_lack};
 ghost use Rattle.olr_laws.specs.CommandLaws as Laws;
-ghost use Rattle.olr_laws.specs.CommandRows.{in_batch, path_a, with_a, with_fifty, with_node};
-ghost use Rattle.olr_laws.specs.MarginRows.{fifty};
-ghost use Rattle.olr_laws.specs.RecordRows.{text_of_lines};
+ghost use Rattle.olr_laws.specs.CommandRows.{in_batch, path_a, with_a, with_fifty, with_node, text_of_lines};
+ghost use Rattle.olr_laws.specs.Rows.{Gives, AllGive};
+ghost use Rattle.olr_laws.specs.MapRows.{fifty, path_of};
 
 /// What commands preserve, and that a reply is determined.
 #[tactic(auto, using(crate::proofs::CommandLemmas::one_reply, crate::proofs::CommandLemmas::one_outcome, crate::proofs::CommandLemmas::some_reply, crate::proofs::CommandLemmas::previews_commit))]
@@ -66,107 +66,64 @@ pub fn laws_of_dependents()
 /// The steps of `explain`.
 #[tactic(auto, unfolding(base64::specs::GeneralPurpose::decoded_of, base64::specs::Decode::groups_error, base64::specs::Decode::groups_bytes, base64::specs::Decode::scan_steps))]
 pub fn rows_explain()
-    ensures one { step start_state (Explain (codes "CwRbWyNG9RpsCQCb/jsbtAT/6/+jK1lE")) ≡ Ok start_state }
-    ensures two { step start_state (Explain (codes "CwRbWyNG9RpsCQCb/jsaHA==")) ≡ Ok start_state }
-    ensures byte_gone { step start_state (Explain (codes "CwRbWyNG9RpsCQCb/jsbtAT/6/+jK1k="))
-        ≡ Err (Not_a_reference (Not_v3 Flags)) }
-    ensures nothing { step start_state (Explain []) ≡ Err (Not_a_reference (Not_v3 Length)) }
-    ensures status { step start_state (Explain (codes "CgRbWyNG9RpsCQCb/jsaHA=="))
-        ≡ Err (Not_a_reference (Not_v3 bytes.Status)) }
-    ensures reserved { step start_state (Explain (codes "CwRbWyNG9ZpsCQCb/jsaHA=="))
-        ≡ Err (Not_a_reference (Not_v3 Reserved)) }
-    ensures no_text { step start_state (Explain (codes "*")) ≡ Err (Not_a_reference Not_base64) }
+    ensures whole { AllGive (step start_state) (Explain (codes "CwRbWyNG9RpsCQCb/jsbtAT/6/+jK1lE")
+        ∷ Explain (codes "CwRbWyNG9RpsCQCb/jsaHA==") ∷ []) (Ok start_state) }
+    ensures faults { Gives (λ text. step start_state (Explain text))
+        ((codes "CwRbWyNG9RpsCQCb/jsbtAT/6/+jK1k=", Err (Not_a_reference (Not_v3 Flags)))
+        ∷ (codes "CgRbWyNG9RpsCQCb/jsaHA==", Err (Not_a_reference (Not_v3 bytes.Status)))
+        ∷ (codes "CwRbWyNG9ZpsCQCb/jsaHA==", Err (Not_a_reference (Not_v3 Reserved)))
+        ∷ ([], Err (Not_a_reference (Not_v3 Length))) ∷ (codes "*", Err (Not_a_reference Not_base64)) ∷ []) }
 {}
 
 /// Batches, in a register without paths.
 pub fn rows_batches()
-    ensures begin { step start_state Begin ≡ Ok (in_batch []) }
-    ensures again { step (in_batch []) Begin ≡ Err Batch_open }
-    ensures commit_nothing { step (in_batch []) (Commit 0) ≡ Ok start_state }
-    ensures count_differs { step (in_batch []) (Commit 2) ≡ Err Count_differs }
-    ensures none_to_commit { step start_state (Commit 0) ≡ Err No_batch }
-    ensures none_to_abort { step start_state Abort ≡ Err No_batch }
-    ensures abort { step (in_batch (path_a ∷ [])) Abort ≡ Ok start_state }
-    ensures held { step (in_batch []) (Make path_a) ≡ Ok (in_batch (path_a ∷ [])) }
-    ensures held_name { step (in_batch (path_a ∷ [])) (Make path_a) ≡ Err Path_exists }
-    ensures not_shown { step (in_batch (path_a ∷ [])) (Show (codes "a")) ≡ Err No_path }
-    ensures dropped_again { step (in_batch (path_a ∷ [])) (Make (Drop_path (codes "a")))
-        ≡ Ok (in_batch (path_a ∷ Drop_path (codes "a") ∷ [])) }
+    ensures outside { Gives (step start_state) ((Begin, Ok (in_batch [])) ∷ (Commit 0, Err No_batch) ∷ (Abort, Err No_batch) ∷ []) }
+    ensures empty { Gives (step (in_batch [])) ((Begin, Err Batch_open) ∷ (Commit 0, Ok start_state)
+        ∷ (Commit 2, Err Count_differs) ∷ (Make path_a, Ok (in_batch (path_a ∷ []))) ∷ []) }
+    ensures holding { Gives (step (in_batch (path_a ∷ []))) ((Abort, Ok start_state) ∷ (Make path_a, Err Path_exists)
+        ∷ (Show (codes "a"), Err No_path)
+        ∷ (Make (Drop_path (codes "a")), Ok (in_batch (path_a ∷ Drop_path (codes "a") ∷ []))) ∷ []) }
     ensures report { IsReply start_state Report start_state (Paths []) }
     ensures one_held { IsReply (in_batch []) (Make path_a) (in_batch (path_a ∷ [])) (Held 1) }
 {}
 
-/// Questions about the map, of no nodes, without paths and in a batch.
+/// Questions, previews, and a log that is to be replaced: without paths, and in a batch that holds nothing.
 pub fn rows_questions()
-    ensures asked_nothing { step start_state (Depends []) ≡ Ok start_state }
-    ensures node_of_batch { step (in_batch []) (Show_node 1) ≡ Err Batch_open }
-    ensures line_of_batch { step (in_batch []) (Show_line 1) ≡ Err Batch_open }
-    ensures batch_asked { step (in_batch []) (Depends (1 ∷ [])) ≡ Err Batch_open }
-    ensures no_paths { IsReply with_node (Depends (1 ∷ [])) with_node (Names []) }
-{}
-
-/// A log that is to be replaced.
-pub fn rows_compact()
-    ensures same { step start_state Compact ≡ Ok start_state }
-    ensures of_batch { step (in_batch []) Compact ≡ Err Batch_open }
-    ensures reply { IsReply start_state Compact start_state (Paths []) }
-    ensures memory { may_lack start_state Compact ≡ false }
-{}
-
-/// What a batch would change, if there is one: without paths it is nothing.
-pub fn rows_preview()
-    ensures same { step (in_batch []) Preview ≡ Ok (in_batch []) }
-    ensures outside { step start_state Preview ≡ Err No_batch }
-    ensures reply { IsReply (in_batch []) Preview (in_batch []) (Paths []) }
-    ensures memory { may_lack (in_batch []) Preview ≡ true }
-    ensures memory_outside { may_lack start_state Preview ≡ false }
-{}
-
-/// The ambiguities of strings, without paths and in a batch.
-pub fn rows_ambiguous()
-    ensures all { step start_state (Ambiguous None) ≡ Ok start_state }
-    ensures one { step (with_a None) (Ambiguous (Some (codes "a"))) ≡ Ok (with_a None) }
-    ensures no_path { step start_state (Ambiguous (Some (codes "a"))) ≡ Err No_path }
-    ensures of_batch { step (in_batch []) (Ambiguous (Some (codes "a"))) ≡ Err Batch_open }
-    ensures nothing { IsReply start_state (Ambiguous None) start_state (Obstacles []) }
-    ensures memory { may_lack start_state (Ambiguous None) ≡ true }
-    ensures memory_of_none { may_lack start_state (Ambiguous (Some (codes "a"))) ≡ false }
+    ensures outside { Gives (step start_state) ((Depends [], Ok start_state) ∷ (Compact, Ok start_state) ∷ (Preview, Err No_batch)
+        ∷ (Ambiguous None, Ok start_state) ∷ (Ambiguous (Some (codes "a")), Err No_path) ∷ []) }
+    ensures of_batch { AllGive (step (in_batch [])) (Show_node 1 ∷ Show_line 1 ∷ Depends (1 ∷ []) ∷ Compact
+        ∷ Ambiguous (Some (codes "a")) ∷ []) (Err Batch_open) }
+    ensures preview { step (in_batch []) Preview ≡ Ok (in_batch []) }
+    ensures ambiguous_one { step (with_a None) (Ambiguous (Some (codes "a"))) ≡ Ok (with_a None) }
+    ensures no_dependents { IsReply with_node (Depends (1 ∷ [])) with_node (Names []) }
+    ensures compacted { IsReply start_state Compact start_state (Paths []) }
+    ensures no_difference { IsReply (in_batch []) Preview (in_batch []) (Paths []) }
+    ensures no_obstacles { IsReply start_state (Ambiguous None) start_state (Obstacles []) }
 {}
 
 /// The margin: it is shown without the open batch's, set at once outside of batches, and held in one.
 #[tactic(auto, unfolding(olr_records::proofs::OnLiterals::on_literals))]
 pub fn rows_margin_commands()
-    ensures shown { step start_state Show_margin ≡ Ok start_state }
-    ensures shown_in_batch { step (in_batch (Set_margin fifty ∷ [])) Show_margin ≡ Ok (in_batch (Set_margin fifty ∷ [])) }
+    ensures outside { Gives (step start_state) ((Show_margin, Ok start_state) ∷ (Make (Set_margin fifty), Ok with_fifty) ∷ []) }
+    ensures held { step (in_batch []) (Make (Set_margin fifty)) ≡ Ok (in_batch (Set_margin fifty ∷ [])) }
+    ensures holding { Gives (step (in_batch (Set_margin fifty ∷ []))) ((Show_margin, Ok (in_batch (Set_margin fifty ∷ [])))
+        ∷ (Commit 1, Ok with_fifty) ∷ (Abort, Ok start_state) ∷ []) }
     ensures reply { IsReply start_state Show_margin start_state (Records 1 (text_of_lines (codes "margin,0,0" ∷ []))) }
     ensures reply_in_batch { IsReply (in_batch (Set_margin fifty ∷ [])) Show_margin (in_batch (Set_margin fifty ∷ []))
         (Records 1 (text_of_lines (codes "margin,0,0" ∷ []))) }
-    ensures set { step start_state (Make (Set_margin fifty)) ≡ Ok with_fifty }
     ensures set_reply { IsReply start_state (Make (Set_margin fifty)) with_fifty (Paths []) }
     ensures shown_again { IsReply with_fifty Show_margin with_fifty (Records 1 (text_of_lines (codes "margin,50,1" ∷ []))) }
-    ensures held { step (in_batch []) (Make (Set_margin fifty)) ≡ Ok (in_batch (Set_margin fifty ∷ [])) }
-    ensures committed { step (in_batch (Set_margin fifty ∷ [])) (Commit 1) ≡ Ok with_fifty }
-    ensures dropped { step (in_batch (Set_margin fifty ∷ [])) Abort ≡ Ok start_state }
-    ensures memory { may_lack start_state (Make (Set_margin fifty)) ≡ true }
 {}
 
 /// Which commands may run out of memory.
 pub fn rows_memory()
-    ensures abort { may_lack (in_batch []) Abort ≡ false }
-    ensures abort_nothing { may_lack start_state Abort ≡ false }
-    ensures begin { may_lack start_state Begin ≡ false }
-    ensures begin_again { may_lack (in_batch []) Begin ≡ false }
-    ensures commit { may_lack (in_batch []) (Commit 0) ≡ true }
-    ensures commit_nothing { may_lack start_state (Commit 0) ≡ false }
-    ensures commit_other { may_lack (in_batch []) (Commit 1) ≡ false }
-    ensures report { may_lack (with_a None) Report ≡ true }
-    ensures report_of_none { may_lack start_state Report ≡ false }
-    ensures show { may_lack start_state (Show (codes "a")) ≡ false }
-    ensures added { may_lack start_state (Make path_a) ≡ true }
-    ensures no_lines { may_lack start_state (Make (Add_path (codes "a") (record { lines = []; pos = 0; neg = 0 })))
-        ≡ true }
-    ensures dropped { may_lack start_state (Make (Drop_path (codes "a"))) ≡ false }
-    ensures dropped_one { may_lack (with_a None) (Make (Drop_path (codes "a"))) ≡ false }
+    ensures outside { Gives (may_lack start_state) ((Begin, false) ∷ (Abort, false) ∷ (Commit 0, false) ∷ (Compact, false)
+        ∷ (Preview, false) ∷ (Report, false) ∷ (Show (codes "a"), false) ∷ (Make path_a, true)
+        ∷ (Make (Add_path (codes "a") (path_of [] 0 0)), true) ∷ (Make (Drop_path (codes "a")), false)
+        ∷ (Make (Set_margin fifty), true) ∷ (Ambiguous None, true) ∷ (Ambiguous (Some (codes "a")), false) ∷ []) }
+    ensures empty { Gives (may_lack (in_batch [])) ((Abort, false) ∷ (Begin, false) ∷ (Commit 0, true) ∷ (Commit 1, false)
+        ∷ (Preview, true) ∷ []) }
+    ensures with_path { Gives (may_lack (with_a None)) ((Report, true) ∷ (Make (Drop_path (codes "a")), false) ∷ []) }
     ensures dropped_in_batch { may_lack (with_a (Some [])) (Make (Drop_path (codes "a"))) ≡ true }
     ensures moved { may_lack with_node (Make (On_map (Move_node 1 no_coord))) ≡ false }
     ensures moved_beside_paths { takes_memory (Make (On_map (Move_node 1 no_coord))) None false ≡ true }

@@ -1,7 +1,7 @@
 //! The laws of inputs that are read one record a line, and worked rows.
 ghost use Rattle.std.specs.Prelude.{◌≡◌, [], ◌∷◌, codes};
 ghost use Rattle.olr_input.specs.LineRecords.{formless, line_records};
-ghost use Rattle.olr_laws.specs.LineLaws as Laws;
+ghost use Rattle.olr_laws.specs.RunLaws as Laws;
 
 /// Whole and short lines are read as they are. Each line that isn't empty gives one record, and so the records of an input are
 /// those of its lines; a line with an open quote, and one that is too long, is rejected alone.

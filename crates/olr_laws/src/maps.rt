@@ -1,7 +1,8 @@
 //! The laws of maps and routes, and worked rows of degree-two nodes.
-ghost use Rattle.std.specs.Prelude.{◌≡◌, ℕ, true, false, [], ◌∷◌};
+ghost use Rattle.std.specs.Prelude.{ℕ, true, false, List, [], ◌∷◌};
 ghost use Rattle.olr_spec.specs.Laws;
 ghost use Rattle.olr_spec.specs.Extension.{passes_between};
+ghost use Rattle.olr_laws.specs.Rows.{AllGive};
 
 /// The lists of the lines that enter and leave a node are in ascending order and hold exactly these
 /// lines; an accepted edit keeps a map sound, and one edit restores the map from before.
@@ -35,12 +36,8 @@ pub fn laws_of_labels()
 
 /// Degree-two nodes, by the other ends of the lines that enter node 9 and of those that leave it.
 pub fn rows_passing()
-    ensures one_way { passes_between 9 (1 ∷ []) (2 ∷ []) ≡ true }
-    ensures both_ways { passes_between 9 (1 ∷ 2 ∷ []) (2 ∷ 1 ∷ []) ≡ true }
-    ensures dead_end { passes_between 9 (1 ∷ []) (1 ∷ []) ≡ false }
-    ensures one_way_back { passes_between 9 (1 ∷ 2 ∷ []) (2 ∷ []) ≡ false }
-    ensures parallel { passes_between 9 (1 ∷ 1 ∷ []) (2 ∷ 2 ∷ []) ≡ false }
-    ensures third { passes_between 9 (1 ∷ 2 ∷ []) (1 ∷ 3 ∷ []) ≡ false }
-    ensures loop_line { passes_between 9 (9 ∷ []) (9 ∷ []) ≡ false }
-    ensures source { passes_between 9 [] (2 ∷ []) ≡ false }
+    ensures passing { AllGive (λ (e : List ℕ × List ℕ). passes_between 9 e.0 e.1)
+        ((1 ∷ [], 2 ∷ []) ∷ (1 ∷ 2 ∷ [], 2 ∷ 1 ∷ []) ∷ []) true }
+    ensures others { AllGive (λ (e : List ℕ × List ℕ). passes_between 9 e.0 e.1) ((1 ∷ [], 1 ∷ []) ∷ (1 ∷ 2 ∷ [], 2 ∷ [])
+        ∷ (1 ∷ 1 ∷ [], 2 ∷ 2 ∷ []) ∷ (1 ∷ 2 ∷ [], 1 ∷ 3 ∷ []) ∷ (9 ∷ [], 9 ∷ []) ∷ ([], 2 ∷ []) ∷ []) false }
 {}

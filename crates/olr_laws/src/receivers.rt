@@ -7,9 +7,9 @@ ghost use Rattle.olr_spec.specs.Bearings.{vector};
 ghost use Rattle.olr_spec.specs.Encoding.{Encodes, Points};
 ghost use Rattle.olr_spec.specs.Receiver.{Outgoing, Incoming, candidates, decoded_coord, is_nearest, has_no_twin};
 ghost use Rattle.olr_spec.specs.Recovery.{Distinct, IsWeighted, are_cosines, are_spaced};
-ghost use Rattle.olr_laws.specs.Rows.{leg10, reference1, leg20, leg30, morning_lines, twin_lines, axes_sum, cosine, by_cosine};
-ghost use Rattle.olr_laws.specs.DirectionLaws;
-ghost use Rattle.olr_laws.specs.AmbiguityLaws;
+ghost use Rattle.olr_laws.specs.Rows.{Gives, leg10, leg20, leg30, reference1, morning_lines, twin_lines, axes_sum};
+ghost use Rattle.olr_laws.specs.Rows.{cosine, by_cosine};
+ghost use Rattle.olr_laws.specs.ReceiverLaws;
 ghost use Rattle.olr_spec.specs.Directions.{is_beyond};
 ghost use Rattle.olr_laws.specs.Directions.{DistinctByDirection, SeesDirections, exceeded, is_within, middle, stands_out};
 ghost use Rattle.olr_laws.specs.MapRows.{morning_map, morning_path, fork_map, fork_path, fork_reference, fork_lines};
@@ -22,10 +22,10 @@ ghost use Rattle.olr_laws.specs.MapRows.{fork10, degrees10, TakesOther};
 pub fn laws_of_receivers()
     ensures recovered { (g : Margin) → Laws.Recovered g }
     ensures elsewhere { (g : Margin) → Laws.RecoveredElsewhere g }
-    ensures stretches_join { (g : Margin) → DirectionLaws.StretchesJoin g }
-    ensures offsets { (g : Margin) → DirectionLaws.OffsetsWith g }
-    ensures distances { (g : Margin) → DirectionLaws.DistancesWith g }
-    ensures nearest { (g : Margin) → DirectionLaws.Nearest g }
+    ensures stretches_join { (g : Margin) → ReceiverLaws.StretchesJoin g }
+    ensures offsets { (g : Margin) → ReceiverLaws.OffsetsWith g }
+    ensures distances { (g : Margin) → ReceiverLaws.DistancesWith g }
+    ensures nearest { (g : Margin) → ReceiverLaws.Nearest g }
     ensures some { Laws.SomeReceiver }
     ensures weighted { Laws.SomeWeighted }
 {}
@@ -34,20 +34,20 @@ pub fn laws_of_receivers()
 /// The map alone shows where it does. A count of limits that the angle from the middle of the sector exceeds is such a
 /// difference of bearing, and a weighted sum of differences such a preference.
 pub fn laws_of_directions()
-    ensures recovered { (g : Margin) → DirectionLaws.RecoveredByDirection g }
-    ensures clear { (g : Margin) → DirectionLaws.ClearStandsOut g }
-    ensures limits { DirectionLaws.SeesByLimits }
-    ensures weights { DirectionLaws.SomeByWeights }
+    ensures recovered { (g : Margin) → ReceiverLaws.RecoveredByDirection g }
+    ensures clear { (g : Margin) → ReceiverLaws.ClearStandsOut g }
+    ensures limits { ReceiverLaws.SeesByLimits }
+    ensures weights { ReceiverLaws.SomeByWeights }
 {}
 
 /// A string in whose way nothing stands is distinct for both kinds of receivers. So is that of each path which the answer
 /// to the question about all paths doesn't name, and what this names is an ambiguity. No test of nodes names
 /// fewer for all these receivers.
 pub fn laws_of_ambiguity()
-    ensures clear { (g : Margin) → AmbiguityLaws.ClearIsDistinct g }
-    ensures unnamed { AmbiguityLaws.UnnamedIsDistinct }
-    ensures named { AmbiguityLaws.NamedStands }
-    ensures sharpest { AmbiguityLaws.NoSharperTest }
+    ensures clear { (g : Margin) → ReceiverLaws.ClearIsDistinct g }
+    ensures unnamed { ReceiverLaws.UnnamedIsDistinct }
+    ensures named { ReceiverLaws.NamedStands }
+    ensures sharpest { ReceiverLaws.NoSharperTest }
 {}
 
 /// The first worked path on its map: the answer is its reference, which is distinct for both kinds of receivers; the
@@ -78,29 +78,20 @@ pub fn rows_fork()
 /// Directions beside the margin of sector 4, which is from 42.1875 to 59.0625 degrees, and at most 6 degrees from its
 /// middle. Scores by 6, 12 and 18 degrees don't tell directions in a sector apart; whole degrees tell five.
 pub fn rows_margin()
-    ensures start { is_beyond 4 (vector (pos 906347) (pos 1000000)) ≡ false }
-    ensures before_start { is_beyond 4 (vector (pos 906346) (pos 1000000)) ≡ true }
-    ensures before_end { is_beyond 4 (vector (pos 1000000) (pos 599378)) ≡ false }
-    ensures end { is_beyond 4 (vector (pos 1000000) (pos 599377)) ≡ true }
-    ensures behind { is_beyond 4 (vector (negsuc 0) (negsuc 0)) ≡ true }
-    ensures nowhere { is_beyond 4 (vector (pos 0) (pos 0)) ≡ false }
+    ensures beyond { Gives (is_beyond 4) ((vector (pos 906347) (pos 1000000), false)
+        ∷ (vector (pos 906346) (pos 1000000), true)
+        ∷ (vector (pos 1000000) (pos 599378), false) ∷ (vector (pos 1000000) (pos 599377), true)
+        ∷ (vector (negsuc 0) (negsuc 0), true) ∷ (vector (pos 0) (pos 0), false) ∷ []) }
     ensures past_north { is_beyond 31 (vector (pos 49126) (pos 1000000)) ≡ false }
-    ensures at_46 { is_within 105104 (middle 4) (vector (pos 1035500) (pos 1000000)) ≡ true }
-    ensures at_44 { is_within 105104 (middle 4) (vector (pos 965700) (pos 1000000)) ≡ false }
+    ensures within { Gives (is_within 105104 (middle 4)) ((vector (pos 1035500) (pos 1000000), true)
+        ∷ (vector (pos 965700) (pos 1000000), false) ∷ []) }
     ensures scores { SeesDirections (exceeded (105104 ∷ 212557 ∷ 324920 ∷ [])) 0 }
     ensures degrees { SeesDirections (exceeded degrees10) 5 }
 {}
 
-/// The lines at the LRPs of the first worked path, among all lines of its map: each is the nearest
-/// candidate and has no twin. With a second line 20 it has a twin and isn't distinct. The cosine of
-/// 49.6 degrees is greater than 64/100.
+/// The lines at the LRPs of the first worked path: the nodes of the other lines of its map are far enough. With a second line
+/// 20 it has a twin and isn't distinct, though it is the nearest. The cosine of 49.6 degrees is greater than 64/100.
 pub fn rows_distinct()
-    ensures first { is_nearest axes_sum Outgoing (decoded_coord reference1 0) leg10 morning_lines ≡ true }
-    ensures second { is_nearest axes_sum Outgoing (decoded_coord reference1 1) leg20 morning_lines ≡ true }
-    ensures third { is_nearest axes_sum Incoming (decoded_coord reference1 2) leg30 morning_lines ≡ true }
-    ensures first_alone { has_no_twin Outgoing 10 leg10 morning_lines ≡ true }
-    ensures second_alone { has_no_twin Outgoing 20 leg20 morning_lines ≡ true }
-    ensures third_alone { has_no_twin Incoming 30 leg30 morning_lines ≡ true }
     ensures beside_its_twin { is_nearest axes_sum Outgoing (decoded_coord reference1 1) leg20 twin_lines ≡ true }
     ensures not_alone { has_no_twin Outgoing 20 leg20 twin_lines ≡ false }
     ensures first_spaced { are_spaced 64 100 0 Outgoing leg10 morning_lines ≡ true }

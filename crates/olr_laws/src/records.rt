@@ -12,12 +12,11 @@ ghost use Rattle.olr_commands.specs.RecordText.{record_line};
 ghost use Rattle.olr_commands.specs.Reply as reply;
 ghost use Rattle.olr_commands.specs.State as state;
 ghost use Rattle.olr_records.specs.Records.{line_between, read, Bad_form, Out_of_range};
-ghost use Rattle.olr_records.specs.ReplyText.{reply_text, fault_text};
+ghost use Rattle.olr_records.specs.ReplyText.{reply_text};
 ghost use Rattle.olr_laws.specs.RecordLaws as Laws;
-ghost use Rattle.olr_laws.specs.MarginRows.{fifty};
-ghost use Rattle.olr_laws.specs.RecordRows.{at, zero, read_text, text_of_lines, changes1};
-ghost use Rattle.olr_laws.specs.Rows.{reference1};
-ghost use Rattle.olr_laws.specs.CommandRows.{reference2};
+ghost use Rattle.olr_laws.specs.MapRows.{fifty, path_of};
+ghost use Rattle.olr_laws.specs.CommandRows.{at, zero, read_text, text_of_lines, AreFaultTexts, changes1};
+ghost use Rattle.olr_laws.specs.Rows.{Gives, AllGive, reference1, reference2};
 
 /// The coordinates in records are in range. The record of a change is read as this change, and only changes that have a
 /// record are read. The text of records is split into their fields. From the empty register, commands that are read lead
@@ -39,22 +38,15 @@ pub fn rows_nodes()
         ≡ Ok (Make (On_map (Add_node 1 (at (pos 2007639654400) (pos 16255719833600))))) }
     ensures zeros { read_text (codes "node,0000000000000000000000000000000000000000001,0,0")
         ≡ Ok (Make (On_map (Add_node 1 zero))) }
-    ensures many { read_text (codes "node,99999999999999999999999999999999999999999999,0,0") ≡ Err Out_of_range }
-    ensures none { read_text (codes "node,0,0,0") ≡ Err Out_of_range }
     ensures greatest { read_text (codes "drop-node,4294967295") ≡ Ok (Make (On_map (Drop_node 4294967295))) }
-    ensures beyond { read_text (codes "drop-node,4294967296") ≡ Err Out_of_range }
-    ensures four_digits { read_text (codes "node,1,1800,0") ≡ Err Bad_form }
-    ensures plus { read_text (codes "node,1,+1,0") ≡ Err Bad_form }
-    ensures point_last { read_text (codes "node,1,1.,0") ≡ Err Bad_form }
-    ensures point_first { read_text (codes "node,1,.5,0") ≡ Err Bad_form }
-    ensures far { read_text (codes "node,1,181,0") ≡ Err Out_of_range }
-    ensures near_date_line { read_text (codes "node,1,179.99991,0") ≡ Err Out_of_range }
-    ensures pole { read_text (codes "node,1,0,90") ≡ Err Out_of_range }
+    ensures bad_form { AllGive read_text (codes "node,1,1800,0" ∷ codes "node,1,+1,0" ∷ codes "node,1,1.,0"
+        ∷ codes "node,1,.5,0" ∷ codes "node,x,181,0" ∷ codes "node,0,181,x" ∷ []) (Err Bad_form) }
+    ensures out_of_range { AllGive read_text (codes "node,99999999999999999999999999999999999999999999,0,0" ∷ codes "node,0,0,0"
+        ∷ codes "drop-node,4294967296" ∷ codes "node,1,181,0" ∷ codes "node,1,179.99991,0" ∷ codes "node,1,0,90" ∷ [])
+        (Err Out_of_range) }
     ensures corner { read_text (codes "node,1,-180,89.9999")
         ≡ Ok (Make (On_map (Add_node 1 (at (neg_ℤ (pos 58982400000000)) (pos 29491167232000))))) }
     ensures minus_zero { read_text (codes "node,1,-0,0") ≡ Ok (Make (On_map (Add_node 1 zero))) }
-    ensures form_first { read_text (codes "node,x,181,0") ≡ Err Bad_form }
-    ensures form_last { read_text (codes "node,0,181,x") ≡ Err Bad_form }
     ensures moved { read_text (codes "move,5,7.1,50")
         ≡ Ok (Make (On_map (Move_node 5 (at (pos 2326528000000) (pos 16384000000000))))) }
 {}
@@ -67,76 +59,54 @@ pub fn rows_lines()
         ∷ record { at = 5410; place = (at (pos 2008088576000) (pos 16254281318400)) } ∷ []))))) }
     ensures no_shape { read_text (codes "line,99,2,3,4,3,1500")
         ≡ Ok (Make (On_map (Add_line 99 (line_between 2 3 4 3 1500 [])))) }
-    ensures two_of_three { read_text (codes "line,10,1,2,0,1,100,50,0") ≡ Err Bad_form }
-    ensures one_of_three { read_text (codes "line,10,1,2,0,1,100,50") ≡ Err Bad_form }
-    ensures class_8 { read_text (codes "line,10,1,2,8,0,1") ≡ Err Out_of_range }
-    ensures long { read_text (codes "line,10,1,2,0,0,1000001") ≡ Err Out_of_range }
-    ensures no_length { read_text (codes "line,10,1,2,0,0,0") ≡ Err Out_of_range }
-    ensures far_shape { read_text (codes "line,10,1,2,0,0,1000000,1000000,0,0") ≡ Err Out_of_range }
+    ensures bad_form { AllGive read_text (codes "line,10,1,2,0,1,100,50,0" ∷ codes "line,10,1,2,0,1,100,50"
+        ∷ codes "line,10,1,2,8,0,1,x,0,0" ∷ []) (Err Bad_form) }
+    ensures out_of_range { AllGive read_text (codes "line,10,1,2,8,0,1" ∷ codes "line,10,1,2,0,0,1000001"
+        ∷ codes "line,10,1,2,0,0,0" ∷ codes "line,10,1,2,0,0,1000000,1000000,0,0" ∷ []) (Err Out_of_range) }
     ensures shape_past_the_end { read_text (codes "line,98,2,3,4,3,1500,1500,0,0") ≡ Ok (Make (On_map (Add_line 98
         (line_between 2 3 4 3 1500 (record { at = 1500; place = zero } ∷ []))))) }
     ensures set { read_text (codes "set-line,99,4,3,2000") ≡ Ok (Make (On_map (Set_line 99 4 3 2000 []))) }
     ensures set_shape { read_text (codes "set-line,99,4,3,2000,1,0,0")
         ≡ Ok (Make (On_map (Set_line 99 4 3 2000 (record { at = 1; place = zero } ∷ [])))) }
     ensures dropped { read_text (codes "drop-line,99") ≡ Ok (Make (On_map (Drop_line 99))) }
-    ensures form_last { read_text (codes "line,10,1,2,8,0,1,x,0,0") ≡ Err Bad_form }
 {}
 
 /// Records of a path, and the remaining records.
 pub fn rows_paths()
     ensures path { read_text (codes "path,a,1500,0,10,20,30")
-        ≡ Ok (Make (Add_path (codes "a") (record { lines = 10 ∷ 20 ∷ 30 ∷ []; pos = 1500; neg = 0 }))) }
-    ensures no_lines { read_text (codes "path,a,0,0")
-        ≡ Ok (Make (Add_path (codes "a") (record { lines = []; pos = 0; neg = 0 }))) }
-    ensures twice { read_text (codes "path,d,0,0,10,10")
-        ≡ Ok (Make (Add_path (codes "d") (record { lines = 10 ∷ 10 ∷ []; pos = 0; neg = 0 }))) }
-    ensures no_name { read_text (codes "path,,0,0,1") ≡ Err Bad_form }
-    ensures far { read_text (codes "path,a,4294967296,0,10") ≡ Err Out_of_range }
-    ensures line_0 { read_text (codes "path,a,0,0,0") ≡ Err Out_of_range }
-    ensures again { read_text (codes "repath,b,0,0,10")
-        ≡ Ok (Make (Set_path (codes "b") (record { lines = 10 ∷ []; pos = 0; neg = 0 }))) }
+        ≡ Ok (Make (Add_path (codes "a") (path_of (10 ∷ 20 ∷ 30 ∷ []) 1500 0))) }
+    ensures no_lines { read_text (codes "path,a,0,0") ≡ Ok (Make (Add_path (codes "a") (path_of [] 0 0))) }
+    ensures twice { read_text (codes "path,d,0,0,10,10") ≡ Ok (Make (Add_path (codes "d") (path_of (10 ∷ 10 ∷ []) 0 0))) }
+    ensures again { read_text (codes "repath,b,0,0,10") ≡ Ok (Make (Set_path (codes "b") (path_of (10 ∷ []) 0 0))) }
     ensures dropped { read_text (codes "drop-path,b") ≡ Ok (Make (Drop_path (codes "b"))) }
-    ensures show { read_text (codes "show,a") ≡ Ok (Show (codes "a")) }
-    ensures all_kinds { read_text (codes "show,aZ0-_.") ≡ Ok (Show (codes "aZ0-_.")) }
-    ensures space { read_text (codes "show,a b") ≡ Err Bad_form }
+    ensures shown { Gives read_text ((codes "show,a", Ok (Show (codes "a")))
+        ∷ (codes "show,aZ0-_.", Ok (Show (codes "aZ0-_."))) ∷ []) }
     ensures of_64 { read_text (codes "show,aaaaaaaaaaaaaaaaaaaaaaaaaaaaaaaaaaaaaaaaaaaaaaaaaaaaaaaaaaaaaaaa")
         ≡ Ok (Show (codes "aaaaaaaaaaaaaaaaaaaaaaaaaaaaaaaaaaaaaaaaaaaaaaaaaaaaaaaaaaaaaaaa")) }
-    ensures of_65 { read_text (codes "show,aaaaaaaaaaaaaaaaaaaaaaaaaaaaaaaaaaaaaaaaaaaaaaaaaaaaaaaaaaaaaaaaa")
-        ≡ Err Bad_form }
-    ensures report { read_text (codes "report") ≡ Ok Report }
-    ensures dump { read_text (codes "dump") ≡ Ok Dump }
-    ensures compact { read_text (codes "compact") ≡ Ok Compact }
-    ensures preview { read_text (codes "preview") ≡ Ok Preview }
-    ensures ambiguous { read_text (codes "ambiguous") ≡ Ok (Ambiguous None) }
+    ensures words { Gives read_text ((codes "report", Ok Report) ∷ (codes "dump", Ok Dump) ∷ (codes "compact", Ok Compact)
+        ∷ (codes "preview", Ok Preview) ∷ (codes "ambiguous", Ok (Ambiguous None)) ∷ (codes "begin", Ok Begin)
+        ∷ (codes "abort", Ok Abort) ∷ []) }
     ensures ambiguous_one { read_text (codes "ambiguous,a") ≡ Ok (Ambiguous (Some (codes "a"))) }
-    ensures ambiguous_two { read_text (codes "ambiguous,a,b") ≡ Err Bad_form }
-    ensures ambiguous_nothing { read_text (codes "ambiguous,") ≡ Err Bad_form }
-    ensures dump_more { read_text (codes "dump,a") ≡ Err Bad_form }
-    ensures report_more { read_text (codes "report,") ≡ Err Bad_form }
-    ensures explain { read_text (codes "explain,*") ≡ Ok (Explain (codes "*")) }
-    ensures explain_nothing { read_text (codes "explain,") ≡ Ok (Explain []) }
-    ensures explain_alone { read_text (codes "explain") ≡ Err Bad_form }
-    ensures begin { read_text (codes "begin") ≡ Ok Begin }
-    ensures commit { read_text (codes "commit,100000") ≡ Ok (Commit 100000) }
-    ensures commit_0 { read_text (codes "commit,0") ≡ Ok (Commit 0) }
-    ensures commit_far { read_text (codes "commit,4294967296") ≡ Err Out_of_range }
-    ensures commit_alone { read_text (codes "commit") ≡ Err Bad_form }
-    ensures abort { read_text (codes "abort") ≡ Ok Abort }
-    ensures capital { read_text (codes "Report") ≡ Err Bad_form }
+    ensures explained { Gives read_text ((codes "explain,*", Ok (Explain (codes "*")))
+        ∷ (codes "explain,", Ok (Explain [])) ∷ []) }
+    ensures commit { Gives read_text ((codes "commit,100000", Ok (Commit 100000)) ∷ (codes "commit,0", Ok (Commit 0)) ∷ []) }
+    ensures bad_form { AllGive read_text (codes "path,,0,0,1" ∷ codes "show,a b"
+        ∷ codes "show,aaaaaaaaaaaaaaaaaaaaaaaaaaaaaaaaaaaaaaaaaaaaaaaaaaaaaaaaaaaaaaaaa" ∷ codes "ambiguous,a,b"
+        ∷ codes "ambiguous," ∷ codes "dump,a" ∷ codes "report," ∷ codes "explain" ∷ codes "commit" ∷ codes "Report" ∷ [])
+        (Err Bad_form) }
+    ensures out_of_range { AllGive read_text (codes "path,a,4294967296,0,10" ∷ codes "path,a,0,0,0" ∷ codes "commit,4294967296"
+        ∷ []) (Err Out_of_range) }
     ensures nothing { read [] ≡ Err Bad_form }
 {}
 
 /// Records of the margin.
 pub fn rows_margin_records()
     ensures margin { read_text (codes "margin,50,1") ≡ Ok (Make (Set_margin fifty)) }
-    ensures greatest { read_text (codes "margin,1000,7")
-        ≡ Ok (Make (Set_margin (record { routes = 1000; classes = 7 }))) }
-    ensures beyond { read_text (codes "margin,1001,0") ≡ Err Out_of_range }
-    ensures class_beyond { read_text (codes "margin,0,8") ≡ Err Out_of_range }
-    ensures routes_alone { read_text (codes "margin,50") ≡ Err Bad_form }
-    ensures form_first { read_text (codes "margin,1001,x") ≡ Err Bad_form }
+    ensures greatest { read_text (codes "margin,1000,7") ≡ Ok (Make (Set_margin (record { routes = 1000; classes = 7 }))) }
     ensures show { read_text (codes "show-margin") ≡ Ok Show_margin }
-    ensures show_more { read_text (codes "show-margin,") ≡ Err Bad_form }
+    ensures out_of_range { AllGive read_text (codes "margin,1001,0" ∷ codes "margin,0,8" ∷ []) (Err Out_of_range) }
+    ensures bad_form { AllGive read_text (codes "margin,50" ∷ codes "margin,1001,x" ∷ codes "show-margin," ∷ [])
+        (Err Bad_form) }
 {}
 
 /// Texts of replies.
@@ -173,31 +143,19 @@ pub fn rows_replies()
 /// Texts of faults.
 #[tactic(auto, unfolding(olr_records::proofs::OnLiterals::on_literals))]
 pub fn rows_faults()
-    ensures syntax { fault_text state.Syntax ≡ text_of_lines (codes "fault,1,Syntax" ∷ []) }
-    ensures range { fault_text state.Range ≡ text_of_lines (codes "fault,2,Range" ∷ []) }
-    ensures node_exists { fault_text (state.Map_fault Node_exists) ≡ text_of_lines (codes "fault,3,NodeExists" ∷ []) }
-    ensures no_node { fault_text (state.Map_fault No_node) ≡ text_of_lines (codes "fault,4,NoNode" ∷ []) }
-    ensures line_exists { fault_text (state.Map_fault Line_exists) ≡ text_of_lines (codes "fault,5,LineExists" ∷ []) }
-    ensures no_line { fault_text (state.Map_fault No_line) ≡ text_of_lines (codes "fault,6,NoLine" ∷ []) }
-    ensures node_in_use { fault_text (state.Map_fault Node_in_use) ≡ text_of_lines (codes "fault,7,NodeInUse" ∷ []) }
-    ensures bad_shape { fault_text (state.Map_fault Bad_shape) ≡ text_of_lines (codes "fault,8,BadShape" ∷ []) }
-    ensures path_exists { fault_text state.Path_exists ≡ text_of_lines (codes "fault,9,PathExists" ∷ []) }
-    ensures no_path { fault_text state.No_path ≡ text_of_lines (codes "fault,10,NoPath" ∷ []) }
-    ensures bad_path { fault_text state.Bad_path ≡ text_of_lines (codes "fault,11,BadPath" ∷ []) }
-    ensures memory { fault_text state.Memory ≡ text_of_lines (codes "fault,13,Memory" ∷ []) }
-    ensures batch_open { fault_text state.Batch_open ≡ text_of_lines (codes "fault,14,BatchOpen" ∷ []) }
-    ensures no_batch { fault_text state.No_batch ≡ text_of_lines (codes "fault,15,NoBatch" ∷ []) }
-    ensures count_differs { fault_text state.Count_differs ≡ text_of_lines (codes "fault,16,CountDiffers" ∷ []) }
-    ensures batch_full { fault_text state.Batch_full ≡ text_of_lines (codes "fault,17,BatchFull" ∷ []) }
-    ensures not_a_record { fault_text state.Not_a_record ≡ text_of_lines (codes "fault,18,NotARecord" ∷ []) }
-    ensures cause_1 { fault_text (state.Not_a_reference (state.Not_v3 bytes.Length))
-        ≡ text_of_lines (codes "fault,12,NotAReference,1" ∷ []) }
-    ensures cause_2 { fault_text (state.Not_a_reference (state.Not_v3 bytes.Status))
-        ≡ text_of_lines (codes "fault,12,NotAReference,2" ∷ []) }
-    ensures cause_3 { fault_text (state.Not_a_reference (state.Not_v3 bytes.Flags))
-        ≡ text_of_lines (codes "fault,12,NotAReference,3" ∷ []) }
-    ensures cause_4 { fault_text (state.Not_a_reference (state.Not_v3 bytes.Reserved))
-        ≡ text_of_lines (codes "fault,12,NotAReference,4" ∷ []) }
-    ensures cause_6 { fault_text (state.Not_a_reference state.Not_base64)
-        ≡ text_of_lines (codes "fault,12,NotAReference,6" ∷ []) }
+    ensures plain { AreFaultTexts ((state.Syntax, codes "fault,1,Syntax") ∷ (state.Range, codes "fault,2,Range")
+        ∷ (state.Path_exists, codes "fault,9,PathExists") ∷ (state.No_path, codes "fault,10,NoPath")
+        ∷ (state.Bad_path, codes "fault,11,BadPath") ∷ (state.Memory, codes "fault,13,Memory")
+        ∷ (state.Batch_open, codes "fault,14,BatchOpen") ∷ (state.No_batch, codes "fault,15,NoBatch")
+        ∷ (state.Count_differs, codes "fault,16,CountDiffers") ∷ (state.Batch_full, codes "fault,17,BatchFull")
+        ∷ (state.Not_a_record, codes "fault,18,NotARecord") ∷ []) }
+    ensures of_map { AreFaultTexts ((state.Map_fault Node_exists, codes "fault,3,NodeExists")
+        ∷ (state.Map_fault No_node, codes "fault,4,NoNode") ∷ (state.Map_fault Line_exists, codes "fault,5,LineExists")
+        ∷ (state.Map_fault No_line, codes "fault,6,NoLine") ∷ (state.Map_fault Node_in_use, codes "fault,7,NodeInUse")
+        ∷ (state.Map_fault Bad_shape, codes "fault,8,BadShape") ∷ []) }
+    ensures causes { AreFaultTexts ((state.Not_a_reference (state.Not_v3 bytes.Length), codes "fault,12,NotAReference,1")
+        ∷ (state.Not_a_reference (state.Not_v3 bytes.Status), codes "fault,12,NotAReference,2")
+        ∷ (state.Not_a_reference (state.Not_v3 bytes.Flags), codes "fault,12,NotAReference,3")
+        ∷ (state.Not_a_reference (state.Not_v3 bytes.Reserved), codes "fault,12,NotAReference,4")
+        ∷ (state.Not_a_reference state.Not_base64, codes "fault,12,NotAReference,6") ∷ []) }
 {}

@@ -1,5 +1,5 @@
 //! The laws of whole runs, and worked rows of command lines, records of bytes and runs.
-ghost use Rattle.std.specs.Prelude.{◌≡◌, ℕ, [], ◌∷◌, ◌++◌, codes, Some, None, false, true};
+ghost use Rattle.std.specs.Prelude.{◌≡◌, ℕ, [], ◌∷◌, ◌++◌, codes, Some, false, true};
 ghost use Rattle.clap.specs.Faults.{fault_of};
 ghost use Rattle.clap.specs.Takes.{takes};
 ghost use Rattle.clap.specs.declared.error.kind.ErrorKind.TheVariants as kind;
@@ -9,10 +9,10 @@ ghost use Rattle.olr_run.specs.Sizes.{IsSize, NoSize};
 ghost use Rattle.olr_run.specs.Output.{records_of, greater, Outcomes, Ran, Faulted, Some_refused, Stopped};
 ghost use Rattle.olr_run.specs.Output.{All_accepted};
 ghost use Rattle.olr_input.specs.declared.ends.RunFault.TheVariants as fault;
+ghost use Rattle.olr_laws.specs.Rows.{AllGive};
 ghost use Rattle.olr_laws.specs.RunLaws as Laws;
-ghost use Rattle.olr_laws.specs.RecordRows.{text_of_lines};
-ghost use Rattle.olr_laws.specs.CommandRows.{with_fifty};
-ghost use Rattle.olr_laws.specs.RunRows.{input20, output20, state20, margin_input, margin_output};
+ghost use Rattle.olr_laws.specs.CommandRows.{text_of_lines, with_fifty};
+ghost use Rattle.olr_laws.specs.RunRows.{no_options, input20, output20, state20};
 
 /// Outcomes keep the register's state sound. Apart from out of memory, the state at the start and the bytes that are
 /// read determine what is written, the status and the state at the end. Records that are taken one after another are
@@ -30,20 +30,16 @@ pub fn laws_of_runs()
 /// Command lines.
 #[tactic(auto, unfolding(clap::proofs::OnLiterals::clap_on_literals))]
 pub fn rows_options()
-    ensures none { options (codes "olr-keep" ∷ [])
-        ≡ record { file = None; stop = false; lines = false; log = None; new = false; compact_at = None } }
-    ensures both { options (codes "olr-keep" ∷ codes "-s" ∷ codes "-m" ∷ codes "f" ∷ [])
-        ≡ record { file = Some (codes "f"); stop = true; lines = false; log = None; new = false; compact_at = None } }
-    ensures joined { options (codes "olr-keep" ∷ codes "-smf" ∷ [])
-        ≡ record { file = Some (codes "f"); stop = true; lines = false; log = None; new = false; compact_at = None } }
+    ensures none { options (codes "olr-keep" ∷ []) ≡ no_options }
+    ensures both { AllGive options ((codes "olr-keep" ∷ codes "-s" ∷ codes "-m" ∷ codes "f" ∷ [])
+        ∷ (codes "olr-keep" ∷ codes "-smf" ∷ []) ∷ []) (record no_options { file = Some (codes "f"); stop = true }) }
     ensures log { options (codes "olr-keep" ∷ codes "-l" ∷ codes "f" ∷ codes "--new" ∷ codes "--compact-at" ∷ codes "5M" ∷ [])
-        ≡ record { file = None; stop = false; lines = false; log = Some (codes "f"); new = true; compact_at = Some (codes "5M") } }
-    ensures lines { options (codes "olr-keep" ∷ codes "--lines" ∷ [])
-        ≡ record { file = None; stop = false; lines = true; log = None; new = false; compact_at = None } }
-    ensures takes_none { takes keep_app (codes "olr-keep" ∷ []) ≡ true }
-    ensures takes_both { takes keep_app (codes "olr-keep" ∷ codes "-s" ∷ codes "-m" ∷ codes "f" ∷ []) ≡ true }
-    ensures unknown { fault_of keep_app (codes "olr-keep" ∷ codes "-x" ∷ []) ≡ kind.UnknownArgument ∷ [] }
-    ensures word { fault_of keep_app (codes "olr-keep" ∷ codes "f" ∷ []) ≡ kind.UnknownArgument ∷ [] }
+        ≡ record no_options { log = Some (codes "f"); new = true; compact_at = Some (codes "5M") } }
+    ensures lines { options (codes "olr-keep" ∷ codes "--lines" ∷ []) ≡ record no_options { lines = true } }
+    ensures taken { AllGive (takes keep_app) ((codes "olr-keep" ∷ [])
+        ∷ (codes "olr-keep" ∷ codes "-s" ∷ codes "-m" ∷ codes "f" ∷ []) ∷ []) true }
+    ensures unknown { AllGive (fault_of keep_app) ((codes "olr-keep" ∷ codes "-x" ∷ []) ∷ (codes "olr-keep" ∷ codes "f" ∷ []) ∷ [])
+        (kind.UnknownArgument ∷ []) }
     ensures help { fault_of keep_app (codes "olr-keep" ∷ codes "--help" ∷ []) ≡ kind.DisplayHelp ∷ [] }
     ensures version { fault_of keep_app (codes "olr-keep" ∷ codes "-V" ∷ []) ≡ kind.DisplayVersion ∷ [] }
 {}
@@ -83,7 +79,8 @@ pub fn rows_runs()
     ensures all { Ran Outcomes false start_state (records_of input20) state20 output20 Some_refused }
     ensures stopped { Ran Outcomes true start_state (records_of input20) state20
         (text_of_lines (codes "ok,0" ∷ codes "fault,3,NodeExists" ∷ [])) Stopped }
-    ensures margin { Ran Outcomes false start_state (records_of margin_input) with_fifty margin_output All_accepted }
+    ensures margin { Ran Outcomes false start_state (records_of (text_of_lines (codes "margin,50,1" ∷ codes "show-margin" ∷ [])))
+        with_fifty (text_of_lines (codes "ok,0" ∷ codes "ok,1" ∷ codes "margin,50,1" ∷ [])) All_accepted }
     ensures cut { Faulted Outcomes false start_state (records_of input20) state20 (codes "ok,0" ++ 10 ∷ codes "fau")
         fault.Write }
     ensures cut_at_once { Faulted Outcomes false start_state (records_of input20) start_state [] fault.Read }

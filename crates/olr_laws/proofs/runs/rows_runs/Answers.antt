@@ -1,4 +1,4 @@
-use Rattle.olr_run.proofs.Common.{ByState, In_last, Outcome, Outcomes, csv_on_literals, Paths, records_of}
+use Rattle.olr_run.proofs.Common.{cases_Bool, ByState, In_last, Outcome, Outcomes, csv_on_literals, Paths, records_of}
 use Rattle.std.proofs.Common.{arith, inl, inr, ◌≡◌, Bool, true, false, List, [], ◌∷◌, ◌++◌, Ok, Err, refl}
 use Rattle.olr_commands.specs.State.{start_state, On_map, Make, Syntax, Range, Map_fault, step}
 use Rattle.std.specs.Cmp.{nat_cmp_total}
@@ -7,8 +7,7 @@ use Rattle.std.specs.Prelude.{codes}
 use Rattle.std.specs.Fmt.{digits}
 use Rattle.olr_spec.specs.Map.{Node_exists, No_node, Add_node, Drop_node}
 use Rattle.olr_commands.specs.Reply.{Records}
-use Rattle.olr_laws.specs.CommandRows.{with_fifty}
-use Rattle.olr_laws.specs.RecordRows.{text_of_lines, zero}
+use Rattle.olr_laws.specs.CommandRows.{text_of_lines, with_fifty, zero}
 use Rattle.olr_run.specs.Output.{StopsAtFault}
 use Rattle.olr_laws.specs.RunRows.{input20, state20}
 use Rattle.olr_laws.proofs.runs.rows_runs.Goals as goal
@@ -63,8 +62,7 @@ unfolding csv_on_literals digits
 each_two = (state20, inl (add_first, refl), (state20, inl (ByState add_again, refl), refl))
 
 stops_two : (stop : Bool) → StopsAtFault stop first_two
-stops_two true = (λ e. absurd cc, (λ e. refl, tt))
-stops_two false = (λ e. absurd cc, (λ e. refl, tt))
+stops_two stop = grind (arith, cases_Bool stop)
 
 pub returns-clause-stopped : goal.returns-clause-stopped
 unfolding csv_on_literals digits
