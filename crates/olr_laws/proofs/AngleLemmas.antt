@@ -2,7 +2,7 @@
 use Rattle.olr_spec.proofs.Common.{◌≡◌, ℕ, zero, suc, ◌+◌, ◌*◌, ◌/◌, ◌%◌, ◌<◌, ◌≤◌, ℤ, pos, ◌-ℤ◌, ◌*ℤ◌, ◌≤ℤ◌, ◌<ℤ◌, Bool, true}
 use Rattle.olr_spec.proofs.Common.{false, not, nat_lt, nat_abs, List, [], ◌∷◌, map, arith, ints, refl, sym, ap, ◌∙◌, has}
 use Rattle.olr_spec.proofs.Common.{subst, and_parts, and_from, leb-true, le-leb, cases_Bool, Vector, vector, boundary, beyond}
-use Rattle.olr_spec.proofs.Common.{quarter_turn, lies_between, IsSector, up_to, by_lt_z, le-ltb, lt-ltb, ltb-true, cases_lt}
+use Rattle.olr_spec.proofs.Common.{quarter_turn, lies_between, inl, inr, both_ways, not-true, IsSector, up_to, by_lt_z, le-ltb, lt-ltb, ltb-true, cases_lt}
 use Rattle.olr_spec.proofs.SectorLemmas.{has_below, same_at, turned, turns_into, neg_right, neg_left}
 use Rattle.std.proofs.Common.{neg_ℤ, int_lt}
 use Rattle.std.proofs.Math.Nat.{mul-le-mul_right}
@@ -139,10 +139,7 @@ all_sectors k lt =
 
 near_of : (z Z : ℤ) → 200 * nat_abs (Z -ℤ z) ≤ nat_abs z → Near z Z
 near_of z Z h =
-    record {
-      above = λ p. (grind (arith, ints), grind (arith, ints));
-      below = λ p. (grind (arith, ints), grind (arith, ints));
-    }
+    record { above = λ p. grind (arith, ints); below = λ p. grind (arith, ints) }
 
 abs_few : (n : ℕ) (x y : ℤ) → pos 0 <ℤ x → (pos 1000 *ℤ y) ≤ℤ (pos n *ℤ x) → neg_ℤ (pos n *ℤ x) ≤ℤ (pos 1000 *ℤ y) →
     1000 * nat_abs y ≤ n * nat_abs x
@@ -181,15 +178,18 @@ module _ (k : ℕ) (v w : Vector) (near : IsNearly v w) where
       (near_of v.north w.north near.north) in
       within_of t (middle k) w h r.0 (abs_few 104 (along (middle k) w) (beyond (middle k) w) r.0 r.1 r.2)
 
-  beyond_exceeds : k < 32 → is_beyond k v ≡ true → (t : ℕ) → t ≤ 142000 → is_within t (middle k) w ≡ true → ⊥
-  beyond_exceeds lt b t h is =
-      let p = of_within t (middle k) w h is in
-      let r = few_abs 142 (along (middle k) w) (beyond (middle k) w) p.0 p.1 in
-      let o = (all_sectors k lt).1 v.east v.north w.east w.north (near_of v.east w.east near.east)
-      (near_of v.north w.north near.north) p.0 r.0 r.1 in
-      let lies : not (lies_between (margin_start k) (margin_end k) v) ≡ false = ap not (is_between (margin_start k) (margin_end k) v o.0 o.1) in
-      let beside = (and_parts (is_direction v) _ b).1 in
-      cc (lies, beside)
+  beyond_exceeds : k < 32 → is_beyond k v ≡ true → (t : ℕ) → t ≤ 142000 → not (is_within t (middle k) w) ≡ true
+  beyond_exceeds lt b t h = elim (cases_Bool (is_within t (middle k) w)) [
+    | inr out ↦ ap not out
+    | inl is ↦
+        let p = of_within t (middle k) w h is in
+        let r = few_abs 142 (along (middle k) w) (beyond (middle k) w) p.0 p.1 in
+        let o = (all_sectors k lt).1 v.east v.north w.east w.north (near_of v.east w.east near.east)
+        (near_of v.north w.north near.north) p.0 r.0 r.1 in
+        let lies = is_between (margin_start k) (margin_end k) v o.0 o.1 in
+        let beside = (and_parts (is_direction v) _ b).1 in
+        absurd (both_ways (lies_between (margin_start k) (margin_end k) v) (not-true _ beside) lies)
+  ]
 
 count_more : (p q : ℕ → Bool) → ((t : ℕ) → p t ≡ true → q t ≡ true) → (ts : List ℕ) → count_where p ts ≤ count_where q ts
 count_more p q h [] = omega arith
@@ -201,18 +201,12 @@ count_less p q h [] t i n y = absurd cc
 count_less p q h (u ∷ ts) t i n y =
     grind (arith, has_cases u ts t i, cases_Bool, h u, count_more p q h ts, count_less p q h ts t)
 
-not_true : (b : Bool) → (b ≡ true → ⊥) → not b ≡ true
-not_true b h = grind (arith, cases_Bool b)
-
-below_limit : (u : ℕ) → (104000 ≤ u → ⊥) → nat_lt u 104000 ≡ true
-below_limit u h = grind (arith, cases_lt u 104000, lt-ltb)
-
 pub sees_by_limits : SeesByLimits
 sees_by_limits ts t among least most seen near =
     record {
       inside = λ k v s. count_more (λ u. not (is_within u (middle k) (seen v))) (λ u. nat_lt u 104000)
-          (λ u out. below_limit u (λ le. let is = ap not (inside_within k v (seen v) (near v) s u le) in cc (is, out))) ts;
+          (λ u out. grind (arith, cases_lt u 104000, lt-ltb, inside_within k v (seen v) (near v) s u)) ts;
       outside = λ k v lt b. count_less (λ u. nat_lt u 104000) (λ u. not (is_within u (middle k) (seen v)))
-          (λ u few. not_true _ (beyond_exceeds k v (seen v) (near v) lt b u (omega (arith, ltb-true u 104000 few)))) ts t among
-          (le-ltb t 104000 least) (not_true _ (beyond_exceeds k v (seen v) (near v) lt b t most));
+          (λ u few. beyond_exceeds k v (seen v) (near v) lt b u (omega (arith, ltb-true u 104000 few))) ts t among
+          (le-ltb t 104000 least) (beyond_exceeds k v (seen v) (near v) lt b t most);
     }

@@ -62,10 +62,7 @@ module _ (D : DirectionReceiver) (M : Map) (t : Lrp) (x : ℕ) (d : Describes M 
       ]
 
   own_best : (y : ℕ) → IsTrue (has_line M y) → IsFalse (D.prefers (rating_by D.by t (leg M y)) (rating_by D.by t (leg M x)))
-  own_best y h = elim (cases_eq y x) [
-    | inl same ↦ grind (arith, same, cases_Bool, D.strict)
-    | inr other ↦ D.strict _ _ (preferred y h other)
-  ]
+  own_best y h = grind (arith, cases_eq y x, cases_Bool, D.strict, preferred y h)
 
   -- so a receiver chooses it, and no other
   takes_own : (y : ℕ) → TakesByDirection D M t y ↔ (y ≡ x)

@@ -27,21 +27,16 @@ module _ (M : Map) (m : IsMap M) (s limit : ℕ) (dist : ℕ → Option ℕ) (tr
       let long = dm_of-append M front (y ∷ []) in (
         c.0,
         c.1,
-        elim [
-          | inl lt ↦ elim c.2 [ inl strict ↦ absurd (omega arith) | inr tie ↦ absurd (omega arith) ]
-          | inr same ↦ elim c.2 [
-            | inl strict ↦ absurd (omega arith)
-            | inr tie ↦ elim (cases_eq (end M y) s) [
-              | inl at ↦ grind (arith, nothing_below_nil)
-              | inr off ↦
-                  let p = l.steps (end M y) c.0 c.1 off in
-                  elim (last_decides front y (end M y) p.0 p.1 same.1) [
-                    | inl lt ↦ absurd (omega (arith, tie.1 p.0 (trace (start M p.0)) p.1))
-                    | inr q ↦ fine.2 (inr (omega arith, coe 1 0 (i. FirstSmaller (reverse front) (reverse (trace (start M (q.0 i))))) q.1))
-                  ]
-            ]
-          ]
-        ],
+        λ b. grind (
+          arith,
+          b,
+          c.2,
+          cases_eq (end M y) s,
+          nothing_below_nil,
+          last_decides front y (end M y),
+          l.steps (end M y) c.0 c.1,
+          fine.2,
+        ),
       )
 
   fine_on : (ys : List ℕ) (u v : ℕ) (front : List ℕ) → Fine u front → IsRoute M u v ys →

@@ -238,8 +238,7 @@ number_known : (M : Map) (j d : ℕ) → j < length (lines_where M (λ _. true))
     IsTrue (has_line M (get_or (lines_where M (λ _. true)) j d))
 number_known M j d lt =
     let xs = lines_where M (λ _. true) in
-    let there : has xs (get_or xs j d) ≡ true = ap (has xs) (get_or_default xs j d 0 lt) ∙ has_index xs j lt in
-    grind (arith, has-lines_where M (λ _. true) (get_or xs j d))
+    grind (arith, get_or_default xs j d 0 lt, has_index xs j lt, has-lines_where M (λ _. true) (get_or xs j d))
 
 pub every_candidate : (M : Map) (f : ℕ × Leg → Bool) →
     ((x : ℕ) → IsTrue (has_line M x) → f (x, leg M x) ≡ true) → IsTrue (list_all f (candidates M))

@@ -9,6 +9,7 @@ ghost use Rattle.olr_laws.specs.ReceiverLaws;
 ghost use Rattle.olr_laws.specs.Rows.{Gives, legs1, leg10, reference1, reference2, bytes1, offset_bytes_of};
 
 /// A path has exactly one answer on a map, and the reference of an answer fits its bits.
+#[tactic(auto, using(olr_spec::proofs::Facts::one_start, olr_spec::proofs::Facts::one_end, olr_spec::proofs::Facts::one_next, olr_spec::proofs::Facts::one_follow, olr_spec::proofs::Facts::one_answer_with, olr_spec::proofs::DecideLemmas::some_answer_with, olr_spec::proofs::FitLemmas::encoded_fits))]
 pub fn laws_of_answers()
     ensures one_start_run { Laws.OneStartRun }
     ensures one_end_run { Laws.OneEndRun }

@@ -77,6 +77,7 @@ pub fn rows_fork()
 
 /// Directions beside the margin of sector 4, which is from 42.1875 to 59.0625 degrees, and at most 6 degrees from its
 /// middle. Scores by 6, 12 and 18 degrees don't tell directions in a sector apart; whole degrees tell five.
+#[tactic(auto, using(crate::proofs::ForkLemmas::by_degrees, crate::proofs::ForkLemmas::by_scores))]
 pub fn rows_margin()
     ensures beyond { Gives (is_beyond 4) ((vector (pos 906347) (pos 1000000), false)
         ∷ (vector (pos 906346) (pos 1000000), true)
