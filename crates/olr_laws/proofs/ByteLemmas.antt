@@ -28,13 +28,11 @@ read24 : (a b c : ℕ) → a < 256 → b < 256 → c < 256 → (z : ℤ) × IsTr
 read24 a b c la lb lc = grind (arith, signed_of 8388607 (65536 * a + 256 * b + c))
 
 read_attrs : (a b c : ℕ) → a < 64 → b < 256 → c < 256 → (t : Attrs) × AreAttrs t × (attr_bytes t ≡ a ∷ b ∷ c ∷ [])
-read_attrs a b c la lb lc =
-    let p : 8 * (a / 8) + a % 8 ≡ a = omega arith in
-    let q : 32 * (b / 32) + b % 32 ≡ b = omega arith in (
-      record { frc = a / 8; fow = a % 8; lfrc = b / 32; bearing = b % 32; dnp = c },
-      record { frc = omega arith; fow = omega arith; lfrc = omega arith; bearing = omega arith; dnp = lc },
-      λ i. p i ∷ q i ∷ c ∷ [],
-    )
+read_attrs a b c la lb lc = (
+  record { frc = a / 8; fow = a % 8; lfrc = b / 32; bearing = b % 32; dnp = c },
+  record { frc = omega arith; fow = omega arith; lfrc = omega arith; bearing = omega arith; dnp = lc },
+  grind arith,
+)
 
 read_first : (a b c d e f g h k : ℕ) (t : List ℕ) → AreBytes (a ∷ b ∷ c ∷ d ∷ e ∷ f ∷ g ∷ h ∷ k ∷ t) → g < 64 → (p : First)
     × IsFirst p × (first_bytes p ≡ a ∷ b ∷ c ∷ d ∷ e ∷ f ∷ g ∷ h ∷ k ∷ [])

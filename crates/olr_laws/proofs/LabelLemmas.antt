@@ -1,5 +1,5 @@
 -- Labels that no line improves are those of shortest paths.
-use Rattle.olr_spec.proofs.Common.{refl, ◌⊎◌, inl, inr, ◌≡◌, ℕ, ◌+◌, List, ◌∷◌, ◌++◌, reverse, ◌<◌, ◌≤◌, Option, Some, IsTrue}
+use Rattle.olr_spec.proofs.Common.{refl, ◌⊎◌, ◌≡◌, ℕ, ◌+◌, List, ◌∷◌, ◌++◌, reverse, ◌<◌, ◌≤◌, Option, Some, IsTrue}
 use Rattle.olr_spec.proofs.Common.{[], sym, subst, arith, append-nil, append_assoc, cases_lt, cases_eq, Map, IsMap, has_line}
 use Rattle.olr_spec.proofs.Common.{start, end, dm, IsRoute, dm_of, FirstSmaller, PrecedesInTieOrder, Least}
 use Rattle.olr_spec.proofs.Facts.{dm_of-append, nothing_below_nil, not_before_itself}

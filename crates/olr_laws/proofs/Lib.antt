@@ -6,8 +6,6 @@ pub mod MarginRowLemmas
 pub mod AngleLemmas
 pub mod DirectionLemmas
 pub mod RowLemmas
-pub mod MorningLemmas
-pub mod ForkLemmas
 pub mod CommandLemmas
 pub mod RunLemmas
 mod AmbiguityLemmas

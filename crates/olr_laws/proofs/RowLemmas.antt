@@ -1,14 +1,25 @@
--- A path of a worked row, to which nothing is added: its answer, and its lines at the LRPs.
-use Rattle.olr_spec.proofs.Common.{◌≡◌, ℕ, zero, suc, ◌+◌, ◌<◌, Bool, true, false, List, [], ◌∷◌, ◌++◌, refl, sym, ap, ◌∙◌}
-use Rattle.olr_spec.proofs.Common.{subst, IsTrue, arith, Some, None, cond, append-nil, add-zero, Map, IsMap, start, end}
-use Rattle.olr_spec.proofs.Common.{passing, first, last, dm_of, Path, StartRun, EndRun, LongestStart, LongestEnd, Tried}
-use Rattle.olr_spec.proofs.Common.{extended_path, is_path, path_fault, Follow, Points, Encodes, Encoding, Leg, leg, legs}
-use Rattle.olr_spec.proofs.Common.{answer_by_points, Option, Side, Refusal, Refused, MatchOption, Reference, Measure}
-use Rattle.olr_spec.proofs.Common.{candidates, option_map, slice_get, kept_points, is_nearest, has_no_twin, cases_Bool}
-use Rattle.olr_spec.proofs.Facts.{path_at}
-use Rattle.olr_spec.specs.Receiver.{Outgoing, Incoming, last_number, decoded_coord}
-use Rattle.olr_spec.specs.Recovery.{IsLineAt, line_by, DistinctAt}
-use Rattle.olr_laws.specs.Directions.{DistinctByDirection, stands_out}
+-- The worked paths on their maps: a path to which nothing is added, its answer, and its lines at the LRPs.
+use Rattle.olr_spec.proofs.Common.{◌≡◌, LongestStart, extended_path, answer_by_points, MatchOption, kept_points, UniqueShortest}
+use Rattle.olr_spec.proofs.Common.{ℕ, IsTrue, EndRun, Follow, Points, Option, Refused, Measure, nat_le, To_end, IsRoute, nat_lt}
+use Rattle.olr_spec.proofs.Common.{Bool, add-zero, StartRun, Reference, slice_get, cases_Bool, Candidate, reference, IsWeighted}
+use Rattle.olr_spec.proofs.Common.{true, List, ◌++◌, refl, subst, arith, Some, IsMap, start, first, dm_of, Tried, up_to, fit16}
+use Rattle.olr_spec.proofs.Common.{false, is_path, Encodes, Encoding, Refusal, leb-true, list_all, To_valid, not-true, has_line}
+use Rattle.olr_spec.proofs.Common.{[], ap, ◌+◌, ◌<◌, ◌≤◌, dm, not, has}
+use Rattle.olr_spec.proofs.Common.{◌∷◌, sym, ◌∙◌, None, cond, Map, end, last, Path, Leg, leg, legs, Side, zero, suc, ◌&&◌, ints}
+use Rattle.olr_spec.proofs.Common.{append-nil, passing, LongestEnd, path_fault, candidates, option_map, is_nearest, has_no_twin}
+use Rattle.olr_spec.proofs.Facts.{path_at, empty_unique}
+use Rattle.olr_spec.specs.Receiver.{decoded_coord, Outgoing, Incoming, Lrp, lrp_at, Rating}
+use Rattle.olr_spec.specs.Recovery.{IsLineAt, line_by, DistinctAt, Distinct, are_cosines, is_cosine}
+use Rattle.olr_laws.specs.Directions.{stands_out, exceeded, rating_by, weighted, Differences}
+use Rattle.olr_laws.specs.Directions.{DistinctByDirection, DirectionReceiver, TakesByDirection, SeesDirections, count_where}
+use Rattle.olr_laws.specs.Rows.{leg10, leg20, leg30, leg99, reference1, legs1, morning_lines, axes_sum, cosine, by_cosine}
+use Rattle.olr_laws.specs.MapRows.{morning_map, morning_path, morning_nodes, morning_records, fork_records, fork_reference}
+use Rattle.olr_laws.specs.MapRows.{fork_map, fork_path, fork_nodes, fork_lines, fork10, fork11, degrees10, TakesOther}
+use Rattle.olr_laws.proofs.MapLemmas.{sound, passing_is, candidates_are, IsRoad, long, leg_in, has_line_is, leg_is, each_line}
+use Rattle.olr_laws.proofs.MapLemmas.{road}
+use Rattle.olr_laws.proofs.ReceiverLemmas.{some_weighted, apart}
+use Rattle.olr_laws.proofs.AngleLemmas.{sees_by_limits}
+use Rattle.olr_laws.proofs.DirectionLemmas.{by_weights}
 
 -- ---- ends at valid nodes
 
@@ -33,16 +44,7 @@ cond_same : (b : Bool) (xs : List ℕ) → cond b xs xs ≡ xs
 cond_same b xs = grind (arith, cases_Bool b)
 
 not_extended : (M : Map) (P : Path) → extended_path M P [] [] ≡ P
-not_extended M P =
-    let from = cond_same (passing M (start M (first P.lines))) [] in
-    let to = λ (xs : List ℕ). cond_same (passing M (end M (last ((xs ++ P.lines) ++ [])))) [] in
-    let whole : extended_path M P [] [] ≡ record { lines = P.lines ++ []; pos = P.pos + 0; neg = P.neg + 0 } =
-    λ i. record {
-      lines = (from i ++ P.lines) ++ to (from i) i;
-      pos = P.pos + dm_of M (from i);
-      neg = P.neg + dm_of M (to (from i) i);
-    } in
-    whole ∙ (λ i. record { lines = append-nil P.lines i; pos = add-zero P.pos i; neg = add-zero P.neg i })
+not_extended M P = grind (arith, cond_same, append-nil, add-zero)
 
 -- ---- the row
 
@@ -116,24 +118,253 @@ module _ (M : Map) (P : Path) (js : List ℕ) (gs : List Leg) (cs : List (ℕ ×
         IsTrue (stands_out far slack s (decoded_coord r k) x (leg M x) (candidates M))
     stands_at slack = holds (stands_out far slack s (decoded_coord r k))
 
-  -- the path's line at LRP k is line y, which is g and stands out
-  abbrev Stands : Measure → ℕ → Side → ℕ → ℕ → Leg → Type 0
-  Stands far slack s k y g =
-      (option_map (line_by s P.lines) (slice_get (kept_points gs P.pos P.neg js) k) ≡ Some y) × (leg M y ≡ g)
-      × (stands_out far slack s (decoded_coord r k) y g cs ≡ true)
+-- ---- the first worked path: the lines 10, 20 and 30 with three LRPs. Line 99, another line from the start of line 20 to its end,
+-- is shorter
 
-  -- three LRPs, at each of which the path's line stands out
-  pub by_direction : (far : Measure) (slack : ℕ) (x y z : ℕ) (f g h : Leg) → last_number r ≡ 2 → Stands far slack Outgoing 0 x f →
-      Stands far slack Outgoing 1 y g → Stands far slack Incoming 2 z h → DistinctByDirection far slack M P r
-  by_direction far slack x y z f g h two a b c =
-      record {
-        outgoing = out;
-        incoming = subst (λ (k : ℕ). (x : ℕ) → IsLineAt M P Incoming k x → IsTrue (stands_out far slack Incoming (decoded_coord r k) x (leg M x) (candidates M)))
-            (sym two) (stands_at Incoming 2 z h c.0 c.1 far slack c.2);
-      }
-    where
-      out : (k v : ℕ) → k < last_number r → IsLineAt M P Outgoing k v →
-          IsTrue (stands_out far slack Outgoing (decoded_coord r k) v (leg M v) (candidates M))
-      out zero v lt = stands_at Outgoing 0 x f a.0 a.1 far slack a.2 v
-      out (suc zero) v lt = stands_at Outgoing 1 y g b.0 b.1 far slack b.2 v
-      out (suc (suc k)) v lt = absurd (omega (arith, two))
+abbrev M : Map
+M = morning_map
+
+abbrev Lines : List ℕ
+Lines = 10 ∷ 20 ∷ 30 ∷ []
+
+-- ---- the map
+
+pub morning_sound : IsMap morning_map
+morning_sound = sound morning_nodes morning_records tt tt refl refl
+
+pub morning_candidates : candidates morning_map ≡ morning_lines
+morning_candidates = candidates_are morning_nodes morning_records tt tt
+
+road10 : IsRoad M 10 leg10 1 2
+road10 = road morning_nodes morning_records tt tt 10 1 2 (refl, refl, refl)
+
+road20 : IsRoad M 20 leg20 2 3
+road20 = road morning_nodes morning_records tt tt 20 2 3 (refl, refl, refl)
+
+road30 : IsRoad M 30 leg30 3 4
+road30 = road morning_nodes morning_records tt tt 30 3 4 (refl, refl, refl)
+
+road99 : IsRoad M 99 leg99 2 3
+road99 = road morning_nodes morning_records tt tt 99 2 3 (refl, refl, refl)
+
+lengths : (dm M 10 ≡ 5610) × (dm M 20 ≡ 2000) × (dm M 30 ≡ 740) × (dm M 99 ≡ 1500)
+lengths = (long road10, long road20, long road30, long road99)
+
+-- ---- the LRPs
+
+by_side : IsRoute M (end M 10) (start M 30) (99 ∷ [])
+by_side = (road99.known, road99.from ∙ sym road10.to, road99.to ∙ sym road30.from)
+
+not_over : ¬ UniqueShortest M (end M 10) (start M 30) (20 ∷ [])
+not_over u = omega (arith, u.others (99 ∷ []) by_side (λ e. absurd cc), lengths.1, lengths.3)
+
+at_most_one : (k : ℕ) → Candidate M Lines 0 k → k ≤ 1
+at_most_one zero c = omega arith
+at_most_one (suc zero) c = omega arith
+at_most_one (suc (suc zero)) c = absurd (not_over (c.covered (omega arith)))
+at_most_one (suc (suc (suc zero))) c = absurd (not_over (c.covered (omega arith)))
+at_most_one (suc (suc (suc (suc k)))) c = absurd (omega (arith, c.upto))
+
+none_between : (v w u : ℕ) → w ≡ u → v ≡ u → UniqueShortest M v w []
+none_between v w u to from = subst (λ (v : ℕ). UniqueShortest M v w []) (to ∙ sym from) (empty_unique M morning_sound w)
+
+first_leg : Candidate M Lines 0 1
+first_leg =
+    let covered = none_between (end M 10) (start M 20) 2 road20.from road10.to in
+    record {
+      after = omega arith;
+      upto = omega arith;
+      covered = λ _. covered;
+      near = omega (arith, lengths.0);
+      fits = λ i. fit16 (road10.is i).begin (road20.is i).begin;
+    }
+
+last_leg : Candidate M Lines 1 3
+last_leg =
+    let covered = none_between (end M 20) (start M 30) 3 road30.from road20.to in
+    record {
+      after = omega arith;
+      upto = omega arith;
+      covered = λ _. covered;
+      near = omega (arith, lengths.1, lengths.2);
+      fits = λ i. fit16 (road20.is i).begin (road30.is i).finish;
+    }
+
+follows : Follow M Lines 0 (1 ∷ 3 ∷ [])
+follows = (
+  To_valid (λ c. let few : 3 ≤ 1 = at_most_one 3 c in omega arith) (record {
+    holds = (first_leg, ap (passing M) road20.from ∙ passing_is morning_nodes morning_records tt tt 2);
+    others = λ k c. at_most_one k c.0;
+  }),
+  (To_end refl last_leg, λ j c. omega (arith, c.after, c.upto)),
+)
+
+no_fault : path_fault M morning_path ≡ None
+no_fault =
+    let longer : nat_le (dm M 10 + (dm M 20 + (dm M 30 + 0))) 1500 ≡ false =
+    grind (arith, lengths.0, leb-true, cases_Bool (nat_le (dm M 10 + (dm M 20 + (dm M 30 + 0))) 1500)) in
+    simp (road10.known, road20.known, road30.known, road10.to, road20.from, road20.to, road30.from, longer)
+
+along : legs M Lines ≡ legs1
+along i = road10.is i ∷ road20.is i ∷ road30.is i ∷ []
+
+morning_row : IsRow M morning_path (1 ∷ 3 ∷ []) legs1 morning_lines reference1
+morning_row =
+    record {
+      sound = morning_sound;
+      is = refl;
+      none = no_fault;
+      starts = ap (passing M) road10.from ∙ passing_is morning_nodes morning_records tt tt 1;
+      ends = ap (passing M) road30.to ∙ passing_is morning_nodes morning_records tt tt 4;
+      follow = follows;
+      along = along;
+      all = morning_candidates;
+      answer = λ i. Points (reference (along i) 1500 0 (1 ∷ 3 ∷ []));
+    }
+
+-- ---- the answer
+
+pub morning_answer : Encodes morning_map morning_path (Points reference1)
+morning_answer = encodes M _ _ _ _ _ morning_row
+
+pub morning_distinct : Distinct axes_sum morning_map morning_path reference1
+morning_distinct =
+    record { outgoing = out; incoming = distinct_at M _ _ _ _ _ morning_row Incoming 2 30 leg30 refl road30.is axes_sum refl refl }
+  where
+    out : (k : ℕ) → k < 2 → DistinctAt axes_sum morning_map morning_path Outgoing k (decoded_coord reference1 k)
+    out zero lt = distinct_at M _ _ _ _ _ morning_row Outgoing 0 10 leg10 refl road10.is axes_sum refl refl
+    out (suc zero) lt = distinct_at M _ _ _ _ _ morning_row Outgoing 1 20 leg20 refl road20.is axes_sum refl refl
+    out (suc (suc k)) lt = absurd (omega arith)
+
+pub morning_by_direction : DistinctByDirection axes_sum 10000000 morning_map morning_path reference1
+morning_by_direction =
+    record { outgoing = out; incoming = stands_at M _ _ _ _ _ morning_row Incoming 2 30 leg30 refl road30.is axes_sum 10000000 refl }
+  where
+    out : (k x : ℕ) → k < 2 → IsLineAt M morning_path Outgoing k x →
+        IsTrue (stands_out axes_sum 10000000 Outgoing (decoded_coord reference1 k) x (leg M x) (candidates M))
+    out zero x lt = stands_at M _ _ _ _ _ morning_row Outgoing 0 10 leg10 refl road10.is axes_sum 10000000 refl x
+    out (suc zero) x lt = stands_at M _ _ _ _ _ morning_row Outgoing 1 20 leg20 refl road20.is axes_sum 10000000 refl x
+    out (suc (suc k)) x lt = absurd (omega arith)
+
+-- between 0.64 and 1 at each end of a line
+pub morning_cosines : are_cosines 64 100 1000000 cosine morning_map reference1 ≡ true
+morning_cosines =
+    ap (λ (cs : List (ℕ × Leg)). list_all (λ k. list_all (λ c. is_cosine 64 100 1000000 (cosine (decoded_coord reference1 k) c.1.begin)
+    && is_cosine 64 100 1000000 (cosine (decoded_coord reference1 k) c.1.finish)) cs) (up_to 3)) morning_candidates
+
+pub morning_weighted : IsWeighted 64 100 1000000 by_cosine morning_map reference1
+morning_weighted = some_weighted 64 100 1000000 cosine morning_map reference1 (omega arith) (omega arith) morning_cosines
+
+-- ---- two lines in one sector, of other classes
+
+line10 : IsRoad fork_map 10 fork10 1 2
+line10 = road fork_nodes fork_records tt tt 10 1 2 (refl, refl, refl)
+
+leg_fits : Candidate fork_map (10 ∷ []) 0 1
+leg_fits =
+    record {
+      after = omega arith;
+      upto = omega arith;
+      covered = λ lt. absurd (omega arith);
+      near = omega (arith, long line10);
+      fits = λ i. fit16 (line10.is i).begin (line10.is i).finish;
+    }
+
+pub fork_candidates : candidates fork_map ≡ fork_lines
+fork_candidates = candidates_are fork_nodes fork_records tt tt
+
+fork_row : IsRow fork_map fork_path (1 ∷ []) (fork10 ∷ []) fork_lines fork_reference
+fork_row =
+    record {
+      sound = sound fork_nodes fork_records tt tt refl refl;
+      is = refl;
+      none = simp (line10.known, long line10);
+      starts = ap (passing fork_map) line10.from ∙ passing_is fork_nodes fork_records tt tt 1;
+      ends = ap (passing fork_map) line10.to ∙ passing_is fork_nodes fork_records tt tt 2;
+      follow = (To_end refl leg_fits, λ j c. omega (arith, c.after, c.upto));
+      along = λ i. line10.is i ∷ [];
+      all = fork_candidates;
+      answer = λ i. Points (reference (line10.is i ∷ []) 0 0 (1 ∷ []));
+    }
+
+pub fork_answer : Encodes fork_map fork_path (Points fork_reference)
+fork_answer = encodes fork_map _ _ _ _ _ fork_row
+
+pub fork_distinct : Distinct axes_sum fork_map fork_path fork_reference
+fork_distinct =
+    record {
+      outgoing = λ k lt. let first : 0 ≡ k = omega arith in
+          subst (λ (k : ℕ). DistinctAt axes_sum fork_map fork_path Outgoing k (decoded_coord fork_reference k)) first
+          (distinct_at fork_map _ _ _ _ _ fork_row Outgoing 0 10 fork10 refl line10.is axes_sum refl refl);
+      incoming = distinct_at fork_map _ _ _ _ _ fork_row Incoming 1 10 fork10 refl line10.is axes_sum refl refl;
+    }
+
+-- ---- a receiver by degrees
+
+sees : (ts : List ℕ) → IsTrue (has ts 105104) → SeesDirections (exceeded ts) (count_where (λ u. nat_lt u 104000) ts)
+sees ts six =
+    sees_by_limits ts 105104 six (omega arith) (omega arith) (λ v. v)
+    (λ v. record { east = grind (arith, ints); north = grind (arith, ints) })
+
+pub by_scores : SeesDirections (exceeded (105104 ∷ 212557 ∷ 324920 ∷ [])) 0
+by_scores = sees (105104 ∷ 212557 ∷ 324920 ∷ []) refl
+
+pub by_degrees : SeesDirections (exceeded degrees10) 5
+by_degrees = sees degrees10 refl
+
+pub nearest_same : (a b : ℕ) → apart a a ≤ apart a b
+nearest_same a b = omega arith
+
+abbrev equal : Rating
+equal = record { far = 1; frc = 1; fow = 1; bearing = 1 }
+
+abbrev pub by_tens : Differences
+by_tens =
+    record {
+      far = axes_sum;
+      slack = 5;
+      reach = 5;
+      frc_apart = apart;
+      fow_apart = apart;
+      bearing_apart = λ c. exceeded degrees10;
+      frcs = nearest_same;
+      fows = nearest_same;
+      bearings = λ c. by_degrees;
+    }
+
+abbrev pub by_sum : DirectionReceiver
+by_sum = by_weights by_tens equal (omega arith, omega arith, omega arith, omega arith) (omega arith)
+
+abbrev at_first : Lrp
+at_first = lrp_at fork_reference 0 fork_reference.first.attrs
+
+abbrev sum_of : Leg → ℕ
+sum_of g = weighted equal (rating_by by_tens at_first g)
+
+abbrev leg_of : ℕ → Leg
+leg_of x = leg_in fork_nodes fork_records x
+
+leg_of_is : (x : ℕ) → leg fork_map x ≡ leg_of x
+leg_of_is = leg_is fork_nodes fork_records tt tt
+
+has11 : IsTrue (has_line fork_map 11)
+has11 = has_line_is fork_nodes fork_records tt tt 11
+
+takes11 : TakesByDirection by_sum fork_map at_first 11
+takes11 =
+    record {
+      known = has11;
+      best = λ y h. (λ i. nat_lt (sum_of (leg_of_is y i)) (sum_of (leg_of_is 11 i)))
+          ∙ not-true (nat_lt (sum_of (leg_of y)) (sum_of fork11))
+          (each_line fork_nodes fork_records tt tt (λ y. not (nat_lt (sum_of (leg_of y)) (sum_of fork11))) refl y h);
+    }
+
+not10 : ¬ TakesByDirection by_sum fork_map at_first 10
+not10 k =
+    let worse : nat_lt (sum_of (leg fork_map 11)) (sum_of (leg fork_map 10)) ≡ true =
+    λ i. nat_lt (sum_of (leg_of_is 11 i)) (sum_of (leg_of_is 10 i)) in
+    let best = k.best 11 has11 in
+    cc (worse, best)
+
+pub takes_other : TakesOther
+takes_other = (by_sum, refl, refl, takes11, not10)

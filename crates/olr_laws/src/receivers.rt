@@ -53,7 +53,7 @@ pub fn laws_of_ambiguity()
 /// The first worked path on its map: the answer is its reference, which is distinct for both kinds of receivers; the
 /// slack is 10,000,000 units, 3.4 m of latitude. By the cosine of the latitude,
 /// which is more than 64/100 there, the weighted sum is such a measure as the law of the nearest node asks for.
-#[tactic(auto, using(crate::proofs::MorningLemmas::morning_sound, crate::proofs::MorningLemmas::morning_candidates, crate::proofs::MorningLemmas::morning_answer, crate::proofs::MorningLemmas::morning_distinct, crate::proofs::MorningLemmas::morning_by_direction, crate::proofs::MorningLemmas::morning_cosines, crate::proofs::MorningLemmas::morning_weighted))]
+#[tactic(auto, using(crate::proofs::RowLemmas::morning_sound, crate::proofs::RowLemmas::morning_candidates, crate::proofs::RowLemmas::morning_answer, crate::proofs::RowLemmas::morning_distinct, crate::proofs::RowLemmas::morning_by_direction, crate::proofs::RowLemmas::morning_cosines, crate::proofs::RowLemmas::morning_weighted))]
 pub fn rows_morning()
     ensures sound { IsMap morning_map }
     ensures lines { candidates morning_map ≡ morning_lines }
@@ -66,7 +66,7 @@ pub fn rows_morning()
 
 /// Two lines from one node in one sector, of other classes: the path along one of them is distinct, and yet a receiver
 /// that compares directions takes the other one. To such receivers it doesn't stand out.
-#[tactic(auto, using(crate::proofs::ForkLemmas::fork_candidates, crate::proofs::ForkLemmas::fork_answer, crate::proofs::ForkLemmas::fork_distinct, crate::proofs::ForkLemmas::takes_other))]
+#[tactic(auto, using(crate::proofs::RowLemmas::fork_candidates, crate::proofs::RowLemmas::fork_answer, crate::proofs::RowLemmas::fork_distinct, crate::proofs::RowLemmas::takes_other))]
 pub fn rows_fork()
     ensures lines { candidates fork_map ≡ fork_lines }
     ensures answer { Encodes fork_map fork_path (Points fork_reference) }
@@ -77,7 +77,7 @@ pub fn rows_fork()
 
 /// Directions beside the margin of sector 4, which is from 42.1875 to 59.0625 degrees, and at most 6 degrees from its
 /// middle. Scores by 6, 12 and 18 degrees don't tell directions in a sector apart; whole degrees tell five.
-#[tactic(auto, using(crate::proofs::ForkLemmas::by_degrees, crate::proofs::ForkLemmas::by_scores))]
+#[tactic(auto, using(crate::proofs::RowLemmas::by_degrees, crate::proofs::RowLemmas::by_scores))]
 pub fn rows_margin()
     ensures beyond { Gives (is_beyond 4) ((vector (pos 906347) (pos 1000000), false)
         ∷ (vector (pos 906346) (pos 1000000), true)

@@ -75,6 +75,7 @@ pub fn rows_input()
 {}
 
 /// Whole runs.
+#[tactic(auto, unfolding(csv::proofs::OnLiterals::csv_on_literals))]
 pub fn rows_runs()
     ensures all { Ran Outcomes false start_state (records_of input20) state20 output20 Some_refused }
     ensures stopped { Ran Outcomes true start_state (records_of input20) state20

@@ -35,7 +35,7 @@ returns-clause-all c =
           (state20, inl (ByState drop_none, refl), (state20, inl (refl, refl), (state20, inl (refl, refl), refl))),
         ),
       );
-      stops = (λ e. absurd cc, (λ e. absurd cc, (λ e. absurd cc, (λ e. absurd cc, (λ e. refl, tt)))));
+      stops = grind arith;
       all = inl refl;
       wrote = refl;
       ended = refl;
@@ -47,7 +47,7 @@ returns-clause-margin c =
     record {
       outcomes = Ok (Paths []) ∷ Ok (Records 1 (text_of_lines (codes "margin,50,1" ∷ []))) ∷ [];
       each = (with_fifty, inl (refl, refl), (with_fifty, inl (refl, refl), refl));
-      stops = (λ e. absurd cc, (λ e. absurd cc, tt));
+      stops = grind arith;
       all = inl refl;
       wrote = refl;
       ended = refl;
@@ -69,10 +69,6 @@ unfolding csv_on_literals digits
 returns-clause-stopped c =
     record { outcomes = first_two; each = each_two; stops = stops_two true; all = inr refl; wrote = refl; ended = refl }
 
-pub returns-clause-nothing : goal.returns-clause-nothing
-unfolding csv_on_literals digits
-returns-clause-nothing c = record { outcomes = []; each = refl; stops = tt; all = inl refl; wrote = refl; ended = refl }
-
 pub returns-clause-cut : goal.returns-clause-cut
 unfolding csv_on_literals digits
 returns-clause-cut c =
@@ -84,7 +80,3 @@ returns-clause-cut c =
           In_last refl (Ok (Paths []) ∷ []) (Err (Map_fault Node_exists)) (codes "fau")
           (codes "lt,3,NodeExists" ++ 10 ∷ []) refl refl (λ e. absurd cc) refl;
     }
-
-pub returns-clause-cut_at_once : goal.returns-clause-cut_at_once
-unfolding csv_on_literals digits
-returns-clause-cut_at_once c = grind arith
