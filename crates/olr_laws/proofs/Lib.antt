@@ -3,11 +3,9 @@ pub mod LabelLemmas
 pub mod ReceiverLemmas
 pub mod MapLemmas
 pub mod MarginRowLemmas
-pub mod AngleLemmas
 pub mod DirectionLemmas
 pub mod RowLemmas
 pub mod CommandLemmas
-pub mod RunLemmas
 mod AmbiguityLemmas
 mod NodeTestLemmas
 pub mod NamedObstacles
@@ -15,4 +13,4 @@ pub mod PartnerReceivers
 pub mod DependLemmas
 pub mod ShownLemmas
 pub mod LineLemmas
-pub mod LogLemmas
+pub mod RunLemmas

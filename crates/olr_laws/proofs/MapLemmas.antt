@@ -7,7 +7,7 @@ use Rattle.olr_spec.proofs.Facts.{has_number}
 use Rattle.std.specs.FinMap.{entries-from_sorted, get-from_sorted}
 use Rattle.std.specs.FinMap.Entries.{find, is_sorted}
 use Rattle.std.specs.Ordering.{eq_by_cmp}
-use Rattle.olr_laws.specs.MapRows.{map_of}
+use Rattle.olr_laws.specs.Rows.{map_of}
 use Rattle.olr_laws.proofs.ReceiverLemmas.{passed}
 
 -- the record of line x, the coordinate of node v, and whether v is a degree-two node, by the lists

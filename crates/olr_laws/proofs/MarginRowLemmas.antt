@@ -5,7 +5,7 @@ use Rattle.olr_spec.proofs.Common.{◌⊎◌, eqb-true, eq-eqb, CoveredWith, len
 use Rattle.olr_spec.specs.Margins.{counted, counted_dm}
 use Rattle.olr_spec.proofs.RouteLemmas.{positive}
 use Rattle.olr_spec.proofs.CountedLemmas.{counted_own, counted_other, counted_route}
-use Rattle.olr_laws.specs.MapRows.{fifty, row_nodes, roads, roads_records, roads_path, loop_map, loop_records, loop_path}
+use Rattle.olr_laws.specs.Rows.{fifty, row_nodes, roads, roads_records, roads_path, loop_map, loop_records, loop_path}
 use Rattle.olr_laws.proofs.MapLemmas.{sound, line_at_is, line_in, leg_in, each_line, IsRoad, long, road}
 
 -- a rival that is no longer

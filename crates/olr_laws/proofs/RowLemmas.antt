@@ -13,13 +13,12 @@ use Rattle.olr_spec.specs.Recovery.{IsLineAt, line_by, DistinctAt, Distinct, are
 use Rattle.olr_laws.specs.Directions.{stands_out, exceeded, rating_by, weighted, Differences}
 use Rattle.olr_laws.specs.Directions.{DistinctByDirection, DirectionReceiver, TakesByDirection, SeesDirections, count_where}
 use Rattle.olr_laws.specs.Rows.{leg10, leg20, leg30, leg99, reference1, legs1, morning_lines, axes_sum, cosine, by_cosine}
-use Rattle.olr_laws.specs.MapRows.{morning_map, morning_path, morning_nodes, morning_records, fork_records, fork_reference}
-use Rattle.olr_laws.specs.MapRows.{fork_map, fork_path, fork_nodes, fork_lines, fork10, fork11, degrees10, TakesOther}
+use Rattle.olr_laws.specs.Rows.{morning_map, morning_path, morning_nodes, morning_records, fork_records, fork_reference}
+use Rattle.olr_laws.specs.Rows.{fork_map, fork_path, fork_nodes, fork_lines, fork10, fork11, degrees10, TakesOther}
 use Rattle.olr_laws.proofs.MapLemmas.{sound, passing_is, candidates_are, IsRoad, long, leg_in, has_line_is, leg_is, each_line}
 use Rattle.olr_laws.proofs.MapLemmas.{road}
 use Rattle.olr_laws.proofs.ReceiverLemmas.{some_weighted, apart}
-use Rattle.olr_laws.proofs.AngleLemmas.{sees_by_limits}
-use Rattle.olr_laws.proofs.DirectionLemmas.{by_weights}
+use Rattle.olr_laws.proofs.DirectionLemmas.{sees_by_limits, by_weights}
 
 -- ---- ends at valid nodes
 

@@ -1,13 +1,14 @@
--- The values of the worked rows of commands and records.
+-- The values of the worked rows of commands, records and runs.
 use Rattle.std.specs.Prelude.{◌≡◌, ℕ, ℤ, pos, neg_ℤ, List, [], ◌∷◌, ◌++◌, ◌==◌, if◌then◌else◌, flat_map, map, codes, Option}
-use Rattle.std.specs.Prelude.{None, Some}
+use Rattle.std.specs.Prelude.{None, Some, false}
 use Rattle.std.specs.FinMap.{insert, empty}
 use Rattle.olr_spec.specs.Coordinates.{Coord}
 use Rattle.olr_spec.specs.Map.{empty_map, no_coord, Add_node, Add_line}
 use Rattle.olr_commands.specs.State.{no_content, after, State, Change, Command, Fault, On_map, Add_path}
 use Rattle.olr_records.specs.Records.{line_between, Read, read}
 use Rattle.olr_records.specs.ReplyText.{fault_text}
-use Rattle.olr_laws.specs.MapRows.{fifty, path_of}
+use Rattle.olr_laws.specs.Rows.{fifty, path_of}
+use Rattle.olr_run.specs.Options.{Options}
 
 -- a state with an open batch that holds these changes
 abbrev pub in_batch : List Change → State
@@ -69,3 +70,24 @@ changes1 =
     ∷ On_map (Add_line 10 (line_between 1 2 3 2 5610
     (record { at = 200; place = at (pos 2007698636800) (pos 16255673958400) } ∷ [])))
     ∷ Add_path (codes "a") (path_of (10 ∷ []) 1500 0) ∷ []
+
+-- ---- runs
+
+-- without arguments
+abbrev pub no_options : Options
+no_options = record { file = None; stop = false; lines = false; log = None; new = false; compact_at = None }
+
+-- a run of five records, four of them rejected
+abbrev pub input20 : List ℕ
+input20 =
+    text_of_lines (codes "node,1,0,0" ∷ codes "node,1,0,0" ∷ codes "drop-node,2" ∷ codes "node,3,180,0"
+    ∷ codes "node,x,0,0" ∷ [])
+
+abbrev pub output20 : List ℕ
+output20 =
+    text_of_lines (codes "ok,0" ∷ codes "fault,3,NodeExists" ∷ codes "fault,4,NoNode" ∷ codes "fault,2,Range" ∷ codes
+    "fault,1,Syntax" ∷ [])
+
+abbrev pub state20 : State
+state20 =
+    record { content = record no_content { map = record empty_map { nodes = insert empty 1 zero } }; batch = None }

@@ -1,10 +1,7 @@
 pub mod Rows
 pub mod Directions
 pub mod ReceiverLaws
-pub mod MapRows
 pub mod CommandLaws
 pub mod CommandRows
-pub mod RecordLaws
 pub mod RunLaws
-pub mod RunRows
 pub mod LogLaws

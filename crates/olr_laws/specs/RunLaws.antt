@@ -1,16 +1,49 @@
--- The laws of whole runs, and of inputs that are read one record a line.
-use Rattle.std.specs.Prelude.{◌≡◌, ℕ, Bool, List, [], ◌++◌, None, Err, IsOkAnd, ◌⊎◌, IsTrue, ◌==◌, true, false, ◌∷◌, map}
-use Rattle.csv.specs.Machine.{next_record}
-use Rattle.csv.specs.Reading.{Reached, default_config, strip_bom, records}
-use Rattle.csv.specs.declared.parser.State.{State as CsvState}
-use Rattle.olr_commands.specs.State.{Memory, Content, State, start_state, IsState, Syntax}
-use Rattle.olr_commands.specs.Reply.{Outcome, may_lack}
+-- The laws of records, of whole runs, and of inputs that are read one record a line.
+use Rattle.std.specs.Prelude.{◌≡◌, List, map, Ok, IsTrue, ℕ, Bool, [], ◌++◌, None, Err, IsOkAnd, ◌⊎◌, ◌==◌, true, false, ◌∷◌}
+use Rattle.std.specs.List.{concat, list_any}
+use Rattle.csv.specs.Reading.{records, default_config, strip_bom, Reached}
+use Rattle.olr_commands.specs.State.{Content, Change, Command, Make, is_recordable, State, start_state, step, HasCoords, Memory}
+use Rattle.olr_commands.specs.State.{IsState, Syntax}
+use Rattle.olr_commands.specs.RecordText.{fields_of_change, record_line}
 use Rattle.olr_records.specs.Records.{Field, read, HoldsList, Bad_form}
+use Rattle.olr_records.specs.Recorded.{has_record, HaveRecords, Recorded, IsRecorded, StaysRecorded}
+use Rattle.csv.specs.Machine.{next_record}
+use Rattle.csv.specs.declared.parser.State.{State as CsvState}
+use Rattle.olr_commands.specs.Reply.{Outcome, may_lack}
 use Rattle.olr_run.specs.Output.{RecordOutcome, Status, All_accepted, Outcomes, Ran, AllHadMemory, records_of, Builds}
-use Rattle.std.specs.List.{list_any}
 use Rattle.olr_records.specs.ReplyText.{outcome_text, fault_text}
 use Rattle.olr_input.specs.LineRecords.{HasNoEnd, EachIs, is_rejected, line_record, line_records, lines_of}
 use Rattle.csv.specs.declared.parser.State.TheVariants as st
+
+-- the coordinates that are read are in range
+abbrev pub CoordsRead : Type 0
+CoordsRead = (fields : List Field) (c : Command) → read fields ≡ Ok c → HasCoords c
+
+-- the record of a change is read as this change, and only such changes are read
+abbrev pub RecordsRead : Type 0
+RecordsRead = (x : Change) → IsTrue (has_record x) → read (fields_of_change x) ≡ Ok (Make x)
+
+abbrev pub ReadRecorded : Type 0
+ReadRecorded = (fields : List Field) (c : Command) → read fields ≡ Ok c → Recorded c
+
+-- csv splits the lines of records into their fields
+abbrev pub LinesSplit : Type 0
+LinesSplit =
+    (xs : List Change) → HaveRecords xs →
+    records default_config (strip_bom (concat (map record_line xs))) ≡ map fields_of_change xs
+
+-- from the empty register, commands that are read lead to contents that records can spell, which a dump accepts
+abbrev pub StartRecorded : Type 0
+StartRecorded = StaysRecorded start_state
+
+abbrev pub StepsRecorded : Type 0
+StepsRecorded =
+    (s t : State) (c : Command) → StaysRecorded s → Recorded c → step s c ≡ Ok t → StaysRecorded t
+
+abbrev pub RecordedDumps : Type 0
+RecordedDumps = (c : Content) → IsRecorded c → IsTrue (is_recordable c)
+
+-- ---- runs
 
 -- outcomes keep the register's state sound
 abbrev pub OutcomesKeep : Type 0

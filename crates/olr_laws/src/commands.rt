@@ -12,8 +12,7 @@ ghost use Rattle.olr_commands.specs.State.{Set_margin, Depends, Compact, Preview
 ghost use Rattle.olr_commands.specs.Reply.{Paths, Held, Records, Names, Obstacles, IsReply, takes_memory, may_lack};
 ghost use Rattle.olr_laws.specs.CommandLaws as Laws;
 ghost use Rattle.olr_laws.specs.CommandRows.{in_batch, path_a, with_a, with_fifty, with_node, text_of_lines};
-ghost use Rattle.olr_laws.specs.Rows.{Gives, AllGive};
-ghost use Rattle.olr_laws.specs.MapRows.{fifty, path_of};
+ghost use Rattle.olr_laws.specs.Rows.{Gives, AllGive, fifty, path_of};
 
 /// What commands preserve, and that a reply is determined.
 #[tactic(auto, using(crate::proofs::CommandLemmas::one_reply, crate::proofs::CommandLemmas::one_outcome, crate::proofs::CommandLemmas::some_reply, crate::proofs::CommandLemmas::previews_commit))]

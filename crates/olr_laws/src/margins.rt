@@ -6,8 +6,7 @@ ghost use Rattle.olr_spec.specs.Elsewhere.{suffices};
 ghost use Rattle.olr_spec.specs.Routes.{UniqueShortest};
 ghost use Rattle.olr_spec.specs.Points.{CoveredWith};
 ghost use Rattle.olr_laws.specs.ReceiverLaws;
-ghost use Rattle.olr_laws.specs.Rows.{Gives};
-ghost use Rattle.olr_laws.specs.MapRows.{fifty, roads, roads_path, loop_map, loop_path};
+ghost use Rattle.olr_laws.specs.Rows.{Gives, fifty, roads, roads_path, loop_map, loop_path};
 
 /// Where the lines of a route count longer and the route is the unique shortest path, each front of it is such a route;
 /// it is the unique shortest path of the map, and of another map, if this has no road that the first one lacks and the

@@ -7,13 +7,12 @@ ghost use Rattle.olr_spec.specs.Bearings.{vector};
 ghost use Rattle.olr_spec.specs.Encoding.{Encodes, Points};
 ghost use Rattle.olr_spec.specs.Receiver.{Outgoing, Incoming, candidates, decoded_coord, is_nearest, has_no_twin};
 ghost use Rattle.olr_spec.specs.Recovery.{Distinct, IsWeighted, are_cosines, are_spaced};
-ghost use Rattle.olr_laws.specs.Rows.{Gives, leg10, leg20, leg30, reference1, morning_lines, twin_lines, axes_sum};
-ghost use Rattle.olr_laws.specs.Rows.{cosine, by_cosine};
+ghost use Rattle.olr_laws.specs.Rows.{Gives, leg10, leg20, leg30, reference1, morning_lines, twin_lines, axes_sum, cosine};
+ghost use Rattle.olr_laws.specs.Rows.{by_cosine, morning_map, morning_path, fork_map, fork_path, fork_reference, fork_lines};
+ghost use Rattle.olr_laws.specs.Rows.{fork10, degrees10, TakesOther};
 ghost use Rattle.olr_laws.specs.ReceiverLaws;
 ghost use Rattle.olr_spec.specs.Directions.{is_beyond};
 ghost use Rattle.olr_laws.specs.Directions.{DistinctByDirection, SeesDirections, exceeded, is_within, middle, stands_out};
-ghost use Rattle.olr_laws.specs.MapRows.{morning_map, morning_path, fork_map, fork_path, fork_reference, fork_lines};
-ghost use Rattle.olr_laws.specs.MapRows.{fork10, degrees10, TakesOther};
 
 /// If the path's own line is distinct at each LRP, every receiver recovers the legs between the
 /// remaining LRPs; on another map without other roads whose lengths and classes are within the margin each leg is recovered

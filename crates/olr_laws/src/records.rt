@@ -13,10 +13,9 @@ ghost use Rattle.olr_commands.specs.Reply as reply;
 ghost use Rattle.olr_commands.specs.State as state;
 ghost use Rattle.olr_records.specs.Records.{line_between, read, Bad_form, Out_of_range};
 ghost use Rattle.olr_records.specs.ReplyText.{reply_text};
-ghost use Rattle.olr_laws.specs.RecordLaws as Laws;
-ghost use Rattle.olr_laws.specs.MapRows.{fifty, path_of};
+ghost use Rattle.olr_laws.specs.RunLaws as Laws;
+ghost use Rattle.olr_laws.specs.Rows.{fifty, path_of, Gives, AllGive, reference1, reference2};
 ghost use Rattle.olr_laws.specs.CommandRows.{at, zero, read_text, text_of_lines, AreFaultTexts, changes1};
-ghost use Rattle.olr_laws.specs.Rows.{Gives, AllGive, reference1, reference2};
 
 /// The coordinates in records are in range. The record of a change is read as this change, and only changes that have a
 /// record are read. The text of records is split into their fields. From the empty register, commands that are read lead

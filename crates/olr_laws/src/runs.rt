@@ -11,8 +11,7 @@ ghost use Rattle.olr_run.specs.Output.{All_accepted};
 ghost use Rattle.olr_input.specs.declared.ends.RunFault.TheVariants as fault;
 ghost use Rattle.olr_laws.specs.Rows.{AllGive};
 ghost use Rattle.olr_laws.specs.RunLaws as Laws;
-ghost use Rattle.olr_laws.specs.CommandRows.{text_of_lines, with_fifty};
-ghost use Rattle.olr_laws.specs.RunRows.{no_options, input20, output20, state20};
+ghost use Rattle.olr_laws.specs.CommandRows.{text_of_lines, with_fifty, no_options, input20, output20, state20};
 
 /// Outcomes keep the register's state sound. Apart from out of memory, the state at the start and the bytes that are
 /// read determine what is written, the status and the state at the end. Records that are taken one after another are

@@ -1,4 +1,4 @@
-use Rattle.olr_laws.proofs.LogLemmas.{next_continues, two_runs}
+use Rattle.olr_laws.proofs.RunLemmas.{next_continues, two_runs}
 use Rattle.olr_laws.proofs.logs.laws_of_logs.Goals as goal
 
 pub returns-clause-next : goal.returns-clause-next

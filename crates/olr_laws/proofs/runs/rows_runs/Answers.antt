@@ -7,9 +7,8 @@ use Rattle.std.specs.Prelude.{codes}
 use Rattle.std.specs.Fmt.{digits}
 use Rattle.olr_spec.specs.Map.{Node_exists, No_node, Add_node, Drop_node}
 use Rattle.olr_commands.specs.Reply.{Records}
-use Rattle.olr_laws.specs.CommandRows.{text_of_lines, with_fifty, zero}
+use Rattle.olr_laws.specs.CommandRows.{text_of_lines, with_fifty, zero, input20, state20}
 use Rattle.olr_run.specs.Output.{StopsAtFault}
-use Rattle.olr_laws.specs.RunRows.{input20, state20}
 use Rattle.olr_laws.proofs.runs.rows_runs.Goals as goal
 
 add_first : step start_state (Make (On_map (Add_node 1 zero))) ≡ Ok state20
