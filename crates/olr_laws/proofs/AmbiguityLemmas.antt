@@ -1,24 +1,29 @@
--- A string in whose way nothing stands is distinct for both kinds of receivers.
-use Rattle.olr_spec.proofs.Common.{◌≡◌, ◌≢◌, suc, ◌+◌, ◌*◌, ◌<◌, [], cond, List, ◌++◌, Some, refl, None, Path, legs, Side, ◌&&◌}
-use Rattle.olr_spec.proofs.Common.{ℕ, zero, Bool, true, ◌||◌, ◌==◌, arith, eq-eqb, ne_eqb, lt-ltb, le-ltb, IsMap, start, Points}
-use Rattle.olr_spec.proofs.Common.{◌≤◌, ◌⊎◌, ℤ, not, ◌∷◌, map, sym, ap, ◌∙◌, Map, has, end, Leg, leg}
-use Rattle.olr_spec.proofs.Common.{false, nat_lt, filter, length, IsTrue, or_left, line_at, is_path, Measure, node_on, list_any}
+-- A string in whose way nothing stands is distinct for both kinds of receivers; and where a node isn't farther by the test, there
+-- is a measure by which it isn't.
+use Rattle.olr_spec.proofs.Common.{◌≡◌, ◌≢◌, suc, ◌+◌, ◌*◌, ◌<◌, ◌||◌, ◌==◌, ◌≤◌, ◌⊎◌, not, ◌∷◌, map, sym, ◌∙◌, Map, ◌-ℤ◌, ints}
+use Rattle.olr_spec.proofs.Common.{[], ℕ, ℤ, ap, has, end, Leg, leg, ◌-◌, max, pos}
+use Rattle.olr_spec.proofs.Common.{cond, List, ◌++◌, Some, refl, None, Path, legs, Side, ◌&&◌, zero, Bool, true, false, Coord}
+use Rattle.olr_spec.proofs.Common.{arith, eq-eqb, ne_eqb, lt-ltb, le-ltb, IsMap, start, Points, nat_lt, filter, length, IsTrue}
+use Rattle.olr_spec.proofs.Common.{or_left, line_at, is_path, Measure, node_on, has_line, has_node, nat_abs, IsFalse, or_parts}
+use Rattle.olr_spec.proofs.Common.{list_any, option_map, cases_Bool, and_parts, path_fault, candidates, is_nearest, has_no_twin}
 use Rattle.olr_spec.proofs.Common.{slice_get, slice_index, list_any_at, extended_path, EncodingWith, kept_points, coordinate_on}
-use Rattle.olr_spec.proofs.Common.{option_map, cases_Bool, cases_eq, and_parts, path_fault, candidates, is_nearest, has_no_twin}
-use Rattle.olr_spec.proofs.Common.{or_cases, or_right, and_from, eqb-true, ltb-true, has_line, has_node, Reference, not-false}
+use Rattle.olr_spec.proofs.Common.{cases_eq, or_cases, or_right, and_from, eqb-true, ltb-true, Reference, not-false, ltb-false}
 use Rattle.olr_spec.specs.Margins.{Margin}
 use Rattle.olr_spec.specs.Receiver.{Outgoing, Incoming, sector_on, are_twins, decoded_coord, last_number}
-use Rattle.olr_spec.specs.Recovery.{line_by, IsLineAtWith, OwnLinesWith, own_lines, Weighted, DistinctWith}
+use Rattle.olr_spec.specs.Recovery.{line_by}
+use Rattle.olr_spec.specs.Recovery.{IsLineAtWith, OwnLinesWith, own_lines, Weighted, DistinctWith, lon_apart, lat_apart}
 use Rattle.olr_spec.specs.Directions.{direction_on, is_direction, is_beyond}
-use Rattle.olr_spec.specs.Ambiguity.{least_cosine, is_farther, usual_slack, is_outdone_for_all, lines_on, all_nodes, Obstacle}
-use Rattle.olr_spec.specs.Ambiguity.{is_twin_of, is_unclear, is_rival, obstacles_at, side_at, obstacles_from, obstacles}
+use Rattle.olr_spec.specs.Ambiguity.{least_cosine, is_farther, is_outdone_for_all, obstacles_at, obstacles_from, thousandths_up}
+use Rattle.olr_spec.specs.Ambiguity.{usual_slack, lines_on, all_nodes, is_twin_of, is_unclear, side_at, obstacles, cosine_up_to}
+use Rattle.olr_spec.specs.Ambiguity.{Obstacle, is_rival}
 use Rattle.olr_spec.proofs.Facts.{at_index, filter_has, exactly_in, exactly_out, has-all_nodes, known_record}
 use Rattle.olr_spec.proofs.FitLemmas.{by_answer}
 use Rattle.olr_spec.proofs.DecodedLemmas.{Kept}
 use Rattle.olr_spec.proofs.ReceiverLemmas.{same_path, size}
 use Rattle.olr_laws.specs.Directions.{AtEachLrp, is_outdone, stands_out, DistinctByDirectionWith}
-use Rattle.olr_laws.specs.ReceiverLaws.{IsWeightedByLatitude, ClearIsDistinct}
+use Rattle.olr_laws.specs.ReceiverLaws.{IsWeightedByLatitude, ClearIsDistinct, NoSharperTest}
 use Rattle.olr_laws.proofs.ReceiverLemmas.{got_index, every_candidate, outdone_of, same_place, IsOwn, own_lines_are, farther_by}
+use Rattle.std.proofs.Math.Nat.{div-le_of_le-mul, mul-le-mul_left}
 
 -- ---- lists without elements
 
@@ -223,3 +228,67 @@ module _ {g : Margin} (M : Map) (m : IsMap M) (P : Path) (is : IsTrue (is_path P
 pub clear_is_distinct : (g : Margin) → ClearIsDistinct g
 clear_is_distinct g M m P is r enc xs own none scale far w slack few =
     let p = by_answer M P r enc in distinct M m P is p.0 r p.1 xs own none scale far w slack few
+
+-- ---- no sharper test
+
+cosine_most : (lat : ℕ) → cosine_up_to lat ≤ 1000000
+cosine_most lat =
+    let m = thousandths_up lat in
+    let over : 980000 * (4 * (8100000000 - m * m)) ≤ 980000 * (32400000000 + m * m) = mul-le-mul_left 980000 (omega arith) in
+    let less = div-le_of_le-mul 980000 over in
+    omega arith
+
+-- the sum of both axes to the coordinate c, and the greater one to every other
+abbrev is_at : Coord → Coord → Bool
+is_at c v = nat_abs (v.lon -ℤ c.lon) == 0 && nat_abs (v.lat -ℤ c.lat) == 0
+
+abbrev far_from : Coord → Measure
+far_from c q v =
+    cond (is_at c v) (1000000 * lon_apart q v + 1000000 * lat_apart q v) (max (least_cosine q v * lon_apart q v) (1000000 * lat_apart q v))
+
+weighted_by : (n a b : ℕ) (here : Bool) → n ≤ 1000000 → (far : Measure) (q : ℤ × ℤ) (v : Coord) → lon_apart q v ≡ a → lat_apart q v ≡ b →
+    far q v ≡ cond here (1000000 * a + 1000000 * b) (max (n * a) (1000000 * b)) → Weighted n 1000000 1000000 far q v
+weighted_by n a b true h far q v ea eb e =
+    record { u = 1000000; least = omega arith; most = omega arith; by_lon = omega (arith, ea, e); by_lat = omega (arith, eb, e); by_both = omega (arith, ea, eb, e) }
+weighted_by n a b false h far q v ea eb e =
+    let east : n * lon_apart q v ≡ n * a = ap (λ (x : ℕ). n * x) ea in
+    record { u = n; least = omega arith; most = h; by_lon = omega (arith, east, e); by_lat = omega (arith, eb, e); by_both = omega (arith, east, eb, e) }
+
+no_change : (z : ℤ) → nat_abs (z -ℤ z) ≡ 0
+no_change z = let none : z -ℤ z ≡ pos 0 = omega (arith, ints) in ap nat_abs none
+
+at_itself : (c : Coord) → is_at c c ≡ true
+at_itself c = and_from _ _ (eq-eqb _ 0 (no_change c.lon)) (eq-eqb _ 0 (no_change c.lat))
+
+as_far : (p c d : ℤ) → nat_abs (d -ℤ c) ≡ 0 → nat_abs (p -ℤ d) ≡ nat_abs (p -ℤ c)
+as_far p c d none = omega (arith, none, ints)
+
+as_near : (p : ℤ × ℤ) (c d : Coord) → is_at c d ≡ true → (lon_apart p d ≡ lon_apart p c) × (lat_apart p d ≡ lat_apart p c)
+as_near p c d is =
+    let both = and_parts _ _ is in
+    (as_far p.0 c.lon d.lon (eqb-true _ 0 both.0), as_far p.1 c.lat d.lat (eqb-true _ 0 both.1))
+
+far_is : (b : Bool) (c v : Coord) (q : ℤ × ℤ) → is_at c v ≡ b → far_from c q v
+    ≡ cond b (1000000 * lon_apart q v + 1000000 * lat_apart q v) (max (least_cosine q v * lon_apart q v) (1000000 * lat_apart q v))
+far_is b c v q e i =
+    cond (e i) (1000000 * lon_apart q v + 1000000 * lat_apart q v) (max (least_cosine q v * lon_apart q v) (1000000 * lat_apart q v))
+
+not_far : (e : ℕ) (p : ℤ × ℤ) (c d : Coord) → IsFalse (is_farther e p c d) →
+    (lat_apart p d ≤ lon_apart p c + lat_apart p c + e) × (least_cosine p d * lon_apart p d ≤ 1000000 * (lon_apart p c + lat_apart p c + e))
+not_far e p c d h = let parts = or_parts _ _ h in (ltb-false _ _ parts.0, ltb-false _ _ parts.1)
+
+at_most : (e : ℕ) (p : ℤ × ℤ) (c d : Coord) → IsFalse (is_farther e p c d) → (here : Bool) → is_at c d ≡ here →
+    far_from c p d ≤ far_from c p c + 1000000 * e
+at_most e p c d h true is =
+    let same = as_near p c d is in
+    omega (arith, far_is true c d p is, same.0, same.1, far_is true c c p (at_itself c))
+at_most e p c d h false isnt =
+    let both = not_far e p c d h in
+    omega (arith, far_is false c d p isnt, both.0, both.1, far_is true c c p (at_itself c))
+
+pub no_sharper_test : NoSharperTest
+no_sharper_test e p c d h = (
+  far_from c,
+  (λ q v. weighted_by (least_cosine q v) (lon_apart q v) (lat_apart q v) (is_at c v) (cosine_most _) (far_from c) q v refl refl refl),
+  at_most e p c d h (is_at c d) refl,
+)

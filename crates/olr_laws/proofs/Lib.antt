@@ -6,8 +6,7 @@ pub mod MarginRowLemmas
 pub mod DirectionLemmas
 pub mod RowLemmas
 pub mod CommandLemmas
-mod AmbiguityLemmas
-mod NodeTestLemmas
+pub mod AmbiguityLemmas
 pub mod NamedObstacles
 pub mod PartnerReceivers
 pub mod DependLemmas

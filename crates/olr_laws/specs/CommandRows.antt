@@ -1,8 +1,8 @@
 -- The values of the worked rows of commands, records and runs.
-use Rattle.std.specs.Prelude.{◌≡◌, ℕ, ℤ, pos, neg_ℤ, List, [], ◌∷◌, ◌++◌, ◌==◌, if◌then◌else◌, flat_map, map, codes, Option}
+use Rattle.std.specs.Prelude.{◌≡◌, ℕ, pos, neg_ℤ, List, [], ◌∷◌, ◌++◌, ◌==◌, if◌then◌else◌, flat_map, map, codes, Option}
 use Rattle.std.specs.Prelude.{None, Some, false}
 use Rattle.std.specs.FinMap.{insert, empty}
-use Rattle.olr_spec.specs.Coordinates.{Coord}
+use Rattle.olr_spec.specs.Coordinates.{coord}
 use Rattle.olr_spec.specs.Map.{empty_map, no_coord, Add_node, Add_line}
 use Rattle.olr_commands.specs.State.{no_content, after, State, Change, Command, Fault, On_map, Add_path}
 use Rattle.olr_records.specs.Records.{line_between, Read, read}
@@ -33,13 +33,6 @@ with_node =
 
 -- ---- records
 
--- a coordinate in units
-abbrev pub at : ℤ → ℤ → Coord
-at lon lat = record { lon = lon; lat = lat }
-
-abbrev pub zero : Coord
-zero = at (pos 0) (pos 0)
-
 -- the fields of a text, which are separated by commas
 abbrev pub before_fields : ℕ → List (List ℕ) → List (List ℕ)
 before_fields b [] = (b ∷ []) ∷ []
@@ -65,10 +58,10 @@ AreFaultTexts rows =
 -- two nodes, a line with a shape point, and a path
 abbrev pub changes1 : List Change
 changes1 =
-    On_map (Add_node 1 (at (pos 2007639654400) (neg_ℤ (pos 32768))))
-    ∷ On_map (Add_node 2 (at (pos 0) (neg_ℤ (pos 58982400000000))))
+    On_map (Add_node 1 (coord (pos 2007639654400) (neg_ℤ (pos 32768))))
+    ∷ On_map (Add_node 2 (coord (pos 0) (neg_ℤ (pos 58982400000000))))
     ∷ On_map (Add_line 10 (line_between 1 2 3 2 5610
-    (record { at = 200; place = at (pos 2007698636800) (pos 16255673958400) } ∷ [])))
+    (record { at = 200; place = coord (pos 2007698636800) (pos 16255673958400) } ∷ [])))
     ∷ Add_path (codes "a") (path_of (10 ∷ []) 1500 0) ∷ []
 
 -- ---- runs
@@ -87,7 +80,3 @@ abbrev pub output20 : List ℕ
 output20 =
     text_of_lines (codes "ok,0" ∷ codes "fault,3,NodeExists" ∷ codes "fault,4,NoNode" ∷ codes "fault,2,Range" ∷ codes
     "fault,1,Syntax" ∷ [])
-
-abbrev pub state20 : State
-state20 =
-    record { content = record no_content { map = record empty_map { nodes = insert empty 1 zero } }; batch = None }

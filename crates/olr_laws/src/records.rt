@@ -1,8 +1,9 @@
 //! The laws of records, and worked rows of records, replies and faults as text.
 ghost use Rattle.std.specs.Prelude.{◌≡◌, ℕ, pos, neg_ℤ, [], ◌∷◌, map, codes, None, Some, Ok, Err};
 ghost use Rattle.std.specs.List.{concat};
+ghost use Rattle.olr_spec.specs.Coordinates.{coord};
 ghost use Rattle.olr_spec.specs.Map.{Add_node, Move_node, Drop_node, Add_line, Set_line, Drop_line, Node_exists};
-ghost use Rattle.olr_spec.specs.Map.{No_node, Line_exists, No_line, Node_in_use, Bad_shape};
+ghost use Rattle.olr_spec.specs.Map.{no_coord, No_node, Line_exists, No_line, Node_in_use, Bad_shape};
 ghost use Rattle.olr_spec.specs.Encoding as encoding;
 ghost use Rattle.olr_spec.specs.Bytes as bytes;
 ghost use Rattle.olr_commands.specs.State.{On_map, Add_path, Set_path, Drop_path, Make, Show, Report, Dump, Compact};
@@ -14,8 +15,8 @@ ghost use Rattle.olr_commands.specs.State as state;
 ghost use Rattle.olr_records.specs.Records.{line_between, read, Bad_form, Out_of_range};
 ghost use Rattle.olr_records.specs.ReplyText.{reply_text};
 ghost use Rattle.olr_laws.specs.RunLaws as Laws;
-ghost use Rattle.olr_laws.specs.Rows.{fifty, path_of, Gives, AllGive, reference1, reference2};
-ghost use Rattle.olr_laws.specs.CommandRows.{at, zero, read_text, text_of_lines, AreFaultTexts, changes1};
+ghost use Rattle.olr_laws.specs.Rows.{Gives, AllGive, leg10, leg99, fifty, path_of, reference1, reference2};
+ghost use Rattle.olr_laws.specs.CommandRows.{read_text, text_of_lines, AreFaultTexts, changes1};
 
 /// The coordinates in records are in range. The record of a change is read as this change, and only changes that have a
 /// record are read. The text of records is split into their fields. From the empty register, commands that are read lead
@@ -33,10 +34,9 @@ pub fn laws_of_records()
 
 /// Records of a node.
 pub fn rows_nodes()
-    ensures node { read_text (codes "node,1,6.12683,49.60852")
-        ≡ Ok (Make (On_map (Add_node 1 (at (pos 2007639654400) (pos 16255719833600))))) }
+    ensures node { read_text (codes "node,1,6.12683,49.60852") ≡ Ok (Make (On_map (Add_node 1 leg10.begin))) }
     ensures zeros { read_text (codes "node,0000000000000000000000000000000000000000001,0,0")
-        ≡ Ok (Make (On_map (Add_node 1 zero))) }
+        ≡ Ok (Make (On_map (Add_node 1 no_coord))) }
     ensures greatest { read_text (codes "drop-node,4294967295") ≡ Ok (Make (On_map (Drop_node 4294967295))) }
     ensures bad_form { AllGive read_text (codes "node,1,1800,0" ∷ codes "node,1,+1,0" ∷ codes "node,1,1.,0"
         ∷ codes "node,1,.5,0" ∷ codes "node,x,181,0" ∷ codes "node,0,181,x" ∷ []) (Err Bad_form) }
@@ -44,29 +44,26 @@ pub fn rows_nodes()
         ∷ codes "drop-node,4294967296" ∷ codes "node,1,181,0" ∷ codes "node,1,179.99991,0" ∷ codes "node,1,0,90" ∷ [])
         (Err Out_of_range) }
     ensures corner { read_text (codes "node,1,-180,89.9999")
-        ≡ Ok (Make (On_map (Add_node 1 (at (neg_ℤ (pos 58982400000000)) (pos 29491167232000))))) }
-    ensures minus_zero { read_text (codes "node,1,-0,0") ≡ Ok (Make (On_map (Add_node 1 zero))) }
+        ≡ Ok (Make (On_map (Add_node 1 (coord (neg_ℤ (pos 58982400000000)) (pos 29491167232000))))) }
+    ensures minus_zero { read_text (codes "node,1,-0,0") ≡ Ok (Make (On_map (Add_node 1 no_coord))) }
     ensures moved { read_text (codes "move,5,7.1,50")
-        ≡ Ok (Make (On_map (Move_node 5 (at (pos 2326528000000) (pos 16384000000000))))) }
+        ≡ Ok (Make (On_map (Move_node 5 (coord (pos 2326528000000) (pos 16384000000000))))) }
 {}
 
 /// Records of a line.
 pub fn rows_lines()
     ensures two_points { read_text (codes "line,10,1,2,3,2,5610,200,6.12701,49.60838,5410,6.1282,49.60413")
-        ≡ Ok (Make (On_map (Add_line 10
-        (line_between 1 2 3 2 5610 (record { at = 200; place = (at (pos 2007698636800) (pos 16255673958400)) }
-        ∷ record { at = 5410; place = (at (pos 2008088576000) (pos 16254281318400)) } ∷ []))))) }
-    ensures no_shape { read_text (codes "line,99,2,3,4,3,1500")
-        ≡ Ok (Make (On_map (Add_line 99 (line_between 2 3 4 3 1500 [])))) }
+        ≡ Ok (Make (On_map (Add_line 10 leg10.line))) }
+    ensures no_shape { read_text (codes "line,99,2,3,4,3,1500") ≡ Ok (Make (On_map (Add_line 99 leg99.line))) }
     ensures bad_form { AllGive read_text (codes "line,10,1,2,0,1,100,50,0" ∷ codes "line,10,1,2,0,1,100,50"
         ∷ codes "line,10,1,2,8,0,1,x,0,0" ∷ []) (Err Bad_form) }
     ensures out_of_range { AllGive read_text (codes "line,10,1,2,8,0,1" ∷ codes "line,10,1,2,0,0,1000001"
         ∷ codes "line,10,1,2,0,0,0" ∷ codes "line,10,1,2,0,0,1000000,1000000,0,0" ∷ []) (Err Out_of_range) }
     ensures shape_past_the_end { read_text (codes "line,98,2,3,4,3,1500,1500,0,0") ≡ Ok (Make (On_map (Add_line 98
-        (line_between 2 3 4 3 1500 (record { at = 1500; place = zero } ∷ []))))) }
+        (line_between 2 3 4 3 1500 (record { at = 1500; place = no_coord } ∷ []))))) }
     ensures set { read_text (codes "set-line,99,4,3,2000") ≡ Ok (Make (On_map (Set_line 99 4 3 2000 []))) }
     ensures set_shape { read_text (codes "set-line,99,4,3,2000,1,0,0")
-        ≡ Ok (Make (On_map (Set_line 99 4 3 2000 (record { at = 1; place = zero } ∷ [])))) }
+        ≡ Ok (Make (On_map (Set_line 99 4 3 2000 (record { at = 1; place = no_coord } ∷ [])))) }
     ensures dropped { read_text (codes "drop-line,99") ≡ Ok (Make (On_map (Drop_line 99))) }
 {}
 

@@ -11,7 +11,7 @@ ghost use Rattle.olr_run.specs.Output.{All_accepted};
 ghost use Rattle.olr_input.specs.declared.ends.RunFault.TheVariants as fault;
 ghost use Rattle.olr_laws.specs.Rows.{AllGive};
 ghost use Rattle.olr_laws.specs.RunLaws as Laws;
-ghost use Rattle.olr_laws.specs.CommandRows.{text_of_lines, with_fifty, no_options, input20, output20, state20};
+ghost use Rattle.olr_laws.specs.CommandRows.{text_of_lines, with_fifty, no_options, input20, output20, with_node};
 
 /// Outcomes keep the register's state sound. Apart from out of memory, the state at the start and the bytes that are
 /// read determine what is written, the status and the state at the end. Records that are taken one after another are
@@ -76,12 +76,12 @@ pub fn rows_input()
 /// Whole runs.
 #[tactic(auto, unfolding(csv::proofs::OnLiterals::csv_on_literals))]
 pub fn rows_runs()
-    ensures all { Ran Outcomes false start_state (records_of input20) state20 output20 Some_refused }
-    ensures stopped { Ran Outcomes true start_state (records_of input20) state20
+    ensures all { Ran Outcomes false start_state (records_of input20) with_node output20 Some_refused }
+    ensures stopped { Ran Outcomes true start_state (records_of input20) with_node
         (text_of_lines (codes "ok,0" ∷ codes "fault,3,NodeExists" ∷ [])) Stopped }
     ensures margin { Ran Outcomes false start_state (records_of (text_of_lines (codes "margin,50,1" ∷ codes "show-margin" ∷ [])))
         with_fifty (text_of_lines (codes "ok,0" ∷ codes "ok,1" ∷ codes "margin,50,1" ∷ [])) All_accepted }
-    ensures cut { Faulted Outcomes false start_state (records_of input20) state20 (codes "ok,0" ++ 10 ∷ codes "fau")
+    ensures cut { Faulted Outcomes false start_state (records_of input20) with_node (codes "ok,0" ++ 10 ∷ codes "fau")
         fault.Write }
     ensures cut_at_once { Faulted Outcomes false start_state (records_of input20) start_state [] fault.Read }
     ensures nothing { Ran Outcomes false start_state (records_of []) start_state [] All_accepted }

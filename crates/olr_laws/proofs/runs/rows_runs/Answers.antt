@@ -5,19 +5,19 @@ use Rattle.std.specs.Cmp.{nat_cmp_total}
 use Rattle.std.specs.FinMap.{insert, empty, get-empty, get-insert}
 use Rattle.std.specs.Prelude.{codes}
 use Rattle.std.specs.Fmt.{digits}
-use Rattle.olr_spec.specs.Map.{Node_exists, No_node, Add_node, Drop_node}
+use Rattle.olr_spec.specs.Map.{no_coord, Node_exists, No_node, Add_node, Drop_node}
 use Rattle.olr_commands.specs.Reply.{Records}
-use Rattle.olr_laws.specs.CommandRows.{text_of_lines, with_fifty, zero, input20, state20}
+use Rattle.olr_laws.specs.CommandRows.{text_of_lines, with_fifty, with_node, input20}
 use Rattle.olr_run.specs.Output.{StopsAtFault}
 use Rattle.olr_laws.proofs.runs.rows_runs.Goals as goal
 
-add_first : step start_state (Make (On_map (Add_node 1 zero))) ≡ Ok state20
+add_first : step start_state (Make (On_map (Add_node 1 no_coord))) ≡ Ok with_node
 add_first = grind (arith, insert, empty, get-empty)
 
-add_again : step state20 (Make (On_map (Add_node 1 zero))) ≡ Err (Map_fault Node_exists)
+add_again : step with_node (Make (On_map (Add_node 1 no_coord))) ≡ Err (Map_fault Node_exists)
 add_again = grind (arith, insert, empty, nat_cmp_total, get-insert)
 
-drop_none : step state20 (Make (On_map (Drop_node 2))) ≡ Err (Map_fault No_node)
+drop_none : step with_node (Make (On_map (Drop_node 2))) ≡ Err (Map_fault No_node)
 drop_none = grind (arith, insert, empty, nat_cmp_total, get-insert, get-empty)
 
 pub returns-clause-all : goal.returns-clause-all
@@ -26,12 +26,12 @@ returns-clause-all c =
     record {
       outcomes = Ok (Paths []) ∷ Err (Map_fault Node_exists) ∷ Err (Map_fault No_node) ∷ Err Range ∷ Err Syntax ∷ [];
       each = (
-        state20,
+        with_node,
         inl (add_first, refl),
         (
-          state20,
+          with_node,
           inl (ByState add_again, refl),
-          (state20, inl (ByState drop_none, refl), (state20, inl (refl, refl), (state20, inl (refl, refl), refl))),
+          (with_node, inl (ByState drop_none, refl), (with_node, inl (refl, refl), (with_node, inl (refl, refl), refl))),
         ),
       );
       stops = grind arith;
@@ -56,9 +56,9 @@ returns-clause-margin c =
 abbrev first_two : List Outcome
 first_two = Ok (Paths []) ∷ Err (Map_fault Node_exists) ∷ []
 
-each_two : Outcomes start_state (records_of input20) first_two state20
+each_two : Outcomes start_state (records_of input20) first_two with_node
 unfolding csv_on_literals digits
-each_two = (state20, inl (add_first, refl), (state20, inl (ByState add_again, refl), refl))
+each_two = (with_node, inl (add_first, refl), (with_node, inl (ByState add_again, refl), refl))
 
 stops_two : (stop : Bool) → StopsAtFault stop first_two
 stops_two stop = grind (arith, cases_Bool stop)
