@@ -20,8 +20,8 @@ use Rattle.olr_spec.proofs.Facts.{at_index, filter_has, exactly_in, exactly_out,
 use Rattle.olr_spec.proofs.FitLemmas.{by_answer}
 use Rattle.olr_spec.proofs.DecodedLemmas.{Kept}
 use Rattle.olr_spec.proofs.ReceiverLemmas.{same_path, size}
-use Rattle.olr_laws.specs.Directions.{AtEachLrp, is_outdone, stands_out, DistinctByDirectionWith}
-use Rattle.olr_laws.specs.ReceiverLaws.{IsWeightedByLatitude, ClearIsDistinct, NoSharperTest}
+use Rattle.olr_laws.specs.ReceiverLaws.{AtEachLrp, is_outdone, stands_out, DistinctByDirectionWith, IsWeightedByLatitude}
+use Rattle.olr_laws.specs.ReceiverLaws.{ClearIsDistinct, NoSharperTest}
 use Rattle.olr_laws.proofs.ReceiverLemmas.{got_index, every_candidate, outdone_of, same_place, IsOwn, own_lines_are, farther_by}
 use Rattle.std.proofs.Math.Nat.{div-le_of_le-mul, mul-le-mul_left}
 

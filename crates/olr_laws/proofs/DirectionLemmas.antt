@@ -11,9 +11,9 @@ use Rattle.std.proofs.Common.{neg_ℤ, int_lt}
 use Rattle.std.proofs.Math.Nat.{mul-le-mul_right, mul-le-mul_left, mul-lt-mul_of_pos_left, mul-add}
 use Rattle.olr_spec.proofs.Facts.{has_cases}
 use Rattle.olr_spec.specs.Directions.{margin_start, margin_end, is_direction, is_beyond, direction_on}
-use Rattle.olr_laws.specs.Directions.{middle, along, is_within, IsNearly, rating_by, weighted}
-use Rattle.olr_laws.specs.Directions.{count_where, DirectionReceiver, TakesByDirection, is_outdone, stands_out, Differences}
-use Rattle.olr_laws.specs.ReceiverLaws.{SeesByLimits, RecoveredByDirection, SomeByWeights}
+use Rattle.olr_laws.specs.ReceiverLaws.{middle, along, is_within, IsNearly, rating_by, weighted, count_where, DirectionReceiver}
+use Rattle.olr_laws.specs.ReceiverLaws.{TakesByDirection, is_outdone, stands_out, Differences, SeesByLimits}
+use Rattle.olr_laws.specs.ReceiverLaws.{RecoveredByDirection, SomeByWeights}
 use Rattle.olr_spec.specs.Margins.{Margin}
 use Rattle.olr_spec.proofs.ReceiverLemmas.{Describes, recovered_by, passes}
 use Rattle.olr_spec.specs.Receiver.{Lrp, Rating, NowhereWorse, SomewhereBetter, Outgoing, Incoming, sector_on}

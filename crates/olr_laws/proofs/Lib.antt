@@ -7,7 +7,6 @@ pub mod DirectionLemmas
 pub mod RowLemmas
 pub mod CommandLemmas
 pub mod AmbiguityLemmas
-pub mod NamedObstacles
 pub mod PartnerReceivers
 pub mod DependLemmas
 pub mod ShownLemmas

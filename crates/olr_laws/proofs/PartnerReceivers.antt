@@ -14,7 +14,7 @@ use Rattle.olr_spec.specs.Receiver.{Lrp, Outgoing, Incoming, RecoversBy, Recover
 use Rattle.olr_spec.specs.Receiver.{lrp_at}
 use Rattle.olr_spec.specs.Recovery.{IsStretchesWith, stretches}
 use Rattle.olr_laws.specs.ReceiverLaws.{TakesOwn, ReadElsewhere}
-use Rattle.olr_laws.proofs.NamedObstacles.{path_in}
+use Rattle.olr_laws.proofs.CommandLemmas.{path_in}
 
 -- what is left of a list from an element on
 split_at : {X : Type 0} (k : ℕ) (xs : List X) (y : X) (ys : List X) → drop k xs ≡ y ∷ ys → (slice_get xs k ≡ Some y) × (drop (suc k) xs ≡ ys)

@@ -26,9 +26,8 @@ use Rattle.olr_spec.specs.Receiver.{Rating, IsDifference, Outgoing, Incoming, la
 use Rattle.olr_spec.proofs.SectorLemmas.{has_below}
 use Rattle.olr_spec.proofs.JoinedLemmas.{extended_joined}
 use Rattle.olr_spec.specs.Directions.{is_direction, is_beyond, direction_on}
-use Rattle.olr_laws.specs.Directions.{AtEachLrp, is_spaced_by, is_outdone, is_clear, stands_out}
-use Rattle.olr_laws.specs.ReceiverLaws.{ClearStandsOut, DecodedNear, DecodedPoints, StretchesJoin, OffsetsWith, DistancesWith}
-use Rattle.olr_laws.specs.ReceiverLaws.{Nearest}
+use Rattle.olr_laws.specs.ReceiverLaws.{AtEachLrp, is_spaced_by, is_outdone, is_clear, stands_out, ClearStandsOut, DecodedNear}
+use Rattle.olr_laws.specs.ReceiverLaws.{DecodedPoints, StretchesJoin, OffsetsWith, DistancesWith, Nearest}
 use Rattle.olr_spec.proofs.QueryLemmas.{stretch_parts}
 use Rattle.olr_spec.proofs.ReceiverLemmas.{same_path, passes, size}
 use Rattle.std.proofs.Common.{lt_of_mul-lt-mul_right}

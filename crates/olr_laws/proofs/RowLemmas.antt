@@ -10,8 +10,8 @@ use Rattle.olr_spec.proofs.Common.{append-nil, passing, LongestEnd, path_fault, 
 use Rattle.olr_spec.proofs.Facts.{path_at, empty_unique}
 use Rattle.olr_spec.specs.Receiver.{decoded_coord, Outgoing, Incoming, Lrp, lrp_at, Rating}
 use Rattle.olr_spec.specs.Recovery.{IsLineAt, line_by, DistinctAt, Distinct, are_cosines, is_cosine}
-use Rattle.olr_laws.specs.Directions.{stands_out, exceeded, rating_by, weighted, Differences}
-use Rattle.olr_laws.specs.Directions.{DistinctByDirection, DirectionReceiver, TakesByDirection, SeesDirections, count_where}
+use Rattle.olr_laws.specs.ReceiverLaws.{stands_out, exceeded, rating_by, weighted, Differences, DistinctByDirection}
+use Rattle.olr_laws.specs.ReceiverLaws.{DirectionReceiver, TakesByDirection, SeesDirections, count_where}
 use Rattle.olr_laws.specs.Rows.{leg10, leg20, leg30, leg99, reference1, legs1, morning_lines, axes_sum, cosine, by_cosine}
 use Rattle.olr_laws.specs.Rows.{morning_map, morning_path, morning_nodes, morning_records, fork_records, fork_reference}
 use Rattle.olr_laws.specs.Rows.{fork_map, fork_path, fork_nodes, fork_lines, fork10, fork11, degrees10, TakesOther}

@@ -1,6 +1,5 @@
-pub mod Rows
-pub mod Directions
 pub mod ReceiverLaws
+pub mod Rows
 pub mod CommandLaws
 pub mod CommandRows
 pub mod RunLaws

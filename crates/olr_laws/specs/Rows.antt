@@ -27,7 +27,7 @@ use Rattle.olr_spec.specs.Recovery.{lon_apart, lat_apart}
 use Rattle.std.specs.FinMap.{from_sorted}
 use Rattle.olr_spec.specs.Extension.{Path}
 use Rattle.olr_spec.specs.Margins.{Margin}
-use Rattle.olr_laws.specs.Directions.{DirectionReceiver, TakesByDirection, exceeded}
+use Rattle.olr_laws.specs.ReceiverLaws.{DirectionReceiver, TakesByDirection, exceeded}
 
 -- a value and what f gives for it, row by row
 abbrev pub Gives : {X Y : Type 0} → (X → Y) → List (X × Y) → Type 0

@@ -12,7 +12,7 @@ ghost use Rattle.olr_laws.specs.Rows.{by_cosine, morning_map, morning_path, fork
 ghost use Rattle.olr_laws.specs.Rows.{fork10, degrees10, TakesOther};
 ghost use Rattle.olr_laws.specs.ReceiverLaws;
 ghost use Rattle.olr_spec.specs.Directions.{is_beyond};
-ghost use Rattle.olr_laws.specs.Directions.{DistinctByDirection, SeesDirections, exceeded, is_within, middle, stands_out};
+ghost use Rattle.olr_laws.specs.ReceiverLaws.{DistinctByDirection, SeesDirections, exceeded, is_within, middle, stands_out};
 
 /// If the path's own line is distinct at each LRP, every receiver recovers the legs between the
 /// remaining LRPs; on another map without other roads whose lengths and classes are within the margin each leg is recovered
