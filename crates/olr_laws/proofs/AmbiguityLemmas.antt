@@ -1,5 +1,5 @@
--- A string in whose way nothing stands is distinct for both kinds of receivers; and where a node isn't farther by the test, there
--- is a measure by which it isn't.
+-- A string in whose way nothing stands is distinct for both kinds of receivers; and where a node isn't farther by the test,
+-- there is a measure by which it isn't.
 use Rattle.olr_spec.proofs.Common.{◌≡◌, ◌≢◌, suc, ◌+◌, ◌*◌, ◌<◌, ◌||◌, ◌==◌, ◌≤◌, ◌⊎◌, not, ◌∷◌, map, sym, ◌∙◌, Map, ◌-ℤ◌, ints}
 use Rattle.olr_spec.proofs.Common.{[], ℕ, ℤ, ap, has, end, Leg, leg, ◌-◌, max, pos}
 use Rattle.olr_spec.proofs.Common.{cond, List, ◌++◌, Some, refl, None, Path, legs, Side, ◌&&◌, zero, Bool, true, false, Coord}
@@ -73,7 +73,8 @@ module _ (M : Map) (m : IsMap M) (s : Side) (p : ℤ × ℤ) (x : ℕ) (known : 
 
   not_twin : (y : ℕ) → IsTrue (has_line M y) → y ≢ x → are_twins s g (leg M y) ≡ false
   not_twin y h n =
-      grind (arith, cases_Bool (are_twins s g (leg M y)), twins_meet y, here y h, none_passes (is_twin_of M s x) ys parts_none.0 y, ne_eqb y x n)
+      let none_there = none_passes (is_twin_of M s x) ys parts_none.0 y in
+      grind (arith, cases_Bool (are_twins s g (leg M y)), twins_meet y, here y h, none_there, ne_eqb y x n)
 
   beyond_here : (y : ℕ) → IsTrue (has_line M y) → y ≢ x → node_on s (leg M y) ≡ node_on s g →
       is_beyond (sector_on s g) (direction_on s (leg M y)) ≡ true
@@ -81,7 +82,7 @@ module _ (M : Map) (m : IsMap M) (s : Side) (p : ℤ × ℤ) (x : ℕ) (known : 
       grind (arith, cases_Bool, not_twin y h n, none_passes (is_unclear M s x) ys parts_none.1 y (here y h at), ne_eqb y x n)
 
   has_direction : is_direction (direction_on s g) ≡ true
-  has_direction = grind (arith, cases_Bool, none_passes (is_unclear M s x) ys parts_none.1 x (here x known refl), eq-eqb x x refl)
+  has_direction = grind (arith, cases_Bool, none_passes (is_unclear M s x) ys parts_none.1 x (here x known refl), eq-eqb)
 
   -- a line at another node is outdone
   outdone_there : (y : ℕ) → IsTrue (has_line M y) → node_on s (leg M y) ≢ node_on s g → is_outdone_for_all s p g (leg M y) ≡ true
@@ -108,7 +109,8 @@ module _ (M : Map) (m : IsMap M) (s : Side) (p : ℤ × ℤ) (x : ℕ) (known : 
     farther_or : (y : ℕ) → IsTrue (has_line M y) → node_on s (leg M y) ≢ node_on s g →
         (far p (coordinate_on s g) + scale * usual_slack < far p (coordinate_on s (leg M y)))
         ⊎ ((far p (coordinate_on s g) < far p (coordinate_on s (leg M y))) × (is_beyond (sector_on s g) (direction_on s (leg M y)) ≡ true))
-    farther_or y h n = grind (arith, outdone_there y h n, or_cases, and_parts, farther_there usual_slack y h, farther_there 0 y h)
+    farther_or y h n =
+        grind (arith, outdone_there y h n, or_cases, and_parts, farther_there usual_slack y h, farther_there 0 y h)
 
     nearest_here : IsTrue (is_nearest far s p g (candidates M))
     nearest_here =
@@ -152,12 +154,14 @@ clear_from M r k (y ∷ xs) none (suc j) n x e at =
     let rest = (append_none (map (λ o. (k, o)) (obstacles_at M (side_at r k) (decoded_coord r k) y)) _ none).1 in
     clear_from M r (suc k) xs rest j n x (omega arith) at
 
-own_out : (ls ks : List ℕ) (k : ℕ) → k + 1 < length ks → slice_get (own_lines ls ks) k ≡ Some (line_by Outgoing ls (slice_index ks k))
+own_out : (ls ks : List ℕ) (k : ℕ) → k + 1 < length ks →
+    slice_get (own_lines ls ks) k ≡ Some (line_by Outgoing ls (slice_index ks k))
 own_out ls (i ∷ j ∷ ks) zero lt = refl
 own_out ls (i ∷ j ∷ ks) (suc k) lt = own_out ls (j ∷ ks) k (omega arith)
 own_out ls _ k lt = absurd (omega arith)
 
-own_in : (ls ks : List ℕ) (k : ℕ) → k + 1 ≡ length ks → slice_get (own_lines ls ks) k ≡ Some (line_by Incoming ls (slice_index ks k))
+own_in : (ls ks : List ℕ) (k : ℕ) → k + 1 ≡ length ks →
+    slice_get (own_lines ls ks) k ≡ Some (line_by Incoming ls (slice_index ks k))
 own_in ls (i ∷ []) zero lt = refl
 own_in ls (i ∷ j ∷ ks) (suc k) lt = own_in ls (j ∷ ks) k (omega arith)
 own_in ls _ k lt = absurd (omega arith)
@@ -208,7 +212,8 @@ module _ {g : Margin} (M : Map) (m : IsMap M) (P : Path) (is : IsTrue (is_path P
       let last = last_number r in
       record {
         outgoing = λ k x lt at. at_lrp Outgoing k x (lines.outgoing k x lt at) (clear Outgoing k x
-            (ap (λ (b : Bool). cond b Outgoing Incoming) (lt-ltb k last lt)) (own_out Lines Points_kept k (omega (arith, long))) at);
+            (ap (λ (b : Bool). cond b Outgoing Incoming) (lt-ltb k last lt))
+            (own_out Lines Points_kept k (omega (arith, long))) at);
         incoming = λ x at. at_lrp Incoming last x (lines.incoming x at) (clear Incoming last x
             (ap (λ (b : Bool). cond b Outgoing Incoming) (le-ltb last last (omega arith)))
             (own_in Lines Points_kept last (omega (arith, long))) at);

@@ -1,5 +1,5 @@
--- An accepted command has one reply, apart from out of memory a command has one outcome, counts are determined, and the claims hold
--- of runs from the start. The question about ambiguities names each string in whose way something stands, and nothing else.
+-- An accepted command has one reply, apart from out of memory a command has one outcome, counts are determined, and the claims
+-- hold of runs from the start. The question about ambiguities names the strings in whose way something stands, nothing else.
 use Rattle.std.proofs.Common.{arith, ◌≡◌, false, List, ◌++◌, Some, None, Option, IsTrue, Contains, refl, subst, IsFalse, length}
 use Rattle.std.proofs.Common.{◌≢◌, inl, inr, ℕ, [], ◌∷◌, map, not, sym, ap, ◌∙◌, Ok, Err, suc}
 use Rattle.std.proofs.lemmas.List.Elements.{Contains-append_left, Contains-append_right, Contains-append_cases}
@@ -59,13 +59,14 @@ some_ambiguity g M m p is =
 
 -- ---- the ambiguities of all paths
 
-one_ambiguities : (g : Margin) (M : Map) → IsMap M → (ps : List Named) → ArePaths ps → (es fs : List NamedObstacle) → Ambiguities g M ps es →
-    Ambiguities g M ps fs → es ≡ fs
+one_ambiguities : (g : Margin) (M : Map) → IsMap M → (ps : List Named) → ArePaths ps → (es fs : List NamedObstacle) →
+    Ambiguities g M ps es → Ambiguities g M ps fs → es ≡ fs
 one_ambiguities g M m [] i es fs a b = a ∙ sym b
 one_ambiguities g M m (p ∷ ps) i es fs a b =
     grind (arith, one_ambiguity g M m p i.0 a.0 b.0 a.2 b.2, one_ambiguities g M m ps i.1 a.1 b.1 a.3 b.3)
 
-some_ambiguities : (g : Margin) (M : Map) → IsMap M → (ps : List Named) → ArePaths ps → (es : List NamedObstacle) × Ambiguities g M ps es
+some_ambiguities : (g : Margin) (M : Map) → IsMap M → (ps : List Named) → ArePaths ps →
+    (es : List NamedObstacle) × Ambiguities g M ps es
 some_ambiguities g M m [] i = ([], refl)
 some_ambiguities g M m (p ∷ ps) i =
     let own = some_ambiguity g M m p i.0 in
@@ -76,7 +77,8 @@ pub one_asked : (c : Content) → IsContent c → (name : Option (List ℕ)) →
     AskedAmbiguities c name es → AskedAmbiguities c name fs → es ≡ fs
 one_asked c i None es fs a b = one_ambiguities c.margin c.map i.map c.paths i.paths es fs a b
 one_asked c i (Some name) es fs a b =
-    grind (arith, one_ambiguity c.margin c.map i.map (record { name = name; path = a.0 }) (named_path c.paths name a.0 i.paths a.1) es fs a.2)
+    let path = named_path c.paths name a.0 i.paths a.1 in
+    grind (arith, one_ambiguity c.margin c.map i.map (record { name = name; path = a.0 }) path es fs a.2)
 
 pub some_asked : (c : Content) → IsContent c → (name : Option (List ℕ)) → not (has_asked c name) ≡ false →
     (es : List NamedObstacle) × AskedAmbiguities c name es
@@ -93,17 +95,10 @@ in_answer : (g : Margin) (M : Map) (ps : List Named) (es : List NamedObstacle) �
     (own : List NamedObstacle) × Ambiguity g M p own × ((e : NamedObstacle) → Contains own e → Contains es e)
 in_answer g M [] es a p c = absurd (let lt = c.1 in omega arith)
 in_answer g M (q ∷ ps) es a p c = elim (Contains-cases q p ps c) [
-  | inl e ↦ (
-    a.0,
-    subst (λ (n : Named). Ambiguity g M n a.0) e a.2,
-    λ o h. subst (λ (xs : List NamedObstacle). Contains xs o) (sym a.4) (Contains-append_left a.0 a.1 o h),
-  )
+  | inl e ↦ (a.0, grind arith, λ o h. grind (arith, Contains-append_left a.0 a.1 o h))
   | inr later ↦
-      let rest = in_answer g M ps a.1 a.3 p later in (
-        rest.0,
-        rest.1,
-        λ o h. subst (λ (xs : List NamedObstacle). Contains xs o) (sym a.4) (Contains-append_right a.0 a.1 o (rest.2 o h)),
-      )
+      let rest = in_answer g M ps a.1 a.3 p later in
+      (rest.0, rest.1, λ o h. grind (arith, Contains-append_right a.0 a.1 o (rest.2 o h)))
 ]
 
 -- an entry is of one of the paths

@@ -4,7 +4,7 @@ use Rattle.olr_spec.proofs.Common.{arith, ◌≢◌, ◌⊎◌, zero, true, List
 use Rattle.olr_spec.proofs.Common.{◌≡◌, length, IsTrue, or_left, Set_line, has_line, edited, Reaches, is_path, NodeOf, FootWith}
 use Rattle.olr_spec.proofs.Common.{inl, inr, ℕ, suc, ◌+◌, ◌-◌, ◌<◌, ◌≤◌, ◌∷◌, sym, ◌∙◌, Ok, Map, has, end, dm}
 use Rattle.olr_spec.proofs.Common.{[], touched_nodes, touched_lines, extended_path, CoverageQuery, query_to_with, Bool-discrete}
-use Rattle.olr_spec.proofs.Common.{append-nil, MatchOption, cases_Bool, both_ways, Add_line, Drop_line, lines_out, IsQueryWith}
+use Rattle.olr_spec.proofs.Common.{append-nil, MatchOption, cases_Bool, Add_line, Drop_line, lines_out, IsQueryWith}
 use Rattle.std.proofs.Math.Decide.{dec_lt, map_dec, ℕ_discrete}
 use Rattle.olr_spec.specs.Margins.{Margin}
 use Rattle.olr_spec.specs.Footprint.{FootOfWith, TouchedWith, On_path, On_start_run, On_end_run, Within_reach}
@@ -62,14 +62,14 @@ module _ (g : Margin) (M : Map) (m : IsMap M) (v : ℕ) where
   dec_reaches (suc fuel) d s lt = elim (ℕ_discrete s v) [
     | yes e ↦ yes ([], e, omega arith)
     | no other ↦ map_dec (reaches_by s d) (begins_by s d other) (dec_some (Begins s d) (λ x.
-        elim (cases_Bool (has_line M x)) [
-          | inr off ↦ no (λ h. both_ways (has_line M x) off h.0.0)
-          | inl on ↦ elim (dec_le (dm M x) d) [
-            | no f ↦ no (λ h. f h.1.0)
-            | yes le ↦ dec_and (dec_and (yes on) (ℕ_discrete (start M x) s))
-                (dec_and (yes le) (dec_reaches fuel (d - dm M x) (end M x) (omega (arith, positive M m x on, le))))
-          ]
-        ]) (lines_out M s))
+        grind (
+          arith,
+          cases_Bool (has_line M x),
+          dec_le (dm M x) d,
+          ℕ_discrete (start M x) s,
+          dec_reaches fuel (d - dm M x) (end M x),
+          positive M m x,
+        )) (lines_out M s))
   ]
 
   dec_node : (ls : List ℕ) → Dec (NodeOf M ls v)
@@ -128,7 +128,8 @@ module _ (g : Margin) (M : Map) (m : IsMap M) (nodes : List ℕ) where
       (λ d. elim d [ On_node v on f ↦ inl (v, on, f) | On_line x there at own ↦ inr (x, own, (there, at)) ])
       (dec_or (dec_some (λ v. FootWith g M P v) (λ v. dec_foot g M m v P is) nodes)
       (dec_some (λ x. IsTrue (has_line M x) × IsTrue (has nodes (start M x) || has nodes (end M x)))
-      (λ x. dec_and (Bool-discrete (has_line M x) true) (Bool-discrete (has nodes (start M x) || has nodes (end M x)) true)) P.lines))
+      (λ x. dec_and (Bool-discrete (has_line M x) true)
+      (Bool-discrete (has nodes (start M x) || has nodes (end M x)) true)) P.lines))
 
   pub some_dependents : (ps : List Named) → ArePaths ps →
       (qs : List Named) × Picks (λ p. DependsOn g M nodes p.path) ps qs

@@ -107,11 +107,11 @@ near_neg z Z p = record { above = λ h. grind (arith, ints); below = λ h. grind
 
 turned_inside : (b c m : Vector) → Inside b c m → Inside (quarter_turn b) (quarter_turn c) (quarter_turn m)
 turned_inside b c m i e n E N h g p q =
-    grind (arith, beyond_turned b e n, beyond_turned c e n, beyond_turned m E N, along_turned m E N, near_neg n N q, i (neg_ℤ n) e (neg_ℤ N) E)
+    grind (arith, beyond_turned, along_turned, near_neg n N q, i (neg_ℤ n) e (neg_ℤ N) E)
 
 turned_outside : (s f m : Vector) → Outside s f m → Outside (quarter_turn s) (quarter_turn f) (quarter_turn m)
 turned_outside s f m o e n E N p q ahead right left =
-    grind (arith, beyond_turned s e n, beyond_turned f e n, beyond_turned m E N, along_turned m E N, near_neg n N q, o (neg_ℤ n) e (neg_ℤ N) E)
+    grind (arith, beyond_turned, along_turned, near_neg n N q, o (neg_ℤ n) e (neg_ℤ N) E)
 
 turned_at : (f : ℕ → Vector) → map (λ j. f (j + 8)) (up_to 24) ≡ map (λ j. quarter_turn (f j)) (up_to 24) → (k : ℕ) → k < 24 →
     f (k + 8) ≡ quarter_turn (f k)
@@ -259,7 +259,7 @@ module _ (D : DirectionReceiver) (M : Map) (t : Lrp) (x : ℕ) (d : Describes M 
       let fow : D.by.fow_apart t.fow (line_at M x).fow ≤ D.by.fow_apart t.fow (line_at M y).fow = grind (arith, d.fow, D.by.fows t.fow (line_at M y).fow) in
       let a = rating_by D.by t (leg M x) in
       let b = rating_by D.by t (leg M y) in
-      elim (outdone_either D.by.slack (far (leg M x)) (far (leg M y)) (is_beyond (sector_on t.side (leg M x)) v) (outdone y h n)) [
+      elim (outdone_either D.by.slack (far (leg M x)) (far (leg M y)) _ (outdone y h n)) [
         | inl farther ↦ D.nearer a b farther frc fow inside
         | inr both ↦
             let out = (D.by.bearings (coordinate_on t.side (leg M y))).outside t.bearing v own_sector.0

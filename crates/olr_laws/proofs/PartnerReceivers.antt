@@ -17,7 +17,8 @@ use Rattle.olr_laws.specs.ReceiverLaws.{TakesOwn, ReadElsewhere}
 use Rattle.olr_laws.proofs.CommandLemmas.{path_in}
 
 -- what is left of a list from an element on
-split_at : {X : Type 0} (k : ℕ) (xs : List X) (y : X) (ys : List X) → drop k xs ≡ y ∷ ys → (slice_get xs k ≡ Some y) × (drop (suc k) xs ≡ ys)
+split_at : {X : Type 0} (k : ℕ) (xs : List X) (y : X) (ys : List X) → drop k xs ≡ y ∷ ys →
+    (slice_get xs k ≡ Some y) × (drop (suc k) xs ≡ ys)
 split_at zero [] y ys e = absurd cc
 split_at zero (x ∷ xs) y ys e = (cc, cc)
 split_at (suc k) [] y ys e = absurd cc
@@ -38,10 +39,10 @@ module _ (takes : Lrp → ℕ) {g : Margin} (M N : Map) (m : IsMap M) (P : Path)
   abbrev Along : ℕ → ℕ → List ℕ → List Attrs
   Along h i js = attrs_with g (legs M Lines) h i ∷ map (λ (m : Middle). m.attrs) (middle_points_with g (legs M Lines) h i js)
 
-  taken : (k h : ℕ) (hs : List ℕ) (a : Attrs) (attrs : List Attrs) → drop k Points_kept ≡ h ∷ hs → drop k (attributes r) ≡ a ∷ attrs →
+  taken : (k h : ℕ) (hs : List ℕ) (a : Attrs) (bs : List Attrs) → drop k Points_kept ≡ h ∷ hs → drop k (attributes r) ≡ a ∷ bs →
       takes (lrp_at r k a) ≡ slice_index Lines h
-  taken k h hs a attrs at along =
-      own.outgoing k (slice_index Lines h) a (split_at k (attributes r) a attrs along).0
+  taken k h hs a bs at along =
+      own.outgoing k (slice_index Lines h) a (split_at k (attributes r) a bs along).0
       (line_at_point M m P is none r e Outgoing k h (split_at k Points_kept h hs at).0)
 
   taken_last : (k h : ℕ) → k ≡ last_number r → drop k Points_kept ≡ h ∷ [] → takes (last_lrp r) ≡ slice_index Lines (h - 1)
@@ -68,7 +69,7 @@ module _ (takes : Lrp → ℕ) {g : Margin} (M N : Map) (m : IsMap M) (P : Path)
       let rest = from_point (suc k) i j js later attrs (omega arith) route.1 in (
         (λ z.
             let yes = z.3 ∙ o in
-            let w : z.1 ≡ stretch Lines h i = (route.0 z.1).0 (coe 0 1 (n. RecoversTo N c (slice_index Lines h) (yes n) z.1) z.4) in
+            let w = (route.0 z.1).0 (coe 0 1 (n. RecoversTo N c (slice_index Lines h) (yes n) z.1) z.4) in
             z.5 ∙ (λ n. w n ∷ (rest z.2).0 (coe 0 1 (m. RecoversFrom T N r (suc k) (yes m) (Along i j js) z.2) z.6) n)),
         (λ q. (slice_index Lines i, stretch Lines h i, _, sym o, (route.0 (stretch Lines h i)).1 refl, q, (rest _).1 refl)),
       )

@@ -117,8 +117,7 @@ module _ (M : Map) (P : Path) (js : List ℕ) (gs : List Leg) (cs : List (ℕ ×
         IsTrue (stands_out far slack s (decoded_coord r k) x (leg M x) (candidates M))
     stands_at slack = holds (stands_out far slack s (decoded_coord r k))
 
--- ---- the first worked path: the lines 10, 20 and 30 with three LRPs. Line 99, another line from the start of line 20 to its end,
--- is shorter
+-- ---- the first worked path: the lines 10, 20 and 30 with three LRPs; line 99, between the ends of line 20, is shorter
 
 abbrev M : Map
 M = morning_map
@@ -207,8 +206,8 @@ no_fault =
 along : legs M Lines ≡ legs1
 along i = road10.is i ∷ road20.is i ∷ road30.is i ∷ []
 
-morning_row : IsRow M morning_path (1 ∷ 3 ∷ []) legs1 morning_lines reference1
-morning_row =
+row1 : IsRow M morning_path (1 ∷ 3 ∷ []) legs1 morning_lines reference1
+row1 =
     record {
       sound = morning_sound;
       is = refl;
@@ -224,25 +223,25 @@ morning_row =
 -- ---- the answer
 
 pub morning_answer : Encodes morning_map morning_path (Points reference1)
-morning_answer = encodes M _ _ _ _ _ morning_row
+morning_answer = encodes M _ _ _ _ _ row1
 
 pub morning_distinct : Distinct axes_sum morning_map morning_path reference1
 morning_distinct =
-    record { outgoing = out; incoming = distinct_at M _ _ _ _ _ morning_row Incoming 2 30 leg30 refl road30.is axes_sum refl refl }
+    record { outgoing = out; incoming = distinct_at M _ _ _ _ _ row1 Incoming 2 30 leg30 refl road30.is axes_sum refl refl }
   where
     out : (k : ℕ) → k < 2 → DistinctAt axes_sum morning_map morning_path Outgoing k (decoded_coord reference1 k)
-    out zero lt = distinct_at M _ _ _ _ _ morning_row Outgoing 0 10 leg10 refl road10.is axes_sum refl refl
-    out (suc zero) lt = distinct_at M _ _ _ _ _ morning_row Outgoing 1 20 leg20 refl road20.is axes_sum refl refl
+    out zero lt = distinct_at M _ _ _ _ _ row1 Outgoing 0 10 leg10 refl road10.is axes_sum refl refl
+    out (suc zero) lt = distinct_at M _ _ _ _ _ row1 Outgoing 1 20 leg20 refl road20.is axes_sum refl refl
     out (suc (suc k)) lt = absurd (omega arith)
 
 pub morning_by_direction : DistinctByDirection axes_sum 10000000 morning_map morning_path reference1
 morning_by_direction =
-    record { outgoing = out; incoming = stands_at M _ _ _ _ _ morning_row Incoming 2 30 leg30 refl road30.is axes_sum 10000000 refl }
+    record { outgoing = out; incoming = stands_at M _ _ _ _ _ row1 Incoming 2 30 leg30 refl road30.is axes_sum 10000000 refl }
   where
     out : (k x : ℕ) → k < 2 → IsLineAt M morning_path Outgoing k x →
         IsTrue (stands_out axes_sum 10000000 Outgoing (decoded_coord reference1 k) x (leg M x) (candidates M))
-    out zero x lt = stands_at M _ _ _ _ _ morning_row Outgoing 0 10 leg10 refl road10.is axes_sum 10000000 refl x
-    out (suc zero) x lt = stands_at M _ _ _ _ _ morning_row Outgoing 1 20 leg20 refl road20.is axes_sum 10000000 refl x
+    out zero x lt = stands_at M _ _ _ _ _ row1 Outgoing 0 10 leg10 refl road10.is axes_sum 10000000 refl x
+    out (suc zero) x lt = stands_at M _ _ _ _ _ row1 Outgoing 1 20 leg20 refl road20.is axes_sum 10000000 refl x
     out (suc (suc k)) x lt = absurd (omega arith)
 
 -- between 0.64 and 1 at each end of a line

@@ -1,5 +1,5 @@
--- A run is determined by what it reads, reports out of memory only where that may be, and rebuilds a dumped content; a run that is
--- cut off, and the next one from what is left of its log.
+-- A run is determined by what it reads, reports out of memory only where that may be, and rebuilds a dumped content; a run
+-- that is cut off, and the next one from what is left of its log.
 use Rattle.olr_run.proofs.Common.{◌&&◌, cases_Bool, AreAnswered, append-nil, SoundOutcome, records_of, outcome_text, Registered}
 use Rattle.olr_run.proofs.Common.{is_err, IsFalse, ByState, read, Appends, Claims, texts, In_last, EndedOn, Known}
 use Rattle.olr_run.proofs.Common.{or_parts, Outcome, Outcomes, IsRefusal, may_lack, both_ways, run_join, Represents, RunFault}

@@ -26,7 +26,8 @@ module _ (c : Content) where
   node_dumped : (v : ℕ) → has_node M v ≡ true → Contains (dump_changes c) (node_change (v, coord_at M v))
   node_dumped v there =
       let found = found_in node_change (entries M.nodes) v (coord_at M v) in
-      grind (arith, Contains-append_right, Contains-append_left, found, get-entries M.nodes v, some_is (get M.nodes v) no_coord there)
+      let there_is = some_is (get M.nodes v) no_coord there in
+      grind (arith, Contains-append_right, Contains-append_left, found, get-entries M.nodes v, there_is)
 
   line_dumped : (x : ℕ) → has_line M x ≡ true → Contains (dump_changes c) (line_change (x, line_at M x))
   line_dumped x there =
