@@ -1,19 +1,18 @@
 -- Where the LRPs of an answer are decoded, that receivers exist, and what the legs between the LRPs say.
 use Rattle.olr_spec.specs.Margins.{Margin}
-use Rattle.olr_spec.proofs.Common.{IsPointWith, ◌≡◌, ℕ, zero, suc, ◌+◌, ℤ, true, List, ◌∷◌, length, ◌<◌, ◌≤◌, Some, None}
-use Rattle.olr_spec.proofs.Common.{is_some, IsTrue, ap, ◌∙◌, subst, arith, nat_le, [], slice_get, option_map, leb-true}
-use Rattle.olr_spec.proofs.Common.{slice_index, Map, cases_Bool, IsMap, coord_at, Path, is_path, node_at, Reference, Points}
-use Rattle.olr_spec.proofs.Common.{path_fault, IsNear, EncodingWith, slice_get-get_or, decoded, ◌-◌, refl, nat_lt, ◌==◌, ◌*◌}
-use Rattle.olr_spec.proofs.Common.{◌-ℤ◌, ◌/◌, eqb-true, ltb-true, lt-ltb, le-ltb, nat_abs, or_cases, ints, offset, Measure}
-use Rattle.olr_spec.proofs.Common.{Coord, decoded_bound, map, IsWeighted, IsCut, IsClose, SomeReceiver, SomeWeighted, sym, inl}
-use Rattle.olr_spec.proofs.Common.{inr, Bool, pos, Option, unwrap_or, cond, AllZip, get_or, AllPass-from_list_all, cases_lt}
-use Rattle.olr_spec.proofs.Common.{or_left, or_right, start, end, extended_path, first, last, AreJoined, stretch, Leg, leg}
-use Rattle.olr_spec.proofs.Common.{legs, attrs_with, Middle, first_kept, last_kept, kept_points, middle_points_with, last_two}
-use Rattle.olr_spec.proofs.Common.{reference_by_kept_with, Side, is_nearest, coordinate_on, dm_of, concat}
-use Rattle.olr_spec.proofs.Common.{list_all-from_AllPass, cond-false, has, has_line, candidates, list_all, and_parts, up_to}
-use Rattle.olr_spec.proofs.Common.{lines_where, ◌&&◌, get_or_default, list_all-map, ◌⊎◌, ◌||◌, and_from, le-leb, node_on}
-use Rattle.olr_spec.specs.Recovery.{are_cosines, lon_apart, lat_apart, line_by, IsLineAtWith, stretches, IsStretchesWith}
-use Rattle.olr_spec.specs.Recovery.{IsStep, IsLeftWith, are_spaced, Weighted, is_cosine}
+use Rattle.olr_spec.proofs.Common.{IsPointWith, slice_index, SomeReceiver, SomeWeighted, kept_points, lines_where, list_all-map}
+use Rattle.olr_spec.proofs.Common.{◌≡◌, length, is_some, is_path, node_at, decoded, nat_abs, Measure, or_left, stretch, node_on}
+use Rattle.olr_spec.proofs.Common.{ℕ, ℤ, ◌<◌, ◌≤◌, ◌∙◌, Map, ◌-◌, ◌*◌, ◌/◌, map, sym, inl, inr, pos, end, Leg, leg, has, ◌⊎◌}
+use Rattle.olr_spec.proofs.Common.{zero, slice_get, coord_at, Reference, unwrap_or, AreJoined, last_kept, candidates, and_parts}
+use Rattle.olr_spec.proofs.Common.{suc, ◌+◌, ◌∷◌, None, Path, refl, ◌==◌, ◌-ℤ◌, ints, Bool, cond, last, legs, Side, ◌&&◌, ◌||◌}
+use Rattle.olr_spec.proofs.Common.{true, IsTrue, nat_le, Points, IsNear, nat_lt, lt-ltb, le-ltb, offset, Option, AllZip, get_or}
+use Rattle.olr_spec.proofs.Common.{List, Some, subst, arith, IsMap, Coord, start, first, Middle, dm_of, concat, up_to, le-leb}
+use Rattle.olr_spec.proofs.Common.{ap, AllPass-from_list_all, middle_points_with, reference_by_kept_with, list_all-from_AllPass}
+use Rattle.olr_spec.proofs.Common.{[], eqb-true, ltb-true, or_cases, cases_lt, or_right, last_two, has_line, list_all, and_from}
+use Rattle.olr_spec.proofs.Common.{option_map, leb-true, cases_Bool, path_fault, attrs_with, first_kept, is_nearest, cond-false}
+use Rattle.olr_spec.proofs.Common.{EncodingWith, slice_get-get_or, decoded_bound, extended_path, coordinate_on, get_or_default}
+use Rattle.olr_spec.specs.Recovery.{IsWeighted, IsCut, IsClose, are_cosines, lon_apart, lat_apart, line_by, IsLineAtWith}
+use Rattle.olr_spec.specs.Recovery.{stretches, IsStretchesWith, IsStep, IsLeftWith, are_spaced, Weighted, is_cosine}
 use Rattle.olr_spec.proofs.Facts.{path_also, path_at, Each, has_index, at_index, has-lines_where, has_last, last_index, Known}
 use Rattle.olr_spec.proofs.Facts.{LinkedWith, follow_linked_with, kept_linked_with, empty_stretch, stretch_first, positive}
 use Rattle.olr_spec.proofs.Facts.{next_start}
