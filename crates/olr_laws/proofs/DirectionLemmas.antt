@@ -239,9 +239,8 @@ outdone_either slack a b beyond h = grind (arith, or_cases, ltb-true, leb-true, 
 
 module _ (D : DirectionReceiver) (M : Map) (t : Lrp) (x : ℕ) (d : Describes M t x) (o : StandsOut D M t.side t.place x) where
   own_sector : IsSector (direction_on t.side (leg M x)).east (direction_on t.side (leg M x)).north t.bearing
-  own_sector =
-      subst (λ (k : ℕ). IsSector (direction_on t.side (leg M x)).east (direction_on t.side (leg M x)).north k) (sym d.bearing)
-      (in_sector t.side (leg M x) (and_parts (is_direction (direction_on t.side (leg M x))) _ o).0)
+  own_sector = let out = and_parts (is_direction (direction_on t.side (leg M x))) _ o in
+      grind (arith, d.bearing, in_sector t.side (leg M x) out.0)
 
   inside : (rating_by D.by t (leg M x)).bearing ≤ D.by.reach
   inside = (D.by.bearings (coordinate_on t.side (leg M x))).inside t.bearing (direction_on t.side (leg M x)) own_sector

@@ -1,5 +1,5 @@
 -- The worked rows on margins.
-use Rattle.olr_spec.proofs.Common.{inl, inr, ◌≡◌, ◌≢◌, ℕ, ◌<◌, ◌≤◌, List, [], ◌∷◌, refl, sym, ap, ◌∙◌, IsTrue, arith, ◌||◌}
+use Rattle.olr_spec.proofs.Common.{◌≡◌, ◌≢◌, ℕ, ◌<◌, ◌≤◌, List, [], ◌∷◌, refl, sym, ap, ◌∙◌, IsTrue, arith, ◌||◌}
 use Rattle.olr_spec.proofs.Common.{◌==◌, not, Map, IsMap, has_line, start, end, dm, dm_of, IsRoute, UniqueShortest, or_cases}
 use Rattle.olr_spec.proofs.Common.{◌⊎◌, eqb-true, eq-eqb, CoveredWith, length, first, not-true}
 use Rattle.olr_spec.specs.Margins.{counted, counted_dm}
@@ -66,10 +66,8 @@ after_20 y (z ∷ zs) e w ne =
 others_longer : (ys : List ℕ) → IsRoute (roads 1000 1010) 2 3 ys → ys ≢ 20 ∷ [] →
     dm_of (roads 1000 1010) (20 ∷ []) < dm_of (roads 1000 1010) ys
 others_longer [] w ne = absurd (omega (arith, w))
-others_longer (y ∷ ys) w ne = elim (from_2 y w.0 w.1) [
-  | inl e ↦ after_20 y ys e w.2 ne
-  | inr e ↦ omega (arith, (lengths 1000 1010).0, ap (dm (roads 1000 1010)) e, (lengths 1000 1010).1)
-]
+others_longer (y ∷ ys) w ne =
+    grind (arith, from_2 y w.0 w.1, after_20 y ys, (lengths 1000 1010).0, (lengths 1000 1010).1)
 
 -- without a margin it is: line 21 is longer
 pub covered_without : UniqueShortest (roads 1000 1010) 2 3 (20 ∷ [])
