@@ -1,7 +1,7 @@
 -- What is true of each element, as far as a loop has run. Membership in lists: by a test, and by a position.
-use Rattle.olr_paths.proofs.Common.{Contains-later, slice_get, Contains-cases, Contains-here, take_more, All-push}
-use Rattle.olr_paths.proofs.Common.{Contains, list_any, length, get_or, IsTrue, subst, arith, List, take, Some, ◌≡◌}
-use Rattle.olr_paths.proofs.Common.{true, ◌+◌, ◌<◌, ◌∷◌, All, sym, map, ◌↔◌, inl, inr, has, [], ℕ, Item, zero, suc}
+use Rattle.olr_paths.proofs.Common.{Contains-later, slice_get, Contains-cases, Contains-here, take_more, All-push, Contains}
+use Rattle.olr_paths.proofs.Common.{list_any, length, get_or, IsTrue, subst, arith, List, take, Some, ◌≡◌, true, ◌+◌, ◌<◌, ◌∷◌}
+use Rattle.olr_paths.proofs.Common.{All, sym, map, ◌↔◌, inl, inr, has, [], ℕ, Item, zero, suc}
 use Rattle.std.proofs.lemmas.List.Folds.{Any-from_list_any, list_any_at}
 pub use Rattle.olr_spec.proofs.SameNumbers.{has_from, in_from}
 

@@ -1,12 +1,11 @@
 -- A list under changes that remove no path: position by position, and with new results stored.
 --     changed_by cs i      one path under the changes.
 --     Lies us vs      vs is us, with some paths replaced by paths that are not encoded yet
-use Rattle.olr_paths.proofs.Common.{All, All-head, All-tail, inl, inr, ◌≡◌, ◌⊎◌, ℕ, zero, suc, ◌+◌, true, false, cond}
-use Rattle.olr_paths.proofs.Common.{List, [], ◌∷◌, ◌++◌, map, length, slice_get, Option, Some, None, is_some, refl, sym}
-use Rattle.olr_paths.proofs.Common.{ap, ◌∙◌, subst, arith, Path, same_name, path_named, NamesDiffer, Entry, Made, Item}
-use Rattle.olr_paths.proofs.Common.{all_named, Reported, Changes, RemovesNone, change_at, drops, under_change}
-use Rattle.olr_paths.proofs.Common.{under_changes, Put, put, all_put, string_bytes, Rc, same_is, changes_in, path_in}
-use Rattle.olr_paths.proofs.Common.{String, Global, without_answer, length-map}
+use Rattle.olr_paths.proofs.Common.{All, All-head, All-tail, inl, inr, ◌≡◌, ◌⊎◌, ℕ, zero, suc, ◌+◌, true, false, cond, List, []}
+use Rattle.olr_paths.proofs.Common.{◌∷◌, ◌++◌, map, length, slice_get, Option, Some, None, is_some, refl, sym, ap, ◌∙◌, subst}
+use Rattle.olr_paths.proofs.Common.{arith, Path, same_name, path_named, NamesDiffer, Entry, Made, Item, all_named, Reported}
+use Rattle.olr_paths.proofs.Common.{Changes, RemovesNone, change_at, drops, under_change, under_changes, Put, put, all_put}
+use Rattle.olr_paths.proofs.Common.{string_bytes, Rc, same_is, changes_in, path_in, String, Global, without_answer, length-map}
 use Rattle.std.proofs.Common.{length-append}
 use Rattle.olr_paths.proofs.NamedEntries.{Entries, First, item_of, items_of, same_flip}
 use Rattle.olr_paths.proofs.Overlaying.{Entered, has_name}
@@ -22,19 +21,13 @@ abbrev pub changed_by : Changes → Item → Item
 changed_by cs i = changed (change_at cs i.name) i
 
 pub one_changed : (c : Option (Option Path)) (i : Item) → drops c ≡ false → under_change c i ≡ changed c i ∷ []
-one_changed None i h = refl
-one_changed (Some None) i h = absurd cc
-one_changed (Some (Some p)) i h = refl
+one_changed c i h = grind arith
 
 changed_name : (c : Option (Option Path)) (i : Item) → i.name ≡ (changed c i).name
-changed_name None i = refl
-changed_name (Some None) i = refl
-changed_name (Some (Some p)) i = refl
+changed_name c i = grind arith
 
 changed_made : (c : Option (Option Path)) (i : Item) → ((changed c i).made ≡ None) ⊎ (i ≡ changed c i)
-changed_made None i = inr refl
-changed_made (Some None) i = inr refl
-changed_made (Some (Some p)) i = inl refl
+changed_made c i = grind arith
 
 -- ---- the list, position by position
 
@@ -46,7 +39,7 @@ all_changed cs (i ∷ is) h =
 
 map_at : (f : Item → Item) (is ys : List Item) (k : ℕ) (i : Item) → slice_get is k ≡ Some i →
     slice_get (map f is ++ ys) k ≡ Some (f i)
-map_at f [] ys k i at = let never : ⊥ = cc (at) in absurd never
+map_at f [] ys k i at = absurd cc
 map_at f (x ∷ is) ys zero i at = let same : x ≡ i = cc (at) in ap (λ (j : Item). Some (f j)) same
 map_at f (x ∷ is) ys (suc k) i at = map_at f is ys k i at
 
@@ -64,10 +57,7 @@ map_from : (f : Item → Item) (is ys : List Item) (k : ℕ) (j : Item) → slic
     Where f is ys k j
 map_from f [] ys k j at = inr (k, omega arith, at)
 map_from f (x ∷ is) ys zero j at = let same : f x ≡ j = cc (at) in inl (x, refl, sym same)
-map_from f (x ∷ is) ys (suc k) j at = elim (map_from f is ys k j at) [
-  | inl a ↦ inl a
-  | inr b ↦ inr (b.0, (let e = b.1 in omega arith), b.2)
-]
+map_from f (x ∷ is) ys (suc k) j at = grind (arith, map_from f is ys k j at)
 
 module _ (cs : Changes) (is ys : List Item) (none_removed : RemovesNone cs) where
   abbrev pub whole : List Item
@@ -129,9 +119,7 @@ lies_same : (before us vs : List Item) (es : List Entry) → Lies us vs → Repo
 lies_same before [] vs es h returned = sym h
 lies_same before (a ∷ us) [] es h returned = absurd h
 lies_same before (a ∷ us) (b ∷ vs) es h returned = elim h.1 [
-  | inl none ↦
-      let lost = rw none at returned.2 in
-      let never : ⊥ = cc (lost) in absurd never
+  | inl none ↦ let lost = rw none at returned.2 in absurd (cc lost)
   | inr same ↦ (λ i. same i ∷ lies_same before us vs returned.1 h.2 returned.3 i)
 ]
 
@@ -139,8 +127,7 @@ pub put_on_overlaid : (cs : Changes) (before is ys : List Item) (ps : List Put) 
     Reported before (all_put (under_changes cs is ++ ys) ps) es →
     all_put (is ++ ys) ps ≡ all_put (under_changes cs is ++ ys) ps
 put_on_overlaid cs before is ys ps es none_removed returned =
-    lies_same before (all_put (is ++ ys) ps) (all_put (under_changes cs is ++ ys) ps) es
-    (all_put_lies (is ++ ys) (under_changes cs is ++ ys) ps (overlaid_lies cs is ys none_removed)) returned
+    lies_same before _ _ es (all_put_lies _ _ ps (overlaid_lies cs is ys none_removed)) returned
 
 -- so it has where no path was encoded yet
 without_lies : (is : List Item) → Lies is (map without_answer is)
@@ -150,8 +137,7 @@ without_lies (i ∷ is) = (refl, inl refl, without_lies is)
 pub put_on_without : (before is : List Item) (ps : List Put) (es : List Entry) →
     Reported before (all_put (map without_answer is) ps) es → all_put is ps ≡ all_put (map without_answer is) ps
 put_on_without before is ps es returned =
-    lies_same before (all_put is ps) (all_put (map without_answer is) ps) es (all_put_lies is (map without_answer is) ps (without_lies is))
-    returned
+    lies_same before _ _ es (all_put_lies _ _ ps (without_lies is)) returned
 
 -- ---- names
 
@@ -162,8 +148,7 @@ has_one i L name = grind arith
 names_of_both : (us vs : List Item) (name : List ℕ) → Lies us vs → has_name us name ≡ has_name vs name
 names_of_both [] vs name h = ap (λ (js : List Item). has_name js name) (sym h)
 names_of_both (a ∷ us) [] name h = absurd h
-names_of_both (a ∷ us) (b ∷ vs) name h =
-    rw (has_one a us name, h.0, names_of_both us vs name h.2) (sym (has_one b vs name))
+names_of_both (a ∷ us) (b ∷ vs) name h = grind (arith, names_of_both us vs name h.2)
 
 pub lies_differ : (us vs : List Item) → Lies us vs → NamesDiffer (all_named vs) → NamesDiffer (all_named us)
 lies_differ [] vs h d = tt
@@ -187,8 +172,7 @@ abbrev pub IsOther : String Global × Option (Rc Path Global) → Type 0
 IsOther e = is_some e.1 ≡ true
 
 stays_so : (o : Option (Rc Path Global)) → is_some o ≡ true → drops (Some (path_in o)) ≡ false
-stays_so None h = absurd cc
-stays_so (Some p) h = refl
+stays_so o h = grind arith
 
 pub others_remove_none : (es : Entered) → All IsOther es → RemovesNone (changes_in es)
 others_remove_none [] h name = refl
@@ -199,7 +183,7 @@ others_remove_none (e ∷ es) h name =
 
 there_named : (is : List Item) (k : ℕ) (i : Item) (name : List ℕ) → slice_get is k ≡ Some i →
     same_name i.name name ≡ true → has_name is name ≡ true
-there_named [] k i name at same = let never : ⊥ = cc (at) in absurd never
+there_named [] k i name at same = absurd cc
 there_named (x ∷ is) zero i name at same = let e : x ≡ i = cc (at) in grind (arith, has_one x is name)
 there_named (x ∷ is) (suc k) i name at same = grind (arith, has_one x is name, there_named is k i name at same)
 
@@ -232,5 +216,5 @@ none_removed_by cs ys h name = is_there (change_at cs name) (h (i ∷ [])) where
 
   is_there : (c : Option (Option Path)) → (under_change c i ++ []) ++ ys ≡ i ∷ [] → drops c ≡ false
   is_there None e = refl
-  is_there (Some None) e = let empty : ys ≡ [] = h [] in let never : ⊥ = cc (e, empty) in absurd never
+  is_there (Some None) e = let empty : ys ≡ [] = h [] in absurd (cc (e, empty))
   is_there (Some (Some p)) e = refl

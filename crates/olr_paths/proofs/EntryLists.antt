@@ -1,15 +1,14 @@
 -- The texts and entries of a list whose paths were encoded, and such a list as what its iterator has left.
-use Rattle.olr_paths.proofs.Common.{◌≡◌, ℕ, Bool, List, Bor, IsTrue, Option, Some, None, sym, ap, ◌∙◌, subst}
-use Rattle.olr_paths.proofs.Common.{option_map, bytes_eq, IsReference, bytes_decides, result_ok, published_text}
-use Rattle.olr_paths.proofs.Common.{option_eq, true, is_some, inr, [], ◌∷◌, ◌++◌, refl}
-use Rattle.olr_paths.proofs.Common.{append_assoc, Entry, entry, Answer, Made, Item, made_of, made_in, answer_in}
-use Rattle.olr_paths.proofs.Common.{Reported, ◌≢◌, ◌&&◌, map, string_bytes, Rc, AreEncoded, Published, list_all, Global}
+use Rattle.olr_paths.proofs.Common.{arith, ◌≡◌, ℕ, Bool, List, Bor, IsTrue, Option, Some, None, sym, ap, ◌∙◌, subst, option_map}
+use Rattle.olr_paths.proofs.Common.{bytes_eq, IsReference, bytes_decides, result_ok, published_text, option_eq, true, is_some}
+use Rattle.olr_paths.proofs.Common.{[], ◌∷◌, refl, Answer, Made, Item, made_of, made_of_named, made_in, answer_in, ◌≢◌, ◌&&◌}
+use Rattle.olr_paths.proofs.Common.{map, string_bytes, Rc, AreEncoded, Published, list_all, Global}
 use Rattle.olr_binary.proofs.TextLemmas.{one_reference}
 use Rattle.olr_spec.specs.Reference.{Reference}
 use Rattle.olr_binary.specs.Text.{IsTextOf, text_of}
-use Rattle.olr_spec.specs.Encoding as spec
 use Rattle.olr_paths.specs.declared.published.Published.{Published as Encoded}
-use Rattle.olr_paths.proofs.NamedEntries.{Entries, items_of, made_of_named}
+use Rattle.olr_spec.specs.Encoding as spec
+use Rattle.olr_paths.proofs.NamedEntries.{Entries, items_of}
 
 -- ---- two texts
 
@@ -44,8 +43,7 @@ answered is name None e some = absurd cc
 answered is name (Some p) e some = ((made_of p.now).answer, ap (option_map (λ (m : Made). m.answer)) (sym e))
 
 some_made : (o : Option (Rc Published Global)) → option_map (λ p. made_of p.value) o ≢ None → is_some o ≡ true
-some_made None h = absurd (h refl)
-some_made (Some p) h = refl
+some_made o h = grind arith
 
 pub all_some : (es : Entries) → AreEncoded (items_of es) → list_all (λ e. is_some e.1.published) es ≡ true
 all_some [] a = refl

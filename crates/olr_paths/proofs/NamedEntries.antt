@@ -1,22 +1,20 @@
 -- A map's entries as a list of named paths: lookups, edits, and that no name occurs twice.
 use Rattle.olr_paths.proofs.Common.{option_and_then, AllByRecursion, slice_get-map, bytes_decides, string_bytes, length}
 use Rattle.olr_paths.proofs.Common.{set_value_at, NamesDiffer, option_map, cases_Bool, path_named, slice_get, string_eq}
-use Rattle.olr_paths.proofs.Common.{same_name, all_named, NamedPath, bytes_eq, named_of, set_item, position, is_some, ℕ}
-use Rattle.olr_paths.proofs.Common.{same_is, flipped, made_of, made_in, keys_of, get_or, Option, filter, lookup, remove}
-use Rattle.olr_paths.proofs.Common.{String, Global, subst, arith, false, zero, Bool, true, List, Some, None, refl, Path}
-use Rattle.olr_paths.proofs.Common.{Made, Item, inl, inr, ◌≡◌, suc, ◌<◌, not, ◌∷◌, map, sym, ◌∙◌, [], ap}
-use Rattle.std.specs.List.{IsDistinct}
+use Rattle.olr_paths.proofs.Common.{same_name, all_named, NamedPath, bytes_eq, set_item, position, is_some, ℕ, same_is, flipped}
+use Rattle.olr_paths.proofs.Common.{made_of_named, made_in, keys_of, get_or, Option, filter, lookup, remove, String, Global}
+use Rattle.olr_paths.proofs.Common.{subst, arith, false, zero, Bool, true, List, Some, None, refl, Path, Made, Item, inl, inr}
+use Rattle.olr_paths.proofs.Common.{◌≡◌, suc, ◌<◌, not, ◌∷◌, map, sym, ◌∙◌, [], ap}
 use Rattle.std.proofs.lemmas.List.Quantifiers.{position-Some}
+use Rattle.std.specs.List.{IsDistinct}
+use Rattle.olr_paths.specs.Items.{item_of as under}
 
 abbrev pub Entries : Type 0
 Entries = List (String Global × NamedPath)
 
 -- an entry as an item
-abbrev pub made_of_named : NamedPath → Option Made
-made_of_named n = option_map (λ p. made_of p.value) n.published
-
 abbrev pub item_of : String Global × NamedPath → Item
-item_of e = record { name = string_bytes e.0; path = e.1.path.value; made = made_of_named e.1 }
+item_of e = under (string_bytes e.0) e.1
 
 abbrev pub items_of : Entries → List Item
 items_of es = map item_of es
@@ -92,7 +90,7 @@ first_of (e ∷ es) name d (suc p) lt h before =
     (before zero (omega arith), first_of es name d p (omega arith) h (λ k low. before (suc k) (omega arith)))
 
 pub first_at : (es : Entries) (name : List ℕ) (p : ℕ) → position (asks name) (keys_of es) ≡ Some p → First name es p
-first_at [] name p at = let never : ⊥ = cc (at) in absurd never
+first_at [] name p at = absurd cc
 first_at (e ∷ es) name p at =
     let h = position-Some (asks name) (keys_of (e ∷ es)) p e.0 at in first_of (e ∷ es) name e.0 p h.0 h.1 h.2
 
@@ -128,23 +126,8 @@ set_absent es name n h =
 
 -- ---- one entry
 
-pub named_at : (es : Entries) (k : ℕ) (e : String Global × NamedPath) → slice_get es k ≡ Some e →
-    slice_get (map (λ i. i.name) (items_of es)) k ≡ Some (string_bytes e.0)
-named_at es k e h = rw (slice_get-map (λ (i : Item). i.name) (items_of es) k, slice_get-map item_of es k, h) refl
-
-pub path_at : (es : Entries) (k : ℕ) (e : String Global × NamedPath) → slice_get es k ≡ Some e →
-    slice_get (all_named (items_of es)) k ≡ Some (record { name = string_bytes e.0; path = e.1.path.value })
-path_at es k e h = rw (slice_get-map named_of (items_of es) k, slice_get-map item_of es k, h) refl
-
-pub published_of : (es : Entries) (name : List ℕ) (o : Option NamedPath) → lookup (asks name) es ≡ o →
-    made_in (items_of es) name ≡ option_and_then made_of_named o
-published_of es name o h = looked_up es name ∙ ap (option_and_then made_of_named) h
-
-abbrev pub path_of_entry : NamedPath → Path
-path_of_entry n = n.path.value
-
 pub paths_named : (es : Entries) (name : List ℕ) →
-    path_named (all_named (items_of es)) name ≡ option_map path_of_entry (lookup (asks name) es)
+    path_named (all_named (items_of es)) name ≡ option_map (λ n. n.path.value) (lookup (asks name) es)
 paths_named [] name = refl
 paths_named (e ∷ es) name = grind (arith, paths_named es name, same_flip (string_bytes e.0) name)
 

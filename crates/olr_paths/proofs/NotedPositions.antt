@@ -1,14 +1,13 @@
 -- Index entries that are added and removed one by one, and results to be stored at positions.
-use Rattle.olr_paths.proofs.Common.{option_to_list, CoverageQuery, All-contains, ArePublished, set_value_at}
-use Rattle.olr_paths.proofs.Common.{LackQueries, path_ids_of, option_map, NamedNoted, IsNoted, keys_by, named_keys}
-use Rattle.olr_paths.proofs.Common.{AreNotedAt, map-append, AreEncoded, nat_tests, slice_get, Published, NamedPath}
-use Rattle.olr_paths.proofs.Common.{values_of, Contains, AddsOnly, ChangesOnly, BeginsIn, PathList, made_of, all_put}
-use Rattle.olr_paths.proofs.Common.{puts_of, length, get_or, IsTrue, Option, Begins, Finder, String, Global, subst}
-use Rattle.olr_paths.proofs.Common.{arith, holds, Index, Grows, items, ◌==◌, List, ◌||◌, ◌&&◌, [], take, zero, Some}
-use Rattle.olr_paths.proofs.Common.{None, refl, Item, ◌++◌, Path, Made, ◌≡◌, ◌≢◌, ◌+◌, ◌<◌, not, All, inl, inr, suc}
-use Rattle.olr_paths.proofs.Common.{◌∷◌, sym, ◌∙◌, has, ◌≤◌, Put, put, ap, Rc, ℕ}
+use Rattle.olr_paths.proofs.Common.{option_to_list, CoverageQuery, All-contains, ArePublished, set_value_at, LackQueries}
+use Rattle.olr_paths.proofs.Common.{path_ids_of, option_map, NamedNoted, IsNoted, keys_by, named_keys, AreNotedAt, map-append}
+use Rattle.olr_paths.proofs.Common.{AreEncoded, nat_tests, slice_get, Published, NamedPath, values_of, Contains, AddsOnly}
+use Rattle.olr_paths.proofs.Common.{ChangesOnly, BeginsIn, PathList, made_of, made_of_named, all_put, puts_of, length, get_or}
+use Rattle.olr_paths.proofs.Common.{IsTrue, Option, Begins, Finder, String, Global, subst, arith, holds, Index, Grows, items}
+use Rattle.olr_paths.proofs.Common.{◌==◌, List, ◌||◌, ◌&&◌, [], take, zero, Some, None, refl, Item, ◌++◌, Path, Made, ◌≡◌, ◌≢◌}
+use Rattle.olr_paths.proofs.Common.{◌+◌, ◌<◌, not, All, inl, inr, suc, ◌∷◌, sym, ◌∙◌, has, ◌≤◌, Put, put, ap, Rc, ℕ}
 use Rattle.olr_paths.proofs.Alls.{all_more, at_position}
-use Rattle.olr_paths.proofs.NamedEntries.{Entries, item_of, items_of, item_at, made_of_named}
+use Rattle.olr_paths.proofs.NamedEntries.{Entries, item_of, items_of, item_at}
 use Rattle.olr_paths.proofs.PathIdLemmas.{noted_grown}
 
 -- after this many of the numbers
@@ -78,7 +77,7 @@ all_published es h k e at none =
 
 pub back : (es : Entries) (k : ℕ) (i : Item) → slice_get (items_of es) k ≡ Some i → (e : String Global × NamedPath)
     × (slice_get es k ≡ Some e) × (item_of e ≡ i)
-back [] k i at = let never : ⊥ = cc (at) in absurd never
+back [] k i at = absurd cc
 back (x ∷ es) zero i at = let same : item_of x ≡ i = cc (at) in (x, refl, same)
 back (x ∷ es) (suc k) i at = back es k i at
 
@@ -110,15 +109,14 @@ lack_by p indexed empty l = lack_from p.paths.entries l (λ k e at. by k e at e.
 
 -- lists with the same items are encoded alike
 pub all_same : (es fs : Entries) → items_of fs ≡ items_of es → ArePublished es → ArePublished fs
-all_same es fs same h k e at = λ none.
-    let b = back es k (item_of e) (ap (λ (js : List Item). slice_get js k) (sym same) ∙ item_at fs k e at) in
-    let made : made_of_named b.0.1 ≡ made_of_named e.1 = ap (λ (i : Item). i.made) b.2 in
-    let replaced : made_of_named e.1 ≡ None = ap (option_map (λ p. made_of p.value)) none in
-    h k b.0 b.1 (none_published b.0.1.published (made ∙ replaced))
+all_same es fs same h = all_published fs (subst AreEncoded (sym same) (encoded es h))
   where
-    none_published : (o : Option (Rc Published Global)) → option_map (λ p. made_of p.value) o ≡ None → o ≡ None
-    none_published None h = refl
-    none_published (Some p) h = let never : ⊥ = cc (h) in absurd never
+    encoded : (es : Entries) → ArePublished es → AreEncoded (items_of es)
+    encoded [] h = tt
+    encoded (e ∷ es) h = ((λ none. h 0 e refl (not_published e.1.published none)), encoded es (λ k. h (suc k)))
+      where
+        not_published : (o : Option (Rc Published Global)) → option_map (λ p. made_of p.value) o ≡ None → o ≡ None
+        not_published o none = grind arith
 
 -- after the first ones
 pub put_behind : (xs : List Item) (k : ℕ) (i : Item) (ys : List Item) (path : Path) (made : Option Made) →
@@ -147,7 +145,7 @@ put_at (e ∷ es) (suc k) n = ap (λ (is : List Item). item_of e ∷ is) (put_at
 put_nowhere : (es : Entries) (k : ℕ) (path : Path) (made : Option Made) → None ≡ slice_get (values_of es) k →
     put (items_of es) k path made ≡ items_of es
 put_nowhere [] k path made at = refl
-put_nowhere (e ∷ es) zero path made at = let never : ⊥ = cc in absurd never
+put_nowhere (e ∷ es) zero path made at = absurd cc
 put_nowhere (e ∷ es) (suc k) path made at = ap (λ (is : List Item). item_of e ∷ is) (put_nowhere es k path made at)
 
 module _ (es : Entries) (k : ℕ) (n : NamedPath) (all rest : List One) (o : Option One)

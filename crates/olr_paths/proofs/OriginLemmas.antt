@@ -1,7 +1,7 @@
 -- The coverage queries of a list in which an item was replaced, or a path was added, set or dropped.
-use Rattle.olr_paths.proofs.Common.{inl, inr, ◌≡◌, ℕ, zero, suc, ◌⊎◌, Bool, List, [], ◌∷◌, ◌++◌, map, slice_get, Option}
-use Rattle.olr_paths.proofs.Common.{Some, arith, filter, option_map, Path, CoverageQuery, Made, Item, made_of, set_item}
-use Rattle.olr_paths.proofs.Common.{BeginsIn, Begins, BeginsPut, Put, put, all_put, puts_of, NamedPath}
+use Rattle.olr_paths.proofs.Common.{inl, inr, ◌≡◌, ℕ, zero, suc, ◌⊎◌, Bool, List, [], ◌∷◌, ◌++◌, map, slice_get, Option, Some}
+use Rattle.olr_paths.proofs.Common.{arith, filter, option_map, Path, CoverageQuery, Made, Item, made_of, set_item, BeginsIn}
+use Rattle.olr_paths.proofs.Common.{Begins, BeginsPut, Put, put, all_put, puts_of, NamedPath}
 
 -- of one of the list's items
 pub begins_there : (is : List Item) (k : ℕ) (i : Item) (v : CoverageQuery) → slice_get is k ≡ Some i →

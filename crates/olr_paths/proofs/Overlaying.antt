@@ -1,11 +1,10 @@
 -- Lists of named paths under changes: which names they have, and the effect of one more change.
-use Rattle.olr_paths.proofs.Common.{◌≡◌, ℕ, Bool, true, false, not, ◌&&◌, cond, List, [], ◌∷◌, ◌++◌, map}
-use Rattle.olr_paths.proofs.Common.{Option, Some, None, is_some, refl, sym, ap, ◌∙◌, subst, append_assoc}
-use Rattle.olr_paths.proofs.Common.{arith, option_map, string_bytes, filter, lookup, string_eq, Rc, map-append}
-use Rattle.olr_paths.proofs.Common.{insert_entry, Path, same_name, path_named, NamesDiffer, same_is, Item, all_named}
-use Rattle.olr_paths.proofs.Common.{set_item, NamedPath, Changes, change_at, drops, under_change, under_changes}
-use Rattle.olr_paths.proofs.Common.{path_in, changes_in, bytes_decides, String, Global, append-nil, filter-append}
-use Rattle.olr_paths.specs.Stored.{item_of}
+use Rattle.olr_paths.proofs.Common.{◌≡◌, ℕ, not, List, ◌∷◌, ◌++◌, map, Some, None, refl, sym, ap, ◌∙◌, Rc, Path, Item}
+use Rattle.olr_paths.proofs.Common.{Bool, append_assoc, string_bytes, insert_entry, under_changes, bytes_decides, filter-append}
+use Rattle.olr_paths.proofs.Common.{true, option_map, map-append, path_named, NamesDiffer, under_change, changes_in, append-nil}
+use Rattle.olr_paths.proofs.Common.{false, ◌&&◌, cond, [], Option, subst, arith, filter, lookup, drops, path_in, String, Global}
+use Rattle.olr_paths.proofs.Common.{is_some, string_eq, same_name, same_is, all_named, set_item, NamedPath, Changes, change_at}
+use Rattle.olr_paths.specs.Items.{item_of}
 use Rattle.olr_paths.proofs.NamedEntries.{asks, same_flip, absent, none_filtered, sets_none}
 
 abbrev pub Entered : Type 0
@@ -34,9 +33,7 @@ change_put (e ∷ es) k o name =
 -- with one path in front, under its change
 one_has : (c : Option (Option Path)) (i : Item) (L : List Item) (name : List ℕ) →
     has_name (under_change c i ++ L) name ≡ cond (same_name i.name name && not (drops c)) true (has_name L name)
-one_has None i L name = grind arith
-one_has (Some None) i L name = grind arith
-one_has (Some (Some p)) i L name = grind arith
+one_has c i L name = grind arith
 
 pub overlaid_has : (cs : Changes) (is : List Item) (name : List ℕ) →
     has_name (under_changes cs is) name ≡ cond (drops (change_at cs name)) false (has_name is name)
@@ -83,9 +80,7 @@ one_set : (name : List ℕ) (path : Path) (c : Option (Option Path)) (i : Item) 
     (same_name i.name name ≡ true → drops c ≡ false) →
     under_change (cond (same_name i.name name) (Some (Some path)) c) i
     ≡ map (set_item name path None) (under_change c i)
-one_set name path None i stays = grind arith
-one_set name path (Some None) i stays = grind arith
-one_set name path (Some (Some p)) i stays = grind arith
+one_set name path c i stays = grind arith
 
 pub overlaid_set : (cs ds : Changes) (name : List ℕ) (path : Path) (is : List Item) → Puts cs name (Some path) ds →
     drops (change_at cs name) ≡ false → under_changes ds is ≡ map (set_item name path None) (under_changes cs is)
@@ -102,9 +97,7 @@ others name is = filter (λ i. not (same_name i.name name)) is
 
 one_dropped : (name : List ℕ) (c : Option (Option Path)) (i : Item) →
     under_change (cond (same_name i.name name) (Some None) c) i ≡ others name (under_change c i)
-one_dropped name None i = grind arith
-one_dropped name (Some None) i = grind arith
-one_dropped name (Some (Some p)) i = grind arith
+one_dropped name c i = grind arith
 
 pub overlaid_drop : (cs ds : Changes) (name : List ℕ) (is : List Item) → Puts cs name None ds →
     under_changes ds is ≡ others name (under_changes cs is)
@@ -153,9 +146,7 @@ overlaid_none [] = refl
 overlaid_none (i ∷ is) = ap (λ (js : List Item). i ∷ js) (overlaid_none is)
 
 overlaid_name : (c : Option (Option Path)) (i j : Item) → under_change c i ≡ j ∷ [] → j.name ≡ i.name
-overlaid_name None i j e = grind arith
-overlaid_name (Some None) i j e = absurd cc
-overlaid_name (Some (Some p)) i j e = grind arith
+overlaid_name c i j e = grind arith
 
 -- what was copied, so that the paths that are left give the whole
 pub record Copied (cs : Changes) (left is to now : List Item) : Type 0 where

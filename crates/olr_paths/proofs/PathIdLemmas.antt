@@ -2,12 +2,11 @@
 --     Each P es ms      P holds of the id and the path at each position
 use Rattle.olr_paths.proofs.Common.{AllPairs-from_increasing, get_or_from_slice_get, IsStrictlyIncreasing, string_bytes}
 use Rattle.olr_paths.proofs.Common.{IsBinarySearchResult, slice_get_within, length-remove, set_value_at, insert_entry}
-use Rattle.olr_paths.proofs.Common.{cases_order, get_or_read, NamedNoted, IsNoted, KeyLists, named_keys, has-remove}
-use Rattle.olr_paths.proofs.Common.{slice_get, result_ok, string_eq}
-use Rattle.olr_paths.proofs.Common.{NamedPath, place_not, cases_lt, place_of, PathList, AreNoted, flipped, ascends, inl}
-use Rattle.olr_paths.proofs.Common.{length, get_or, Result, remove, eq-eqb, Finder, String, Global, has_at, Spares, inr}
-use Rattle.olr_paths.proofs.Common.{false, subst, arith, Grows, zero, Bool, ◌&&◌, List, ◌++◌, Some, refl, ◌≡◌, ◌≢◌, suc}
-use Rattle.olr_paths.proofs.Common.{◌<◌, not, ◌∷◌, Err, ◌-◌, ◌+◌, sym, ◌∙◌, has, [], Ok, ap, ℕ}
+use Rattle.olr_paths.proofs.Common.{cases_order, get_or_read, NamedNoted, IsNoted, KeyLists, named_keys, has-remove, slice_get}
+use Rattle.olr_paths.proofs.Common.{result_ok, string_eq, NamedPath, place_not, cases_lt, place_of, PathList, AreNoted, flipped}
+use Rattle.olr_paths.proofs.Common.{ascends, inl, length, get_or, Result, remove, eq-eqb, Finder, String, Global, has_at}
+use Rattle.olr_paths.proofs.Common.{Spares, inr, false, subst, arith, Grows, zero, Bool, ◌&&◌, List, ◌++◌, Some, refl, ◌≡◌, ◌≢◌}
+use Rattle.olr_paths.proofs.Common.{suc, ◌<◌, not, ◌∷◌, Err, ◌-◌, ◌+◌, sym, ◌∙◌, has, [], Ok, ap, ℕ}
 use Rattle.std.specs.Ordering.{nat_cmp}
 use Rattle.olr_paths.proofs.NamedEntries.{Entries, item_of, items_of, absent, not_here}
 
@@ -48,7 +47,7 @@ not_left xs p k up at lt same =
     let there = has_at (remove xs p) k v lt same in
     let off : has (remove xs p) v ≡ false =
     has-remove xs p v v up at refl ∙ ap (λ (b : Bool). not b && has xs v) (eq-eqb v v refl) in
-    let never : ⊥ = cc (there, off) in absurd never
+    absurd (cc (there, off))
 
 -- the id after the last
 pub below_next : (xs : List ℕ) (last path_id : ℕ) → IsStrictlyIncreasing xs → slice_get xs (length xs - 1) ≡ Some last →
@@ -71,7 +70,7 @@ position_by xs x (Ok i) up h k lt is =
 position_by xs x (Err i) up h k lt is =
     let off = place_not xs x i (place_of xs x (Err i) up h) in
     let on = has_at xs k x lt is in
-    let never : ⊥ = cc (on, off) in absurd never
+    absurd (cc (on, off))
 
 -- ---- what holds of each id and path
 
@@ -83,41 +82,32 @@ module _ (P : ℕ → NamedPath → Type 0) where
   pub each_push : (es : Entries) (ms : List ℕ) (key : String Global) (n : NamedPath) (m : ℕ) → length ms ≡ length es →
       Each P es ms → P m n → Each P (es ++ (key, n) ∷ []) (ms ++ m ∷ [])
   each_push [] [] key n m long h one zero e at = let is : n ≡ e.1 = cc (at) in subst (P m) is one
-  each_push [] [] key n m long h one (suc k) e at = let never : ⊥ = cc (at) in absurd never
-  each_push [] (y ∷ ms) key n m long h one k e at = absurd (omega arith)
-  each_push (x ∷ es) [] key n m long h one k e at = absurd (omega arith)
   each_push (x ∷ es) (y ∷ ms) key n m long h one zero e at = h zero e at
   each_push (x ∷ es) (y ∷ ms) key n m long h one (suc k) e at =
       each_push es ms key n m (omega arith) (λ j. h (suc j)) one k e at
+  each_push _ _ key n m long h one k e at = absurd (grind arith)
 
   -- with one removed
   pub each_removed : (es : Entries) (ms : List ℕ) (q : ℕ) → length ms ≡ length es → Each P es ms →
       Each P (remove es q) (remove ms q)
-  each_removed [] ms zero long h k e at = let never : ⊥ = cc (at) in absurd never
-  each_removed [] ms (suc q) long h k e at = let never : ⊥ = cc (at) in absurd never
+  each_removed [] ms zero long h k e at = absurd cc
+  each_removed [] ms (suc q) long h k e at = absurd cc
   each_removed (x ∷ es) [] q long h k e at = absurd (omega arith)
   each_removed (x ∷ es) (y ∷ ms) zero long h k e at = h (suc k) e at
   each_removed (x ∷ es) (y ∷ ms) (suc q) long h zero e at = h zero e at
   each_removed (x ∷ es) (y ∷ ms) (suc q) long h (suc k) e at =
       each_removed es ms q (omega arith) (λ j. h (suc j)) k e at
 
-  -- with one replaced
-  pub each_set : (es : Entries) (ms : List ℕ) (q : ℕ) (n : NamedPath)
-      → ((k : ℕ) (e : String Global × NamedPath) → k ≢ q → slice_get es k ≡ Some e → P (get_or ms k 0) e.1) →
-      P (get_or ms q 0) n → Each P (set_value_at es q n) ms
-  each_set [] ms q n h one k e at = let never : ⊥ = cc (at) in absurd never
-  each_set (x ∷ es) ms zero n h one zero e at = let is : n ≡ e.1 = cc (at) in subst (P (get_or ms 0 0)) is one
-  each_set (x ∷ es) ms zero n h one (suc k) e at = h (suc k) e (λ s. omega arith) at
-  each_set (x ∷ es) ms (suc q) n h one zero e at = h zero e (λ s. omega arith) at
-  each_set (x ∷ es) [] (suc q) n h one (suc k) e at =
-      each_set es [] q n (λ j f ne. h (suc j) f (λ s. ne (omega arith))) one k e at
-  each_set (x ∷ es) (y ∷ ms) (suc q) n h one (suc k) e at =
-      each_set es ms q n (λ j f ne. h (suc j) f (λ s. ne (omega arith))) one k e at
-
-pub set_long : (es : Entries) (q : ℕ) (n : NamedPath) → length (set_value_at es q n) ≡ length es
-set_long [] q n = refl
-set_long (e ∷ es) zero n = refl
-set_long (e ∷ es) (suc q) n = ap suc (set_long es q n)
+-- what holds of each position and path, with one replaced
+pub each_set : (Q : ℕ → NamedPath → Type 0) (es : Entries) (q : ℕ) (n : NamedPath) →
+    ((k : ℕ) (e : String Global × NamedPath) → k ≢ q → slice_get es k ≡ Some e → Q k e.1) → Q q n → (k : ℕ)
+    (e : String Global × NamedPath) → slice_get (set_value_at es q n) k ≡ Some e → Q k e.1
+each_set Q [] q n h one k e at = absurd cc
+each_set Q (x ∷ es) zero n h one zero e at = let is : n ≡ e.1 = cc (at) in subst (Q 0) is one
+each_set Q (x ∷ es) zero n h one (suc k) e at = h (suc k) e (λ s. omega arith) at
+each_set Q (x ∷ es) (suc q) n h one zero e at = h zero e (λ s. omega arith) at
+each_set Q (x ∷ es) (suc q) n h one (suc k) e at =
+    each_set (λ j. Q (suc j)) es q n (λ j f ne. h (suc j) f (λ s. ne (omega arith))) one k e at
 
 -- ---- as index entries change
 
@@ -133,6 +123,14 @@ pub noted_below : (l : PathList) (g : Finder) (path_id : ℕ) →
     AreNoted l.paths.entries l.path_ids.items g
 noted_below l g path_id below spare = noted_spared l.paths.entries l.path_ids.items l.finder g path_id
     (λ k lt same. let low = below k (omega (arith, l.long)) in absurd (omega arith)) spare l.noted
+
+-- the path at a position has its index entries under the id there
+pub noted_at : (l : PathList) (q path_id : ℕ) (e : String Global × NamedPath) →
+    path_id ≡ get_or l.path_ids.items q path_id → slice_get l.paths.entries q ≡ Some e → NamedNoted l.finder path_id e.1
+noted_at l q path_id e is at =
+    let within = slice_get_within l.paths.entries q e at in
+    subst (λ (m : ℕ). NamedNoted l.finder m e.1) (sym (get_or_read l.path_ids.items q path_id (omega (arith, l.long)) is 0))
+    (l.noted q e at)
 
 -- the id at a position
 module _ (l : PathList) (g : Finder) (q path_id : ℕ) (within : q < length l.path_ids.items)
@@ -160,7 +158,7 @@ module _ (l : PathList) (g : Finder) (q path_id : ℕ) (within : q < length l.pa
 
   -- its path is replaced
   pub noted_set : (n : NamedPath) → NamedNoted g path_id n → AreNoted (set_value_at es q n) ms g
-  noted_set n one = each_set (NamedNoted g) es ms q n beside (subst (λ (m : ℕ). NamedNoted g m n) (sym here) one)
+  noted_set n one = each_set (λ k. NamedNoted g (get_or ms k 0)) es q n beside (subst (λ (m : ℕ). NamedNoted g m n) (sym here) one)
 
   -- its path still has its index entries
   pub noted_but : (x : String Global × NamedPath) → slice_get es q ≡ Some x →
@@ -169,8 +167,7 @@ module _ (l : PathList) (g : Finder) (q path_id : ℕ) (within : q < length l.pa
     | inl same ↦
         let one : x ≡ e = cc (at, there, same) in
         let id : path_id ≡ get_or ms k 0 = sym here ∙ ap (λ (j : ℕ). get_or ms j 0) (sym same) in
-        let old : NamedNoted l.finder path_id x.1 = rw (one, id) (l.noted k e there) in
-        rw (← id, ← one) (still old)
+        rw (← id, ← one) (still (noted_at l q path_id x is at))
     | inr differ ↦ beside k e (λ s. elim differ [ inl low ↦ omega arith | inr high ↦ omega arith ]) there
   ]
 

@@ -1,7 +1,7 @@
 -- Which path ids a finder has, and that it has the entries of each path.
 --     keys_in k      what a path is found by, as lists
 --     named_keys n      what a path of a list is found by; nothing if it is not encoded
---     TraversedNoted, FromNoted      traversed nodes or lines, and the first nodes of queries, have a path id
+--     AllNoted number i path_id xs      each of these has the path id, by its number
 --     IsNoted      all that a path is found by, if the entries are there
 --     AddsOnly i j      each number still has its path ids
 --     ChangesOnly path_id i j      each number has the same path ids, except for one id
@@ -43,16 +43,13 @@ keys_by xs (Some p) = record { lines = xs; traversed = p.value.traversed; querie
 abbrev pub named_keys : NamedPath → KeyLists
 named_keys n = keys_by n.path.value.lines n.published
 
-abbrev pub TraversedNoted : Index → ℕ → List ℕ → Type 0
-TraversedNoted i path_id traversed = All (λ v. IsTrue (holds i v path_id)) traversed
-
-abbrev pub FromNoted : Index → ℕ → List CoverageQuery → Type 0
-FromNoted i path_id queries = All (λ l. IsTrue (holds i l.from path_id)) queries
+abbrev pub AllNoted : {A : Type 0} → (A → ℕ) → Index → ℕ → List A → Type 0
+AllNoted number i path_id xs = All (λ x. IsTrue (holds i (number x) path_id)) xs
 
 abbrev pub IsNoted : Finder → ℕ → KeyLists → Type 0
 IsNoted f path_id k =
-    IsTrue f.indexed → TraversedNoted f.traversed path_id k.traversed × FromNoted f.by_query_origin path_id k.queries
-    × TraversedNoted f.lines path_id k.lines
+    IsTrue f.indexed → AllNoted (λ v. v) f.traversed path_id k.traversed
+    × AllNoted (λ l. l.from) f.by_query_origin path_id k.queries × AllNoted (λ x. x) f.lines path_id k.lines
 
 abbrev pub AddsOnly : Index → Index → Type 0
 AddsOnly i j = (n m : ℕ) → IsTrue (holds i n m) → IsTrue (holds j n m)

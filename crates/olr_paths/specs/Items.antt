@@ -2,6 +2,7 @@
 --     Made      the results of a path: answer, traversed nodes, coverage queries, and those along its own lines.
 --     IsEncodingOf g M P m      they are the results of the path on the map, with the margin
 --     Item      a name, its path and, if it was encoded, its results.
+--     made_of_named n, item_of name n      the results of an entry of a list, if it was encoded; and its item under a name
 --     items l      the items of a list
 --     AreEncodings g M is      each path was encoded, with results that are right on the map.
 --     AreEncodingsIfAny g M is      the same for each path that was encoded
@@ -15,6 +16,7 @@ use Rattle.olr_spec.specs.Queries.{CoverageQuery, KnownQuery, TraversedOf, Queri
 use Rattle.olr_answers.specs.Answers.{answer_of}
 use Rattle.olr_commands.specs.State.{Named, same_name}
 use Rattle.olr_paths.specs.declared.published.Published.{Published as Encoded}
+use Rattle.olr_paths.specs.declared.path_list.NamedPath.{NamedPath}
 use Rattle.olr_paths.specs.declared.path_list.PathList.{PathList}
 
 pub record Made : Type 0 where
@@ -39,14 +41,14 @@ made_of p =
       known = p.known.items;
     }
 
+abbrev pub made_of_named : NamedPath → Option Made
+made_of_named n = option_map (λ p. made_of p.value) n.published
+
+abbrev pub item_of : List ℕ → NamedPath → Item
+item_of name n = record { name = name; path = n.path.value; made = made_of_named n }
+
 abbrev pub items : PathList → List Item
-items l =
-    map (λ e. record {
-      name = string_bytes e.0;
-      path = e.1.path.value;
-      made =
-          option_map (λ p. made_of p.value) e.1.published;
-    }) l.paths.entries
+items l = map (λ e. item_of (string_bytes e.0) e.1) l.paths.entries
 
 -- ---- what is right on a map
 

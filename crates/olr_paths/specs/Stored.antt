@@ -1,16 +1,11 @@
 -- Results that are stored in a list of named paths.
---     item_of name e      an entry of the list under a name
 --     Put      a path with its results, and its position.
 --     puts_of es      the results that were made.
 --     all_put is ps      the list with these at their positions
-use Rattle.std.specs.Prelude.{ℕ, zero, suc, List, [], ◌∷◌, map, Option, option_map}
+use Rattle.std.specs.Prelude.{ℕ, zero, suc, List, [], ◌∷◌, map, Option}
 use Rattle.olr_spec.specs.Extension.{Path}
-use Rattle.olr_paths.specs.Items.{Made, Item, made_of}
+use Rattle.olr_paths.specs.Items.{Made, Item, made_of_named}
 use Rattle.olr_paths.specs.declared.path_list.NamedPath.{NamedPath}
-
--- an entry of the list under a name
-abbrev pub item_of : List ℕ → NamedPath → Item
-item_of name e = record { name = name; path = e.path.value; made = option_map (λ p. made_of p.value) e.published }
 
 pub record Put : Type 0 where
   pub position : ℕ
@@ -29,6 +24,4 @@ all_put is [] = is
 all_put is (p ∷ ps) = put (all_put is ps) p.position p.path p.made
 
 abbrev pub puts_of : List (ℕ × NamedPath) → List Put
-puts_of es =
-    map (λ e. record { position = e.0; path = e.1.path.value; made = option_map (λ p. made_of p.value) e.1.published })
-    es
+puts_of es = map (λ e. record { position = e.0; path = e.1.path.value; made = made_of_named e.1 }) es

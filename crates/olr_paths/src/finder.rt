@@ -1,8 +1,5 @@
 //! Which paths have a node or a line, found by its number.
-ghost use Rattle.std.specs.Prelude.{◌≡◌, All, Contains, IsTrue, IsFalse, OnOk};
-ghost use Rattle.std.specs.List.Sorted.{IsStrictlyIncreasing};
-ghost use Rattle.olr_paths.specs.PathIds.{holds};
-ghost use Rattle.olr_paths.specs.Finders.{TraversedNoted, AddsOnly, ChangesOnly};
+ghost use Rattle.std.specs.Prelude.{◌≡◌, Contains, IsTrue};
 
 use crate::index::Index;
 use crate::keys::Keys;
@@ -39,16 +36,6 @@ impl Finder {
         }
     }
 
-    /// A finder that does not get the entries of the paths. Takes no memory.
-    pub(crate) fn unindexed(alloc: Global) -> Finder
-        ensures { IsFalse result.indexed }
-    {
-        Finder {
-            indexed: false,
-            ..Finder::new(alloc)
-        }
-    }
-
     /// Adds the id of a path to its keys, where it has those of the path before: what is the same at the same position
     /// is not looked up again. If an allocation fails, some of the keys have it.
     pub(crate) fn note(
@@ -65,19 +52,11 @@ impl Finder {
         if !self.indexed {
             return Ok(());
         }
-        note_each(
-            &mut self.traversed,
-            path_id,
-            keys.traversed,
-            before.traversed,
-        )?;
-        note_each(
-            &mut self.by_query_origin,
-            path_id,
-            keys.queries,
-            before.queries,
-        )?;
-        note_each(&mut self.lines, path_id, keys.lines, before.lines)
+        self.traversed
+            .note_each(path_id, keys.traversed, before.traversed)?;
+        self.by_query_origin
+            .note_each(path_id, keys.queries, before.queries)?;
+        self.lines.note_each(path_id, keys.lines, before.lines)
     }
 
     /// Removes the id of a path from the keys of an earlier one, except from those that it has now. Takes no memory.
@@ -85,19 +64,12 @@ impl Finder {
         ensures stays { IsNoted self.old path_id (keys_in current.entry) → IsNoted self.new path_id (keys_in current.entry) }
         ensures spares { Spares path_id self.old self.new }
     {
-        forget_nodes(
-            &mut self.traversed,
-            path_id,
-            earlier.traversed,
-            current.traversed,
-        );
-        forget_each(
-            &mut self.by_query_origin,
-            path_id,
-            earlier.queries,
-            current.queries,
-        );
-        forget_each(&mut self.lines, path_id, earlier.lines, current.lines);
+        self.traversed
+            .forget_nodes(path_id, earlier.traversed, current.traversed);
+        self.by_query_origin
+            .forget_each(path_id, earlier.queries, current.queries);
+        self.lines
+            .forget_each(path_id, earlier.lines, current.lines);
     }
 
     /// Adds the id of a path to its keys, and removes it from those of the path before. If an allocation fails, those of
@@ -132,29 +104,6 @@ fn is_at<T: Numbered>(items: &[T], k: usize, number: u32) -> bool
     }
 }
 
-/// Adds a path id to the numbers of these, where it has those of the path before: if the item at the same position has
-/// the same number, that isn't looked up. If an allocation fails, some of them have it.
-fn note_each<T: Numbered>(
-    index: &mut Index,
-    path_id: u64,
-    items: &[T],
-    before: &[T],
-) -> Result<(), AllocError>
-    requires { All (λ x. IsTrue (holds index.old (T.number_of x) path_id)) before.now }
-    ensures noted { OnOk result (All (λ x. IsTrue (holds index.new (T.number_of x) path_id)) items.now) }
-    ensures grows { AddsOnly index.old index.new }
-    ensures spares { ChangesOnly path_id index.old index.new }
-{
-    for (k, item) in items.iter().enumerate() {
-        let number = item.index_number();
-        if is_at(before, k, number) {
-            continue;
-        }
-        index.add(number, path_id)?;
-    }
-    Ok(())
-}
-
 /// Whether one of the items has this number.
 fn is_among<T: Numbered>(items: &[T], number: u32) -> bool
     ensures { (x : _) → Contains items.now x → T.number_of x ≡ number → IsTrue result }
@@ -162,37 +111,66 @@ fn is_among<T: Numbered>(items: &[T], number: u32) -> bool
     items.iter().any(|item| item.index_number() == number)
 }
 
-/// Removes a path id from the numbers of earlier items, except from those of the items now. Takes no memory.
-fn forget_each<T: Numbered>(index: &mut Index, path_id: u64, earlier: &[T], current: &[T])
-    ensures stays { All (λ x. IsTrue (holds index.old (T.number_of x) path_id)) current.now
-        → All (λ x. IsTrue (holds index.new (T.number_of x) path_id)) current.now }
-    ensures spares { ChangesOnly path_id index.old index.new }
-{
-    for (k, item) in earlier.iter().enumerate() {
-        let number = item.index_number();
-        if is_at(current, k, number) {
-            continue;
-        }
-        if is_among(current, number) {
-            continue;
-        }
-        index.remove(number, path_id);
-    }
-}
+impl Index {
+    ghost use Rattle.std.specs.Prelude.{IsTrue, OnOk};
+    ghost use Rattle.std.specs.List.Sorted.{IsStrictlyIncreasing};
+    ghost use Rattle.olr_paths.specs.Finders.{AllNoted, AddsOnly, ChangesOnly};
 
-/// Removes a path id from earlier nodes, except from the nodes now, which are searched by bisection. Takes no memory.
-fn forget_nodes(index: &mut Index, path_id: u64, earlier: &[NodeId], current: &[NodeId])
-    requires { IsStrictlyIncreasing current.now }
-    ensures stays { TraversedNoted index.old path_id current.now → TraversedNoted index.new path_id current.now }
-    ensures spares { ChangesOnly path_id index.old index.new }
-{
-    for (k, node) in earlier.iter().enumerate() {
-        if is_at(current, k, node.index_number()) {
-            continue;
+    /// Adds a path id to the numbers of these, where it has those of the path before: if the item at the same position has
+    /// the same number, that isn't looked up. If an allocation fails, some of them have it.
+    fn note_each<T: Numbered>(
+        &mut self,
+        path_id: u64,
+        items: &[T],
+        before: &[T],
+    ) -> Result<(), AllocError>
+        requires { AllNoted T.number_of self.old path_id before.now }
+        ensures noted { OnOk result (AllNoted T.number_of self.new path_id items.now) }
+        ensures grows { AddsOnly self.old self.new }
+        ensures spares { ChangesOnly path_id self.old self.new }
+    {
+        for (k, item) in items.iter().enumerate() {
+            let number = item.index_number();
+            if is_at(before, k, number) {
+                continue;
+            }
+            self.add(number, path_id)?;
         }
-        if current.binary_search(node).is_ok() {
-            continue;
+        Ok(())
+    }
+
+    /// Removes a path id from the numbers of earlier items, except from those of the items now. Takes no memory.
+    fn forget_each<T: Numbered>(&mut self, path_id: u64, earlier: &[T], current: &[T])
+        ensures stays { AllNoted T.number_of self.old path_id current.now
+            → AllNoted T.number_of self.new path_id current.now }
+        ensures spares { ChangesOnly path_id self.old self.new }
+    {
+        for (k, item) in earlier.iter().enumerate() {
+            let number = item.index_number();
+            if is_at(current, k, number) {
+                continue;
+            }
+            if is_among(current, number) {
+                continue;
+            }
+            self.remove(number, path_id);
         }
-        index.remove(node.number(), path_id);
+    }
+
+    /// Removes a path id from earlier nodes, except from the nodes now, which are searched by bisection. Takes no memory.
+    fn forget_nodes(&mut self, path_id: u64, earlier: &[NodeId], current: &[NodeId])
+        requires { IsStrictlyIncreasing current.now }
+        ensures stays { AllNoted (λ v. v) self.old path_id current.now → AllNoted (λ v. v) self.new path_id current.now }
+        ensures spares { ChangesOnly path_id self.old self.new }
+    {
+        for (k, node) in earlier.iter().enumerate() {
+            if is_at(current, k, node.index_number()) {
+                continue;
+            }
+            if current.binary_search(node).is_ok() {
+                continue;
+            }
+            self.remove(node.number(), path_id);
+        }
     }
 }

@@ -3,8 +3,7 @@ ghost use Rattle.std.specs.Prelude.{◌≡◌, List, [], ◌∷◌, ◌++◌, ma
 ghost use Rattle.std.specs.Prelude.{OnErr};
 ghost use Rattle.std.specs.Option.{option_to_list};
 ghost use Rattle.olr_commands.specs.State.{NamesDiffer, path_named};
-ghost use Rattle.olr_paths.specs.Items.{Item, items, all_named};
-ghost use Rattle.olr_paths.specs.Stored.{item_of};
+ghost use Rattle.olr_paths.specs.Items.{Item, items, item_of, all_named};
 ghost use Rattle.olr_paths.specs.Overlaid.{RemovesNone, changes_in, overlay_changes, change_at, drops, under_change};
 ghost use Rattle.olr_paths.specs.Overlaid.{under_changes, under_overlay};
 

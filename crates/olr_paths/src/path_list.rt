@@ -22,7 +22,7 @@ pub struct NamedPath {
 
 impl NamedPath {
     ghost use Rattle.std.specs.Prelude.{◌≡◌, IfOk, option_map};
-    ghost use Rattle.olr_paths.specs.Items.{made_of};
+    ghost use Rattle.olr_paths.specs.Items.{made_of, made_of_named};
     ghost use Rattle.olr_paths.specs.Finders.{keys_in, named_keys};
 
     /// What the path is found by.
@@ -41,7 +41,7 @@ impl NamedPath {
 
     /// What is published of the path. None if it is not encoded yet.
     pub(crate) fn published(&self) -> Option<&Published>
-        ensures { option_map (λ p. made_of p.now) result ≡ option_map (λ p. made_of p.value) self.now.published }
+        ensures { option_map (λ p. made_of p.now) result ≡ made_of_named self.now }
     {
         match &self.published {
             Some(published) => Some(&**published),
@@ -52,8 +52,7 @@ impl NamedPath {
     /// A second value that shares the path and what is published of it.
     pub(crate) fn share(&self) -> Result<NamedPath, AllocError>
         ensures path { IfOk result (λ n. n.path.value ≡ self.now.path.value) }
-        ensures made { IfOk result (λ n. option_map (λ p. made_of p.value) n.published
-            ≡ option_map (λ p. made_of p.value) self.now.published) }
+        ensures made { IfOk result (λ n. made_of_named n ≡ made_of_named self.now) }
     {
         let path = self.path.clone()?;
         let Some(published) = &self.published else {
@@ -105,7 +104,7 @@ impl PathList {
     ghost use Rattle.std.specs.Prelude.{◌≡◌, [], ◌∷◌, ◌++◌, true, false, not, None, map, filter, take, length, is_some};
     ghost use Rattle.std.specs.Prelude.{slice_get, string_bytes, option_map, IfOk, OnOk, OnErr};
     ghost use Rattle.olr_commands.specs.State.{NamesDiffer, path_named, same_name};
-    ghost use Rattle.olr_paths.specs.Items.{items, made_of, all_named, made_in};
+    ghost use Rattle.olr_paths.specs.Items.{items, item_of, made_of, made_of_named, all_named, made_in};
     ghost use Rattle.olr_paths.specs.Changes.{AreEncoded, set_item};
 
     /// The list without paths. Takes no memory.
@@ -124,12 +123,9 @@ impl PathList {
     pub(crate) fn unindexed(alloc: Global) -> PathList
         ensures { items result ≡ [] }
     {
-        PathList {
-            paths: IndexMap::new(alloc),
-            path_ids: Vec::new(alloc),
-            finder: Finder::unindexed(alloc),
-            held: false,
-        }
+        let mut list = PathList::new(alloc);
+        list.finder.indexed = false;
+        list
     }
 
     /// The number of paths. No name occurs twice.
@@ -235,12 +231,7 @@ impl PathList {
     /// Appends a path. If an allocation fails, the list is unchanged.
     pub fn push(&mut self, name: String, named: NamedPath) -> Result<(), AllocError>
         requires { is_some (path_named (all_named (items self.old)) (string_bytes name)) ≡ false }
-        ensures ok { OnOk result (items self.new ≡ items self.old
-            ++ record {
-              name = string_bytes name;
-              path = named.path.value;
-              made = option_map (λ p. made_of p.value) named.published;
-            } ∷ []) }
+        ensures ok { OnOk result (items self.new ≡ items self.old ++ item_of (string_bytes name) named ∷ []) }
         ensures err { OnErr result (items self.new ≡ items self.old) }
     {
         let path_id = next_path_id(&self.path_ids)?;
@@ -267,8 +258,7 @@ impl PathList {
     /// Replaces the path of a name. It keeps its position. If an allocation fails, the list is unchanged.
     pub fn replace(&mut self, name: &str, named: NamedPath) -> Result<(), AllocError>
         ensures ok { OnOk result (items self.new
-            ≡ map (set_item name.now named.path.value (option_map (λ p. made_of p.value) named.published))
-            (items self.old)) }
+            ≡ map (set_item name.now named.path.value (made_of_named named)) (items self.old)) }
         ensures err { OnErr result (items self.new ≡ items self.old) }
     {
         let Some((position, _, current)) = self.paths.get_full(name) else {

@@ -16,10 +16,7 @@ fn text_of(alloc: Global, answer: &Answer) -> Result<Option<String>, AllocError>
     ensures { IfOk result (λ t. HasText (answer_of answer.now) (option_map string_bytes t)) }
 {
     match answer {
-        Answer::Points(reference) => {
-            let text = to_text(alloc, reference)?;
-            Ok(Some(text))
-        }
+        Answer::Points(reference) => Ok(Some(to_text(alloc, reference)?)),
         Answer::Refused(_) => Ok(None),
     }
 }
@@ -77,10 +74,7 @@ impl Published {
     pub fn text(&self) -> Option<&str>
         ensures { HasText (made_of self.now).answer (option_map (λ t. t.now) result) }
     {
-        match &self.text {
-            Some(text) => Some(text.as_str()),
-            None => None,
-        }
+        self.text.as_deref()
     }
 
     /// The path's string, or the reason why it has none.

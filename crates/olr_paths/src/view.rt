@@ -1,6 +1,6 @@
 //! A path of a list under changes.
 ghost use Rattle.std.specs.Prelude.{◌≡◌, ◌∷◌, [], false};
-ghost use Rattle.olr_paths.specs.Stored.{item_of};
+ghost use Rattle.olr_paths.specs.Items.{item_of};
 ghost use Rattle.olr_paths.specs.Overlaid.{changes_in, change_at, drops, under_change};
 ghost use Rattle.olr_paths.specs.Views.{shown_item};
 

@@ -1,4 +1,4 @@
-use Rattle.olr_spec.proofs.AscendingLists.{put_ascends, put_has, stays_has}
+use Rattle.olr_paths.proofs.Common.{put_ascends, put_has, stays_has}
 use Rattle.olr_paths.proofs.index.put.Goals as goal
 
 pub returns-in_ok-insert-clause-ascend : goal.returns-in_ok-insert-clause-ascend

@@ -1,5 +1,5 @@
+use Rattle.olr_paths.proofs.Common.{ascends-remove, place_of, taken_has, lacks_has}
 use Rattle.std.specs.Prelude.{Ok}
-use Rattle.olr_spec.proofs.AscendingLists.{ascends-remove, place_of, taken_has, lacks_has}
 use Rattle.olr_paths.proofs.index.take_out.Goals as goal
 
 pub returns-in-Ok-clause-ascend : goal.returns-in-Ok-clause-ascend

@@ -1,5 +1,4 @@
-use Rattle.olr_paths.proofs.Common.{refl, Item, items, changes_in}
-use Rattle.olr_paths.proofs.Common.{subst}
+use Rattle.olr_paths.proofs.Common.{refl, Item, items, changes_in, subst}
 use Rattle.olr_paths.proofs.NamedEntries.{Entries, item_of, items_of}
 use Rattle.olr_paths.proofs.Overlaying.{Copied, put_free}
 use Rattle.olr_paths.proofs.overlay.extend_under.Goals as goal

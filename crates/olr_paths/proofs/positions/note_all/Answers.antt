@@ -1,20 +1,14 @@
-use Rattle.olr_paths.proofs.Common.{◌≡◌, ◌∙◌, get_or, subst, sym, arith, get_or_default, NamedNoted, slice_get}
-use Rattle.olr_paths.proofs.Common.{Some, String, Global, NamedPath, slice_get_within, length, ◌<◌, ◌≤◌, List, take_all}
-use Rattle.olr_paths.proofs.Common.{AreNotedAt, IsNoted}
+use Rattle.olr_paths.proofs.Common.{◌≡◌, ◌∙◌, get_or, subst, sym, arith, get_or_default, NamedNoted, length, ◌≤◌, List}
+use Rattle.olr_paths.proofs.Common.{take_all, AreNotedAt, IsNoted}
+use Rattle.olr_paths.proofs.PathIdLemmas.{noted_at}
 use Rattle.olr_paths.proofs.NotedPositions.{One, NotedAt, at_more}
 use Rattle.olr_paths.proofs.positions.note_all.Goals as goal
 
 pub note-requires : goal.note-requires
 note-requires c =
     let l = c.loop-position.list in
-    let r : One = c.loop-position-item.result in
-    let x : String Global × NamedPath = (c.in-Some.field-0-0.now, c.in-Some.current.now) in
-    let at : slice_get l.paths.entries r.0 ≡ Some x = sym c.in-Some.ensures.entry in
-    let low : r.0 < length l.path_ids.items = omega (arith, slice_get_within l.paths.entries r.0 x at, l.long) in
-    let is : c.index-path_id.result.now ≡ get_or l.path_ids.items r.0 0 =
-    c.index-path_id.ensures ∙ get_or_default l.path_ids.items r.0 c.index-path_id.result.now 0 low in
     subst (IsNoted l.finder c.index-path_id.result.now) (sym c.keys-in-loop-position.ensures)
-    (subst (λ (m : _). NamedNoted l.finder m x.1) (sym is) (l.noted r.0 x at))
+    (noted_at l _ _ (c.in-Some.field-0-0.now, c.in-Some.current.now) c.index-path_id.ensures (sym c.in-Some.ensures.entry))
 
 pub loop-position-preserved : goal.loop-position-preserved
 loop-position-preserved c =

@@ -1,7 +1,7 @@
-use Rattle.olr_paths.proofs.Common.{◌≡◌, refl, ◌∙◌, true, false, List, Option, sym, subst, arith, IfSome, items}
-use Rattle.olr_paths.proofs.Common.{NamedNoted, all_put, puts_of, NamedPath, set_value_at, All-pop}
+use Rattle.olr_paths.proofs.Common.{◌≡◌, refl, ◌∙◌, true, false, List, Option, sym, subst, arith, IfSome, items, NamedNoted}
+use Rattle.olr_paths.proofs.Common.{all_put, get_or, puts_of, NamedPath, set_value_at, All-pop, length-set_value_at}
 use Rattle.olr_paths.proofs.NamedEntries.{items_of}
-use Rattle.olr_paths.proofs.PathIdLemmas.{set_long, each_set}
+use Rattle.olr_paths.proofs.PathIdLemmas.{each_set}
 use Rattle.olr_paths.proofs.NotedPositions.{One, NotedAt, placed, passed_by}
 use Rattle.olr_paths.proofs.positions.place.Goals as goal
 
@@ -17,10 +17,10 @@ invariant_of-list-in-Some c =
     subst (λ (o : Option One). IfSome o (NotedAt ms l.finder)) c.in-Some.is popped.1 in
     let within = c.in-Some-get_index_mut.ensures.found.0 refl in
     record {
-      long = l.long ∙ sym (set_long es q c.replace-earlier.new.dest);
+      long = l.long ∙ sym (length-set_value_at es q c.replace-earlier.new.dest);
       ascend = l.ascend;
       noted =
-          rw c.replace-earlier.ensures.after (each_set (NamedNoted l.finder) es ms q n (λ k e ne. l.noted k e)
+          rw c.replace-earlier.ensures.after (each_set (λ k. NamedNoted l.finder (get_or ms k 0)) es q n (λ k e ne. l.noted k e)
           (one (omega (arith, within, l.long))));
       encoded = λ off. let never : true ≡ false = sym c.loop-position.invariant.3 ∙ off in absurd cc;
     }

@@ -1,5 +1,5 @@
-use Rattle.olr_paths.proofs.Common.{◌≡◌, ℕ, List, [], ◌∷◌, ◌++◌, ◌+◌, inl, inr, take, sym, ap, ◌∙◌, subst, take_more}
-use Rattle.olr_paths.proofs.Common.{BeginsPut, puts_of, NamedPath}
+use Rattle.olr_paths.proofs.Common.{◌≡◌, ℕ, List, [], ◌∷◌, ◌++◌, ◌+◌, inl, inr, take, sym, ap, ◌∙◌, subst, take_more, BeginsPut}
+use Rattle.olr_paths.proofs.Common.{puts_of, NamedPath}
 use Rattle.olr_paths.proofs.OriginLemmas.{begins_push}
 use Rattle.olr_paths.proofs.queries.fresh_queries.Goals as goal
 

@@ -1,9 +1,5 @@
-use Rattle.std.proofs.Common.{◌≡◌, ◌∙◌, subst, sym, ap, nat_eq, List, [], ℕ, Option, Some, None}
-use Rattle.std.specs.HashMap.{get}
-use Rattle.std.specs.Option.{unwrap_or}
-use Rattle.std.specs.List.Sorted.{IsStrictlyIncreasing}
-use Rattle.smallvec.specs.SmallVec.{SmallVec}
-use Rattle.olr_paths.specs.Listed.{items_of}
+use Rattle.olr_paths.proofs.Common.{◌≡◌, ◌∙◌, subst, sym, ap, nat_eq, List, [], ℕ, Option, Some, None, get, unwrap_or}
+use Rattle.olr_paths.proofs.Common.{IsStrictlyIncreasing, SmallVec, items_of}
 use Rattle.olr_paths.proofs.index.Index.add.Goals as goal
 
 -- the list of a number, or an empty one

@@ -1,6 +1,4 @@
-use Rattle.std.proofs.Common.{subst, sym, ◌∙◌, ap, List, ℕ}
-use Rattle.std.specs.List.Sorted.{IsStrictlyIncreasing}
-use Rattle.olr_paths.specs.Listed.{items_of}
+use Rattle.olr_paths.proofs.Common.{subst, sym, ◌∙◌, ap, List, ℕ, IsStrictlyIncreasing, items_of}
 use Rattle.olr_paths.proofs.index.Index.of.Goals as goal
 
 pub returns-in-Some-clause-ascending : goal.returns-in-Some-clause-ascending

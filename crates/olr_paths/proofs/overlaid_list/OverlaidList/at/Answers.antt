@@ -1,11 +1,10 @@
-use Rattle.olr_paths.proofs.Common.{◌∷◌, [], under_change, ◌≡◌, ◌-◌, ◌≤◌, ◌∙◌, ℕ, List, Some, String, Global}
-use Rattle.olr_paths.proofs.Common.{length, slice_get, ap, sym, arith, length-map, slice_get-map, option_map, Item}
-use Rattle.olr_paths.proofs.Common.{◌<◌, cases_lt, inl, inr, true, false, items, overlay_changes, change_at}
-use Rattle.olr_paths.proofs.Common.{shown_items, shown_item, NamedPath}
+use Rattle.olr_paths.proofs.Common.{◌∷◌, [], under_change, ◌≡◌, ◌-◌, ◌≤◌, ◌∙◌, ℕ, List, Some, String, Global, length, slice_get}
+use Rattle.olr_paths.proofs.Common.{ap, sym, arith, length-map, slice_get-map, option_map, Item, ◌<◌, cases_lt, inl, inr, true}
+use Rattle.olr_paths.proofs.Common.{false, items, overlay_changes, change_at, shown_items, shown_item, NamedPath}
 use Rattle.olr_paths.specs.declared.overlaid_list.OverlaidList.{OverlaidList}
+use Rattle.olr_paths.specs.Items.{item_of as under}
 use Rattle.olr_paths.proofs.NamedEntries.{item_of, item_at}
 use Rattle.olr_paths.proofs.Changed.{changed_by, one_changed, overlaid_at, overlaid_behind}
-use Rattle.olr_paths.specs.Stored.{item_of as under}
 use Rattle.olr_paths.proofs.overlaid_list.OverlaidList.at.Goals as goal
 
 pub returns-in-Some-clause-shown : goal.returns-in-Some-clause-shown

@@ -1,6 +1,4 @@
-use Rattle.olr_paths.proofs.Common.{AreEncoded, ◌∷◌, [], map, ◌≡◌, length, refl, append-nil, ap, sym, ◌∙◌, arith, subst}
-use Rattle.olr_paths.proofs.Common.{map-append, entry, entry_of, items, made_of}
-use Rattle.olr_paths.proofs.NamedEntries.{Entries, item_of, items_of}
+use Rattle.olr_paths.proofs.Common.{[], map, refl, append-nil, entry_of, items}
 use Rattle.olr_paths.proofs.path_list.PathList.entries.Goals as goal
 
 pub returns-clause-reported : goal.returns-clause-reported

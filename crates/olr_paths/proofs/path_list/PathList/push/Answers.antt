@@ -1,5 +1,5 @@
-use Rattle.olr_paths.proofs.Common.{◌≢◌, ℕ, None, List, ◌∙◌, ◌++◌, ◌∷◌, [], arith, ap, map-append, string_eq}
-use Rattle.olr_paths.proofs.Common.{insert_entry, NamedNoted, IsNoted, subst, length_push, ascends_push}
+use Rattle.olr_paths.proofs.Common.{◌≢◌, ℕ, None, List, ◌∙◌, ◌++◌, ◌∷◌, [], arith, ap, map-append, string_eq, insert_entry}
+use Rattle.olr_paths.proofs.Common.{NamedNoted, IsNoted, subst, length_push, ascends_push}
 use Rattle.olr_paths.proofs.NamedEntries.{Entries, item_of}
 use Rattle.olr_paths.proofs.PathIdLemmas.{insert_last, noted_below, each_push}
 use Rattle.olr_paths.proofs.path_list.PathList.push.Goals as goal

@@ -1,7 +1,7 @@
-use Rattle.olr_paths.proofs.Common.{◌≢◌, ◌<◌, None, length, sym, ◌∙◌, arith, slice_get_within, get_or_read, IsNoted}
-use Rattle.olr_paths.proofs.Common.{named_keys, subst, ℕ}
+use Rattle.olr_paths.proofs.Common.{◌≢◌, ◌<◌, None, length, sym, ◌∙◌, arith, slice_get_within, IsNoted, subst}
+use Rattle.olr_paths.proofs.Common.{length-set_value_at}
 use Rattle.olr_paths.proofs.NamedEntries.{first_at, names_differ, set_absent, set_items}
-use Rattle.olr_paths.proofs.PathIdLemmas.{set_long, each_set, noted_but, noted_set}
+use Rattle.olr_paths.proofs.PathIdLemmas.{each_set, noted_at, noted_but, noted_set}
 use Rattle.olr_paths.proofs.path_list.PathList.replace.Goals as goal
 
 pub returns-in_default-clause-ok : goal.returns-in_default-clause-ok
@@ -10,12 +10,8 @@ returns-in_default-clause-ok c = set_absent c.args.self.now.paths.entries c.args
 pub replace-requires : goal.replace-requires
 replace-requires c =
     let l = c.args.self.now in
-    let q = c.in-Some.position in
-    let within : q < length l.path_ids.items = omega (arith, slice_get_within l.paths.entries q _ c.in-Some.ensures.entry, l.long) in
     subst (IsNoted l.finder c.index-path_id.result.now) (sym c.keys.ensures)
-    (subst (λ (m : ℕ). IsNoted l.finder m (named_keys c.in-Some.current.now))
-    (sym (get_or_read l.path_ids.items q c.index-path_id.result.now within c.index-path_id.ensures 0))
-    (l.noted q (c.in-Some.field-0-1.now, c.in-Some.current.now) c.in-Some.ensures.entry))
+    (noted_at l _ _ (c.in-Some.field-0-1.now, c.in-Some.current.now) c.index-path_id.ensures c.in-Some.ensures.entry)
 
 pub invariant_of-self-in-Break-1 : goal.invariant_of-self-in-Break-1
 invariant_of-self-in-Break-1 c =
@@ -39,12 +35,12 @@ invariant_of-self-2 c =
     let n = c.args.named in
     let within : q < length ms = omega (arith, slice_get_within l.paths.entries q _ c.in-Some.ensures.entry, l.long) in
     record {
-      long = l.long ∙ sym (set_long es q n);
+      long = l.long ∙ sym (length-set_value_at es q n);
       ascend = l.ascend;
       noted = noted_set l c.replace.new.self q _ within c.index-path_id.ensures c.replace.ensures.spares n
           (subst (IsNoted c.replace.new.self c.index-path_id.result.now) c.keys-2.ensures c.in_ok-replace.ensures.noted);
       encoded = λ off. let was = c.is_held-self.ensures off in
-          each_set (λ _ m. m.published ≢ None) es ms q n (λ k e ne. l.encoded was.0 k e) was.1;
+          each_set (λ _ m. m.published ≢ None) es q n (λ k e ne. l.encoded was.0 k e) was.1;
     }
 
 pub returns-clause-ok : goal.returns-clause-ok

@@ -1,6 +1,6 @@
 use Rattle.olr_paths.proofs.Common.{ℕ, Contains, sym, ◌∙◌, subst, true≢false, place_of, there_found}
 use Rattle.olr_paths.proofs.NotedPositions.{NumberIn, forgot_more}
-use Rattle.olr_paths.proofs.finder.forget_nodes.Goals as goal
+use Rattle.olr_paths.proofs.index.Index.forget_nodes.Goals as goal
 
 pub loop-k-preserved : goal.loop-k-preserved
 loop-k-preserved c =

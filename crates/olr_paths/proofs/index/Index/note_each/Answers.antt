@@ -1,6 +1,6 @@
 use Rattle.olr_paths.proofs.Common.{◌∙◌, ap}
 use Rattle.olr_paths.proofs.NotedPositions.{noted_more}
-use Rattle.olr_paths.proofs.finder.note_each.Goals as goal
+use Rattle.olr_paths.proofs.index.Index.note_each.Goals as goal
 
 pub loop-k-preserved : goal.loop-k-preserved
 loop-k-preserved g c = noted_more g.T.Numbered.number_of _ _ _ _ _ _ _ _ c.loop-k-test.true
