@@ -1,6 +1,6 @@
 -- Degree-two nodes, by the slots of nodes.
-use Rattle.olr_refs.proofs.Common.{◌≡◌, ◌==◌, ◌∙◌, ℕ, List, [], ◌∷◌, IsTrue, Map, has, has_node, map, refl, sym, ap}
-use Rattle.olr_refs.proofs.Common.{inl, inr, cases_eq, eq-eqb, has_here, ne_eqb, passes_between, has_there}
+use Rattle.olr_refs.proofs.Common.{◌≡◌, ◌==◌, ◌∙◌, ℕ, List, [], ◌∷◌, IsTrue, Map, has, has_node, map, refl, sym, ap, inl, inr}
+use Rattle.olr_refs.proofs.Common.{cases_eq, eq-eqb, has_here, ne_eqb, passes_between, has_there}
 
 module _ (M : Map) (slot : ℕ → ℕ)
     (own : (v w : ℕ) → IsTrue (has_node M v) → IsTrue (has_node M w) → slot v ≡ slot w → v ≡ w) where
@@ -16,15 +16,10 @@ module _ (M : Map) (slot : ℕ → ℕ)
         ((y : ℕ) → IsTrue (has ys y) → IsTrue (has_node M (g y))) →
         passes_between (slot v) (map (λ x. slot (f x)) xs) (map (λ y. slot (g y)) ys)
         ≡ passes_between v (map f xs) (map g ys)
-    by_slots [] ys a b = refl
-    by_slots (x ∷ []) [] a b = refl
     by_slots (x ∷ []) (y ∷ []) a b =
         let at_x = a x (has_here x []) in
         let at_y = b y (has_here y []) in
         rw (same_slots (f x) v at_x known, same_slots (g y) v at_y known, same_slots (f x) (g y) at_x at_y) refl
-    by_slots (x ∷ []) (y ∷ z ∷ ys) a b = refl
-    by_slots (x ∷ w ∷ []) [] a b = refl
-    by_slots (x ∷ w ∷ []) (y ∷ []) a b = refl
     by_slots (x ∷ w ∷ []) (y ∷ z ∷ []) a b =
         let at_x = a x (has_here x (w ∷ [])) in
         let at_w = a w (has_there x (w ∷ []) w (has_here w [])) in
@@ -39,5 +34,4 @@ module _ (M : Map) (slot : ℕ → ℕ)
           same_slots (g y) (f w) at_y at_w,
           same_slots (g z) (f x) at_z at_x,
         ) refl
-    by_slots (x ∷ w ∷ []) (y ∷ z ∷ t ∷ ys) a b = refl
-    by_slots (x ∷ w ∷ t ∷ xs) ys a b = refl
+    by_slots _ _ a b = refl

@@ -1,8 +1,7 @@
 -- The choice of the next LRP, from the last position that is covered and within the limit back to the first.
-use Rattle.olr_refs.proofs.Common.{◌≡◌, ◌<◌, ◌≤◌, ◌-◌, ℕ, Bool, true, false, List, length, sym, subst, arith, Option}
-use Rattle.olr_refs.proofs.Common.{Some, MatchOption, cases_lt, cases_order, Coord, Map, coord_at, passing, node_at}
-use Rattle.olr_refs.proofs.Common.{fit16, CandidateWith, NextWith, IsReach, option_or, ValidCandidateWith, Greatest}
-use Rattle.olr_refs.proofs.Common.{Margin, To_valid}
+use Rattle.olr_refs.proofs.Common.{◌≡◌, ◌<◌, ◌≤◌, ◌-◌, ℕ, Bool, true, false, List, length, sym, subst, arith, Option, Some}
+use Rattle.olr_refs.proofs.Common.{MatchOption, cases_lt, cases_order, Coord, Map, coord_at, passing, node_at, fit16}
+use Rattle.olr_refs.proofs.Common.{CandidateWith, NextWith, IsReach, option_or, ValidCandidateWith, Greatest, Margin, To_valid}
 
 abbrev pub fit : Map → List ℕ → ℕ → ℕ → Bool
 fit M ls i j = fit16 (coord_at M (node_at M ls i)) (coord_at M (node_at M ls j))

@@ -1,14 +1,11 @@
 -- The map as it counts for some lines, and one line more; and a search on it.
-use Rattle.olr_refs.proofs.Common.{◌≡◌, ◌==◌, ◌<◌, ◌≤◌, ◌+◌, ℕ, true, List, [], ◌∷◌, ◌++◌, sym, ap, ◌∙◌, subst, refl}
-use Rattle.olr_refs.proofs.Common.{arith, inl, inr, cases_lt, IsTrue, Map, start, end, dm, has, has_line, has_node}
-use Rattle.olr_refs.proofs.Common.{has_here, IsRoute, UniqueShortest, dm_of, dm_of-append, Each, route_known}
-use Rattle.olr_refs.proofs.Common.{list_any-append, or_left, or_right, Along, Dijkstra, IsSearch, LiesWithin}
-use Rattle.olr_refs.proofs.Common.{limit_of, CoverageQuery, Sees, Contains-one, cond, Each-tail, has_cases, dec_same}
-use Rattle.olr_refs.proofs.Common.{begun_at, label_of, Margin, counted, counted_dm, counted_dm_of, CountedRoute}
-use Rattle.olr_refs.proofs.Common.{cases_Bool}
-use Rattle.olr_spec.proofs.CountedLemmas.{counted_own, counted_other, counted_zero, counted_least, counted_route}
-use Rattle.olr_spec.proofs.CountedLemmas.{route_counted}
-use Rattle.olr_spec.proofs.RouteMoves.{counted_longer}
+use Rattle.olr_refs.proofs.Common.{◌≡◌, ◌==◌, ◌<◌, ◌≤◌, ◌+◌, ℕ, true, List, [], ◌∷◌, ◌++◌, sym, ap, ◌∙◌, subst, refl, arith}
+use Rattle.olr_refs.proofs.Common.{inl, inr, cases_lt, IsTrue, Map, start, end, dm, has, has_line, has_node, has_here, IsRoute}
+use Rattle.olr_refs.proofs.Common.{UniqueShortest, dm_of, dm_of-append, Each, route_known, list_any-append, or_left, or_right}
+use Rattle.olr_refs.proofs.Common.{Along, Dijkstra, IsSearch, LiesWithin, limit_of, CoverageQuery, Sees, Contains-one, cond}
+use Rattle.olr_refs.proofs.Common.{Each-tail, has_cases, dec_same, begun_at, label_of, Margin, counted, counted_dm}
+use Rattle.olr_refs.proofs.Common.{counted_dm_of, CountedRoute, counted_own, counted_zero, counted_route, route_counted}
+use Rattle.olr_spec.proofs.CountedMoves.{counted_longer, more_counts}
 use Rattle.olr_route.proofs.UniqueLemmas.{label_way, way_le}
 use Rattle.olr_route.specs.declared.frontier.TheConstants.{GREATEST_LIMIT}
 
@@ -23,27 +20,8 @@ module _ (g : Margin) (M : Map) (xs rest : List ℕ) where
       dm_of (counted g M (xs ++ rest)) ys ≡ dm_of (counted g M xs) ys
   own_same [] known own = refl
   own_same (y ∷ ys) known own =
-      let here = known y (has_here y ys) in
-      let on = own y (has_here y ys) in
-      omega (
-        arith,
-        counted_own g M xs y here on,
-        counted_own g M (xs ++ rest) y here (still y on),
-        own_same ys
-            (Each-tail (λ z. IsTrue (has_line M z)) y ys known) (Each-tail (λ z. has xs z ≡ true) y ys own),
-      )
-
-  -- and others no less
-  more_counts : (ys : List ℕ) → Each (λ y. IsTrue (has_line M y)) ys →
-      dm_of (counted g M xs) ys ≤ dm_of (counted g M (xs ++ rest)) ys
-  more_counts [] known = omega arith
-  more_counts (y ∷ ys) known =
-      let here = known y (has_here y ys) in
-      let more = more_counts ys (Each-tail (λ z. IsTrue (has_line M z)) y ys known) in
-      elim (cases_Bool (has xs y)) [
-        | inl on ↦ omega (arith, more, counted_own g M xs y here on, counted_own g M (xs ++ rest) y here (still y on))
-        | inr off ↦ omega (arith, more, counted_other g M xs y off, counted_least g M (xs ++ rest) y here)
-      ]
+      let same = own_same ys (Each-tail (λ z. IsTrue (has_line M z)) y ys known) (Each-tail (λ z. has xs z ≡ true) y ys own) in
+      grind (arith, same, known y (has_here y ys), own y (has_here y ys), still y, counted_own)
 
   pub unique_more : (s t : ℕ) → CountedRoute g M s t xs → UniqueShortest (counted g M (xs ++ rest)) s t xs
   unique_more s t u =
@@ -56,7 +34,7 @@ module _ (g : Margin) (M : Map) (xs rest : List ℕ) where
               arith,
               u.others ys (counted_route g M xs s t ys there) ne,
               own_same xs (route_known M s t xs here) (λ y on. on),
-              more_counts ys (route_known M s t ys there),
+              more_counts g M xs rest ys (route_known M s t ys there),
             );
       }
 

@@ -1,9 +1,9 @@
 -- The ends of the lines of a list, appended to other nodes.
-use Rattle.olr_refs.proofs.Common.{◌⊎◌, inl, inr, ◌≡◌, ◌==◌, ℕ, ◌+◌, ◌<◌, ◌≤◌, List, [], ◌∷◌, ◌++◌, length, take}
-use Rattle.olr_refs.proofs.Common.{get_or, eqb, Contains, IsPermutation, subst, arith, eq-eqb, eqb-true, take_all}
-use Rattle.olr_refs.proofs.Common.{Contains-append_left, Map, start, end, has, NodeOf, ◌||◌, dedup, or_cases, or_left}
-use Rattle.olr_refs.proofs.Common.{or_right, Contains-push, Contains-push_cases, list_any_more, Contains-dedup_nat}
-use Rattle.olr_refs.proofs.Common.{Contains-from_dedup, IsPermutation-sym, Contains-permutation, ◌↔◌}
+use Rattle.olr_refs.proofs.Common.{◌⊎◌, inl, inr, ◌≡◌, ℕ, ◌+◌, ◌<◌, ◌≤◌, [], ◌∷◌, ◌++◌, take, eqb, Map, end, has, ◌||◌, ◌↔◌}
+use Rattle.olr_refs.proofs.Common.{◌==◌, List, length, get_or, subst, arith, eq-eqb, start, NodeOf, dedup, or_cases, or_right}
+use Rattle.olr_refs.proofs.Common.{Contains, IsPermutation, eqb-true, take_all, Contains-push, list_any_more, IsPermutation-sym}
+use Rattle.olr_refs.proofs.Common.{Contains-append_left, or_left, Contains-dedup_nat, Contains-from_dedup, Contains-permutation}
+use Rattle.std.proofs.lemmas.List.Elements.{Contains-push_cases}
 
 -- one of the ends of line x
 abbrev pub EndOf : Map → ℕ → ℕ → Type 0

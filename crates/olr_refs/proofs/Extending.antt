@@ -1,10 +1,9 @@
 -- The extended path, composed of the path and the parts of the tried runs.
-use Rattle.olr_refs.proofs.Common.{◌⊎◌, ◌≡◌, ℕ, ◌+◌, ◌<◌, Bool, not, cond, List, [], ◌∷◌, ◌++◌, length, Contains}
-use Rattle.olr_refs.proofs.Common.{None, refl, sym, ap, ◌∙◌, subst, arith, length-append, length-map, map-append, Map}
-use Rattle.olr_refs.proofs.Common.{has_line, dm_of, first_unknown, Path, is_path, last, NodeOf, Along, Against}
-use Rattle.olr_refs.proofs.Common.{Extends, ResolvedLine, records_of, ids, AreRecords, IsRun, no_unknown}
-use Rattle.olr_refs.proofs.Common.{path_nonempty, all_first, all_last, first, LongestStart, LongestEnd, taken_start}
-use Rattle.olr_refs.proofs.Common.{taken_end, from_start, ◌↔◌, IsTrue}
+use Rattle.olr_refs.proofs.Common.{◌⊎◌, ◌≡◌, ℕ, ◌+◌, ◌<◌, Bool, not, cond, List, [], ◌∷◌, ◌++◌, length, Contains, None, refl}
+use Rattle.olr_refs.proofs.Common.{sym, ap, ◌∙◌, subst, arith, length-append, length-map, map-append, Map, has_line, dm_of}
+use Rattle.olr_refs.proofs.Common.{first_unknown, Path, is_path, last, NodeOf, Along, Against, Extends, ResolvedLine}
+use Rattle.olr_refs.proofs.Common.{records_of, ids, AreRecords, IsRun, no_unknown, path_nonempty, all_first, all_last, first}
+use Rattle.olr_refs.proofs.Common.{LongestStart, LongestEnd, taken_start, taken_end, from_start, ◌↔◌, IsTrue}
 use Rattle.olr_refs.proofs.Resolving.{ids_are, are_records, records_append, records_length}
 
 last_behind : (xs ys : List ℕ) → 0 < length ys → last (xs ++ ys) ≡ last ys

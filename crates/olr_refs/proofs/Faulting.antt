@@ -1,13 +1,9 @@
 -- What is known of a path for which none of reasons 1 to 3 holds.
-use Rattle.olr_refs.proofs.Common.{common_steps, ◌≡◌, ◌<◌, ◌≤◌, ◌-◌, ◌+◌, ◌==◌, ℕ, Bool, true, false, not, List, ◌∷◌}
-use Rattle.olr_refs.proofs.Common.{length, drop, get_or, Some, None, ap, ◌∙◌, arith, inl, inr, eq-eqb, cases_eq}
-use Rattle.olr_refs.proofs.Common.{nat_tests, get_or_default, IsTrue, slice_index, Map, has_line, start, end}
-use Rattle.olr_refs.proofs.Common.{AreJoined, first_unknown, first_break, no_unknown, Each, has_index, drop_more}
-use Rattle.olr_refs.proofs.Common.{drop_all, Each-from}
+use Rattle.olr_refs.proofs.Common.{ap, ◌∙◌, inl, inr, common_steps, ◌≡◌, ◌<◌, ◌≤◌, ◌-◌, ◌+◌, ◌==◌, ℕ, Bool, true, false, not}
+use Rattle.olr_refs.proofs.Common.{List, ◌∷◌, length, drop, get_or, Some, None, arith, eq-eqb, cases_eq, nat_tests}
+use Rattle.olr_refs.proofs.Common.{get_or_default, IsTrue, slice_index, Map, has_line, start, end, AreJoined, first_unknown}
+use Rattle.olr_refs.proofs.Common.{first_break, no_unknown, Each, has_index, drop_more, drop_all, Each-from, Known}
 use Rattle.olr_spec.proofs.JoinedLemmas as spec
-
-abbrev Known : Map → ℕ → Type 0
-Known M x = IsTrue (has_line M x)
 
 all_known : (M : Map) (ls : List ℕ) → first_unknown M ls ≡ None → Each (Known M) ls
 all_known M ls e = Each-from (Known M) ls (no_unknown M ls e)

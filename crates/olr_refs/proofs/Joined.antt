@@ -1,8 +1,8 @@
 -- What is known of joined lines.
-use Rattle.olr_refs.proofs.Common.{◌≡◌, ◌<◌, ◌+◌, ℕ, List, [], ◌∷◌, ◌++◌, length, take, get_or, sym, ap, ◌∙◌, subst}
-use Rattle.olr_refs.proofs.Common.{arith, length-append, cases_order, get_or_default, slice_index, IsTrue, Map, IsMap}
-use Rattle.olr_refs.proofs.Common.{has_line, has_node, start, end, dm, dm_of, AreJoined, dm_of-append, has_index}
-use Rattle.olr_refs.proofs.Common.{DistancesTo, get_or_append_left, take_more, get_or-append_seam, route_known}
+use Rattle.olr_refs.proofs.Common.{◌≡◌, ◌<◌, ◌+◌, ℕ, List, [], ◌∷◌, ◌++◌, length, take, get_or, ap, ◌∙◌, arith, length-append}
+use Rattle.olr_refs.proofs.Common.{cases_order, get_or_default, slice_index, IsTrue, Map, has_line, dm, dm_of, AreJoined}
+use Rattle.olr_refs.proofs.Common.{dm_of-append, has_index, DistancesTo, get_or_append_left, take_more, get_or-append_seam}
+use Rattle.olr_refs.proofs.Common.{route_known}
 
 -- line k is on the map
 pub known_at : (M : Map) (ls : List ℕ) (k : ℕ) → AreJoined M ls → k < length ls → IsTrue (has_line M (slice_index ls k))
@@ -11,13 +11,6 @@ known_at M ls k w h = route_known M _ _ ls w (slice_index ls k) (has_index ls k 
 -- and so is the one that is read there with another default
 pub known_get : (M : Map) (ls : List ℕ) (k d : ℕ) → AreJoined M ls → k < length ls → IsTrue (has_line M (get_or ls k d))
 known_get M ls k d w h = rw (get_or_default ls k d 0 h) (known_at M ls k w h)
-
--- both ends of a line of the map are on the map
-pub start_known : (M : Map) → IsMap M → (x n : ℕ) → IsTrue (has_line M x) → n ≡ start M x → IsTrue (has_node M n)
-start_known M m x n h e = subst (λ v. IsTrue (has_node M v)) (sym e) (m.starts x h)
-
-pub end_known : (M : Map) → IsMap M → (x n : ℕ) → IsTrue (has_line M x) → n ≡ end M x → IsTrue (has_node M n)
-end_known M m x n h e = subst (λ v. IsTrue (has_node M v)) (sym e) (m.ends x h)
 
 -- ---- distances
 

@@ -1,10 +1,9 @@
 -- The legs of joined lines, by the lines and their distances.
-use Rattle.olr_refs.proofs.Common.{arith, ◌≡◌, ◌<◌, ◌-◌, ℕ, List, length, take, drop, map, max, ap, ◌∙◌, get_or-map}
-use Rattle.olr_refs.proofs.Common.{take-map, slice_index, slice_range, IsTrue, Map, IsMap, has_line, has_node}
-use Rattle.olr_refs.proofs.Common.{coord_at, node_at, stretch, Attrs, attrs_with, leg, legs, leg_at, position}
-use Rattle.olr_refs.proofs.Common.{dm_between, Each, AreJoined, lowest_class, ResolvedLine, records_of, ◌/◌, drop-map}
-use Rattle.olr_refs.proofs.Common.{fold, Line, is_good, line_at, bearing_out, no_leg, position_is, route_known}
-use Rattle.olr_refs.proofs.Common.{Margin, allowed, map-map}
+use Rattle.olr_refs.proofs.Common.{arith, ◌≡◌, ◌<◌, ◌-◌, ℕ, List, length, take, drop, map, max, ap, ◌∙◌, get_or-map, take-map}
+use Rattle.olr_refs.proofs.Common.{slice_index, slice_range, IsTrue, Map, IsMap, has_line, has_node, coord_at, node_at, stretch}
+use Rattle.olr_refs.proofs.Common.{Attrs, attrs_with, leg, legs, leg_at, position, dm_between, Each, AreJoined, lowest_class}
+use Rattle.olr_refs.proofs.Common.{ResolvedLine, records_of, ◌/◌, drop-map, fold, Line, is_good, line_at, bearing_out, no_leg}
+use Rattle.olr_refs.proofs.Common.{position_is, route_known, Margin, allowed, map-map}
 use Rattle.olr_bearing.specs.declared.places.Ends.{Ends}
 use Rattle.olr_bearing.specs.Legs as ends
 

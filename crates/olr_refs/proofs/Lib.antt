@@ -12,7 +12,7 @@ pub mod PointLemmas
 pub mod Reaching
 pub mod Resolving
 pub mod Reusing
-pub mod Asking
+pub mod Querying
 pub mod OwnLines
 pub mod Referring
 pub mod Sets

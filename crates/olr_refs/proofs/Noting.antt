@@ -1,13 +1,11 @@
 -- What the searches for coverage queries note and cost, and the footprint.
-use Rattle.olr_refs.proofs.Common.{append_assoc, ◌≡◌, ◌≤◌, ◌+◌, ◌*◌, ℕ, List, [], ◌∷◌, ◌++◌, length, Contains, arith}
-use Rattle.olr_refs.proofs.Common.{inl, inr, length-append, None, Some, Option, subst, ◌⊎◌, IsTrue, ◌↔◌, AllZip}
-use Rattle.olr_refs.proofs.Common.{eqb-true, Contains-append_left, Map, has_node, IsMap, dm_of, Path, is_path}
-use Rattle.olr_refs.proofs.Common.{NextWith, last_position, Sees, FootWith, CoverageQuery, QueriesOfWith}
-use Rattle.olr_refs.proofs.Common.{Contains-here, Contains-cases, Work, Along, Dijkstra, IsSearch, LiesWithin}
-use Rattle.olr_refs.proofs.Common.{limit_of, AreSearched, CostsAtMost, SeenBy, Notes, no_work, raised_work}
-use Rattle.olr_refs.proofs.Common.{foot_queried_with, Contains-append_right, Contains-append_cases, NoNextWith}
-use Rattle.olr_refs.proofs.Common.{FollowWith, TraversedOf, Contains-one, Counts, append-nil, MatchOption, Margin}
-use Rattle.olr_refs.proofs.Common.{counted}
+use Rattle.olr_refs.proofs.Common.{append_assoc, ◌≡◌, ◌≤◌, ◌+◌, ◌*◌, ℕ, List, [], ◌∷◌, ◌++◌, length, Contains, arith, inl, inr}
+use Rattle.olr_refs.proofs.Common.{length-append, None, Some, Option, subst, ◌⊎◌, IsTrue, ◌↔◌, AllZip, eqb-true}
+use Rattle.olr_refs.proofs.Common.{Contains-append_left, Map, has_node, IsMap, dm_of, Path, is_path, NextWith, last_position}
+use Rattle.olr_refs.proofs.Common.{Sees, FootWith, CoverageQuery, QueriesOfWith, Contains-here, Contains-cases, Work, Along}
+use Rattle.olr_refs.proofs.Common.{Dijkstra, IsSearch, LiesWithin, limit_of, AreSearched, CostsAtMost, SeenBy, Notes, no_work}
+use Rattle.olr_refs.proofs.Common.{raised_work, foot_queried_with, Contains-append_right, Contains-append_cases, NoNextWith}
+use Rattle.olr_refs.proofs.Common.{FollowWith, TraversedOf, Contains-one, Counts, append-nil, MatchOption, Margin, counted}
 use Rattle.std.specs.Cmp.{nat_eq_equiv}
 use Rattle.std.proofs.lemmas.Map.Made.{length-le_from_is_member}
 use Rattle.std.proofs.lemmas.Map.Views.{Contains-from_any, list_any-from_Contains}
@@ -71,36 +69,29 @@ noted_none M v1 = grind arith
 pub zip_append : {X Y : Type 0} (R : X → Y → Type 0) (ws xs : List X) (bs ys : List Y) → AllZip R ws bs → AllZip R xs ys →
     AllZip R (ws ++ xs) (bs ++ ys)
 zip_append R [] xs [] ys z w = w
-zip_append R [] xs (b ∷ bs) ys z w = absurd z
-zip_append R (a ∷ ws) xs [] ys z w = absurd z
 zip_append R (a ∷ ws) xs (b ∷ bs) ys z w = (z.0, zip_append R ws xs bs ys z.1 w)
+zip_append R _ xs _ ys z w = absurd z
 
 -- one search for a query settles no more than all nodes that the query reaches
-one_settled : (g : Margin) (M : Map) (xs : List ℕ) (b : ℕ) (l : CoverageQuery) (n : ℕ) →
-    Counts (counted g M xs) Along ((l.from, b) ∷ []) l.within n → (all : List ℕ) →
-    ((v : ℕ) → SeenBy M (l ∷ []) v → Contains all v) → n ≤ length all
-one_settled g M xs b l n c all each = omega (
-  arith,
-  c.many,
-  length-le_from_is_member nat_eq_equiv c.nodes all c.apart
-      (λ v is. list_any-from_Contains nat_eq_equiv v all (each v (
-        l,
-        Contains-here l [],
-        seen_counted g M xs l b v ((c.exactly v).0 (Contains-from_any (λ x y e. eqb-true x y e) v c.nodes is)),
-      ))),
-)
-
 pub one_cost : (g : Margin) (M : Map) (xs : List ℕ) (b : ℕ) (l : CoverageQuery) (q : Dijkstra) (w : Work) →
     limit_of q ≡ l.within → Counts (counted g M xs) Along ((l.from, b) ∷ []) (limit_of q) w.settled →
     w.searches ≡ 1 → CostsAtMost M (l ∷ []) w
-one_cost g M xs b l q w far c one = record {
-  searches = omega arith;
-  settled = λ all each. omega (
-    arith,
-    one_settled g M xs b l w.settled
-        (subst (λ (n : ℕ). Counts (counted g M xs) Along ((l.from, b) ∷ []) n w.settled) far c) all each,
-  );
-}
+one_cost g M xs b l q w far counts one =
+    let c = subst (λ (n : ℕ). Counts (counted g M xs) Along ((l.from, b) ∷ []) n w.settled) far counts in
+    record {
+      searches = omega arith;
+      settled = λ all each. omega (
+        arith,
+        c.many,
+        length-le_from_is_member nat_eq_equiv c.nodes all c.apart (λ v is.
+            list_any-from_Contains nat_eq_equiv v all (each v (
+              l,
+              Contains-here l [],
+              seen_counted g M xs l b v
+                  ((c.exactly v).0 (Contains-from_any (λ x y e. eqb-true x y e) v c.nodes is)),
+            ))),
+      );
+    }
 
 pub one_noted : (M : Map) (l : CoverageQuery) (w : Work) (a b : Option (List ℕ)) → w.searches ≡ 1 →
     Notes (Sees M l) a b → AreSearched M (l ∷ []) w a b

@@ -1,10 +1,9 @@
 -- The LRPs of a reference, as they are read.
-use Rattle.olr_refs.proofs.Common.{◌≡◌, ◌<◌, ◌≤◌, ◌-◌, ◌+◌, ℕ, zero, suc, ℤ, Option, List, [], ◌∷◌, ◌++◌, length}
-use Rattle.olr_refs.proofs.Common.{take, refl, arith, slice_index, Coord, abs24, relative, Map, Attrs, Middle}
-use Rattle.olr_refs.proofs.Common.{Reference, attrs_with, dm_between, reference_by_with, legs, leg_at, position}
-use Rattle.olr_refs.proofs.Common.{middle_points_of, Leg, bearing_back, First, Last, offset, last_two}
-use Rattle.olr_refs.proofs.Common.{first_point_with, middle_point_with, middle_points_with, last_point, ◌∙◌, ap}
-use Rattle.olr_refs.proofs.Common.{to_z-of_z, Width, w64, Margin}
+use Rattle.olr_refs.proofs.Common.{◌≡◌, ◌<◌, ◌≤◌, ◌-◌, ◌+◌, ℕ, zero, suc, ℤ, Option, List, [], ◌∷◌, ◌++◌, length, take, refl}
+use Rattle.olr_refs.proofs.Common.{arith, slice_index, Coord, abs24, relative, Map, Attrs, Middle, Reference, attrs_with}
+use Rattle.olr_refs.proofs.Common.{dm_between, reference_by_with, legs, leg_at, position, middle_points_of, Leg, bearing_back}
+use Rattle.olr_refs.proofs.Common.{First, Last, offset, last_two, first_point_with, middle_point_with, middle_points_with}
+use Rattle.olr_refs.proofs.Common.{last_point, ◌∙◌, ap, to_z-of_z, Width, w64, Margin}
 use mir.Val.{SFits, of_z, to_z}
 
 -- what a call computes from a number that is passed, as it is stored
@@ -44,13 +43,10 @@ middle_more g gs _ k h lt = absurd (omega arith)
 
 -- ---- the whole
 
-last_two_at : (h i : ℕ) (js : List ℕ) → (last_two h i js).0 ≡ slice_index (h ∷ i ∷ js) (length js)
-last_two_at h i [] = refl
+last_two_at : (h i : ℕ) (js : List ℕ) → ((last_two h i js).0 ≡ slice_index (h ∷ i ∷ js) (length js))
+    × ((last_two h i js).1 ≡ slice_index (i ∷ js) (length js))
+last_two_at h i [] = (refl, refl)
 last_two_at h i (j ∷ js) = last_two_at i j js
-
-last_at : (h i : ℕ) (js : List ℕ) → (last_two h i js).1 ≡ slice_index (i ∷ js) (length js)
-last_at h i [] = refl
-last_at h i (j ∷ js) = last_at i j js
 
 -- the reference whose parts are read, with the offsets by distances
 pub reference_read : (g : Margin) (M : Map) (ls ks : List ℕ) (pos_left neg_left : ℕ) (first : First) (middle : List Middle)
@@ -62,11 +58,10 @@ pub reference_read : (g : Margin) (M : Map) (ls ks : List ℕ) (pos_left neg_lef
     → ◌≡◌ {A = Reference} (record { first = first; middle = middle; last = last; pos = pos; neg = neg })
     (reference_by_with g (legs M ls) pos_left neg_left ks)
 reference_read g M ls (p ∷ q ∷ ks) pos_left neg_left first middle last pos neg two hf hm hl hp hn =
-    let before = last_two_at p q ks in
-    let end = last_at p q ks in
+    let ends = last_two_at p q ks in
     let less : length (p ∷ q ∷ ks) - 1 - 1 ≡ length ks = omega arith in
     let one : length (p ∷ q ∷ ks) - 1 ≡ suc (length ks) = omega arith in
-    let last_is = rw (less, one, ← before, ← end) at hl in
-    let neg_is = rw (less, one, ← before, ← end) at hn in
+    let last_is = rw (less, one, ← ends.0, ← ends.1) at hl in
+    let neg_is = rw (less, one, ← ends.0, ← ends.1) at hn in
     λ k. record { first = hf k; middle = hm k; last = last_is k; pos = hp k; neg = neg_is k }
 reference_read g M ls _ pos_left neg_left first middle last pos neg two hf hm hl hp hn = absurd (omega arith)

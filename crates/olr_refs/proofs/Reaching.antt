@@ -1,20 +1,18 @@
 -- The positions that are covered, by one route along the lines after a position, where these count longer.
-use Rattle.olr_refs.proofs.Common.{cases_lt, ◌≡◌, ◌==◌, ◌<◌, ◌≤◌, ◌-◌, ◌+◌, ◌*◌, ℕ, min, max, Bool, List, [], ◌∷◌}
-use Rattle.olr_refs.proofs.Common.{◌++◌, length, ap, sym, subst, ◌∙◌, arith, inl, inr, cases_order, IsTrue, ◌↔◌}
-use Rattle.olr_refs.proofs.Common.{slice_index, Map, IsMap, start, end, dm, has_line, IsRoute, dm_of, limit}
-use Rattle.olr_refs.proofs.Common.{AreJoined, stretch, CoveredWith, CountedTo, IsLastTestedWith, dm_of-append}
-use Rattle.olr_refs.proofs.Common.{stretch_parts, Along, Dijkstra, IsSearch, limit_of, IsLastNear, IsReach, UniqueShortest}
-use Rattle.olr_refs.proofs.Common.{Needed, empty_unique, stretch_last, ResolvedLine, record_of, cases_eq, ne_eqb}
-use Rattle.olr_refs.proofs.Common.{cond, refl, has_node, cases_Bool, cond_both, begun_at, MayMark, label_of}
-use Rattle.olr_refs.proofs.Common.{Each-range, next_start, way_between, Margin, is_margin, counted, counted_dm}
-use Rattle.olr_refs.proofs.Common.{counted_dm_of, CountedRoute, empty_stretch}
+use Rattle.olr_refs.proofs.Common.{cases_lt, ◌≡◌, ◌==◌, ◌<◌, ◌≤◌, ◌-◌, ◌+◌, ◌*◌, ℕ, min, max, Bool, List, [], ◌∷◌, ◌++◌, length}
+use Rattle.olr_refs.proofs.Common.{ap, sym, subst, ◌∙◌, arith, inl, inr, cases_order, IsTrue, ◌↔◌, slice_index, Map, IsMap}
+use Rattle.olr_refs.proofs.Common.{start, end, dm, has_line, IsRoute, dm_of, limit, AreJoined, stretch, CoveredWith, CountedTo}
+use Rattle.olr_refs.proofs.Common.{IsLastTestedWith, dm_of-append, stretch_parts, Along, Dijkstra, IsSearch, limit_of}
+use Rattle.olr_refs.proofs.Common.{IsLastNear, IsReach, UniqueShortest, Needed, empty_unique, stretch_last, ResolvedLine}
+use Rattle.olr_refs.proofs.Common.{record_of, cases_eq, ne_eqb, cond, refl, true, has_node, cases_Bool, cond_both, begun_at}
+use Rattle.olr_refs.proofs.Common.{MayMark, label_of, Each-range, next_start, way_between, Margin, is_margin, counted}
+use Rattle.olr_refs.proofs.Common.{counted_dm, counted_dm_of, CountedRoute, empty_stretch, counted_nil, counted_start}
+use Rattle.olr_route.specs.Lengths.{MayCount}
+use Rattle.olr_spec.proofs.ElsewhereLemmas.{counted_part}
 use Rattle.olr_refs.proofs.Counting.{own_same, line_counts, sum_counts, unique_more, end_ahead, starts_settled}
 use Rattle.olr_refs.proofs.Joined.{known_at}
 use Rattle.olr_refs.proofs.LegLemmas.{joined_known}
 use Rattle.olr_refs.proofs.Stretches.{stretch_sum}
-use Rattle.olr_route.specs.Lengths.{MayCount}
-use Rattle.olr_spec.proofs.CountedLemmas.{counted_nil, counted_start}
-use Rattle.olr_spec.proofs.ElsewhereLemmas.{counted_part}
 
 pub unique_start : (g : Margin) (M : Map) → IsMap M → (ls : List ℕ) (i : ℕ) → AreJoined M ls → i + 1 < length ls →
     CountedTo g M ls i (i + 1)
@@ -122,17 +120,17 @@ module _ (g : Margin) (M : Map) (m : IsMap M) (ls : List ℕ) (i last_near : ℕ
 begun_low : (g : Margin) → begun_at g ≤ 1
 begun_low g = cond_both (g.routes == 0) 0 1 (λ n. n ≤ 1) (λ _. omega arith) (λ _. omega arith)
 
--- the lines after line i up to line k are the unique shortest path, and the search is settled so far
-pub record Tests (g : Margin) (M : Map) (slot : ℕ → ℕ) (ls : List ℕ) (i k within : ℕ) (s : Dijkstra) : Type 0 where
+-- the search is settled up to line k, and b says whether the lines after line i up to there are the unique shortest path
+pub record Tests (g : Margin) (M : Map) (slot : ℕ → ℕ) (ls : List ℕ) (i k within : ℕ) (b : Bool) (s : Dijkstra) : Type 0 where
   pub search : IsSearch (counted g M (stretch ls (i + 1) k)) slot Along ((end M (slice_index ls i), begun_at g) ∷ []) s
   pub settled : limit_of s ≡ within
   pub long : within ≡ counted_dm_of g M (stretch ls (i + 1) k)
   pub small : within ≤ 2 * dm_of M (stretch ls (i + 1) k)
-  pub unique : CountedTo g M ls i k
+  pub whether : IsTrue b ↔ CountedTo g M ls i k
 
 pub tests_start : (g : Margin) (M : Map) → IsMap M → (slot : ℕ → ℕ) (ls : List ℕ) (i : ℕ) (s : Dijkstra) → AreJoined M ls →
     i + 1 < length ls → IsSearch M slot Along ((end M (slice_index ls i), begun_at g) ∷ []) s → limit_of s ≡ 0 →
-    Tests g M slot ls i (i + 1) 0 s
+    Tests g M slot ls i (i + 1) 0 true s
 tests_start g M m slot ls i s w h search at_source =
     let none = sym (empty_stretch ls (i + 1) (i + 1) (omega arith)) in
     record {
@@ -141,16 +139,8 @@ tests_start g M m slot ls i s w h search at_source =
       settled = at_source;
       long = ap (counted_dm_of g M) none;
       small = omega arith;
-      unique = unique_start g M m ls i w h;
+      whether = ((λ _. unique_start g M m ls i w h), λ _. refl);
     }
-
--- the search goes on as far as line k ends, and b says whether that line extends the unique shortest path
-pub record GoesOn (g : Margin) (M : Map) (slot : ℕ → ℕ) (ls : List ℕ) (i k within : ℕ) (b : Bool) (s : Dijkstra) : Type 0 where
-  pub search : IsSearch (counted g M (stretch ls (i + 1) (k + 1))) slot Along ((end M (slice_index ls i), begun_at g) ∷ []) s
-  pub settled : limit_of s ≡ within
-  pub long : within ≡ counted_dm_of g M (stretch ls (i + 1) (k + 1))
-  pub whether : IsTrue b ↔ CountedTo g M ls i (k + 1)
-  pub tests : CountedTo g M ls i (k + 1) → Tests g M slot ls i (k + 1) within s
 
 -- line k, as it is read with the length that it counts
 pub record IsLine (g : Margin) (M : Map) (slot : ℕ → ℕ) (ls : List ℕ) (k : ℕ) (line : ResolvedLine) : Type 0 where
@@ -159,7 +149,7 @@ pub record IsLine (g : Margin) (M : Map) (slot : ℕ → ℕ) (ls : List ℕ) (k
 
 module _ (g : Margin) (M : Map) (m : IsMap M) (slot : ℕ → ℕ) (ls : List ℕ) (w : AreJoined M ls) (i k : ℕ) (after : i < k)
     (inside : k + 1 < length ls) (line : ResolvedLine) (is : IsLine g M slot ls k line) (within : ℕ) (old : Dijkstra)
-    (t : Tests g M slot ls i k within old) where
+    (t : Tests g M slot ls i k within true old) where
   abbrev x : ℕ
   x = slice_index ls k
 
@@ -174,9 +164,6 @@ module _ (g : Margin) (M : Map) (m : IsMap M) (slot : ℕ → ℕ) (ls : List �
 
   longer : stretch ls (i + 1) (k + 1) ≡ front ++ x ∷ []
   longer = stretch_last ls (i + 1) k (omega arith) (omega arith)
-
-  next : end M x ≡ start M (slice_index ls (k + 1))
-  next = next_start M _ _ ls k w inside
 
   long_on : within + line.len ≡ counted_dm_of g M (stretch ls (i + 1) (k + 1))
   long_on = rw longer (omega (
@@ -207,8 +194,8 @@ module _ (g : Margin) (M : Map) (m : IsMap M) (slot : ℕ → ℕ) (ls : List �
             known = x_known;
             at = refl;
             len = refl;
-            ahead = end_ahead K slot from (start M x) front old s t.unique far (node (start M x) (m.starts x x_known));
-            settled = λ y on. omega (arith, same y, starts_settled K slot from (start M x) front old s t.unique far y on);
+            ahead = end_ahead K slot from (start M x) front old s (t.whether.0 refl) far (node (start M x) (m.starts x x_known));
+            settled = λ y on. omega (arith, same y, starts_settled K slot from (start M x) front old s (t.whether.0 refl) far y on);
           })
     ],
     t.search,
@@ -221,49 +208,34 @@ module _ (g : Margin) (M : Map) (m : IsMap M) (slot : ℕ → ℕ) (ls : List �
   id_is : line.id ≡ x
   id_is = ap (λ (r : ResolvedLine). r.id) is.value
 
-  -- the search goes on as far as line k ends
-  module _ (new : Dijkstra) (search : IsSearch (counted g M (front ++ line.id ∷ [])) slot Along ((from, begun_at g) ∷ []) new)
-      (n : ℕ) (sum : n ≡ within + line.len) (far : limit_of new ≡ max (limit_of old) n) where
-    search_on : IsSearch (counted g M (stretch ls (i + 1) (k + 1))) slot Along ((from, begun_at g) ∷ []) new
-    search_on = subst (λ zs. IsSearch (counted g M zs) slot Along ((from, begun_at g) ∷ []) new)
-        (ap (λ y. front ++ y ∷ []) id_is ∙ sym longer) search
-
-    settled_on : limit_of new ≡ n
-    settled_on = omega (arith, far, sum, t.settled)
-
-    tests_on : CountedTo g M ls i (k + 1) → Tests g M slot ls i (k + 1) n new
-    tests_on u = record {
-      search = search_on;
-      settled = settled_on;
-      long = sum ∙ long_on;
-      small = omega (arith, sum, small_on);
-      unique = u;
-    }
-
-    -- as it is read
-    pub goes_on_to : (b : Bool) →
-        ((h : Margin) (s c : ℕ) (route : List ℕ) →
-        IsSearch (counted h M (route ++ line.id ∷ [])) slot Along ((s, c) ∷ []) new →
-        line.len ≡ dm (counted h M (route ++ line.id ∷ [])) line.id →
-        UniqueShortest (counted h M (route ++ line.id ∷ [])) s (start M line.id) route →
-        c + (dm_of (counted h M (route ++ line.id ∷ [])) route + line.len) ≤ limit_of new + 1 →
-        (IsTrue b ↔ UniqueShortest (counted h M (route ++ line.id ∷ [])) s (end M line.id) (route ++ line.id ∷ []))) →
-        GoesOn g M slot ls i k n b new
-    goes_on_to b f =
-        let there : UniqueShortest (counted g M (front ++ line.id ∷ [])) from (start M line.id) front =
-        subst (λ y. UniqueShortest (counted g M (front ++ line.id ∷ [])) from (start M y) front) (sym id_is)
-        (unique_more g M front (line.id ∷ []) from (start M x) t.unique) in
-        let counts : line.len ≡ dm (counted g M (front ++ line.id ∷ [])) line.id =
-        ap (λ (r : ResolvedLine). r.len) is.value
-        ∙ sym (subst (λ y. dm (counted g M (front ++ y ∷ [])) y ≡ counted_dm g (dm M x)) (sym id_is) (line_counts g M front x x_known)) in
-        let as_long = own_same g M front (line.id ∷ []) front
-        (Each-range (λ y. IsTrue (has_line M y)) ls (i + 1) k (joined_known M ls w)) (λ y on. on) in
-        record {
-          search = search_on;
-          settled = settled_on;
-          long = sum ∙ long_on;
-          whether = coe 0 1 (j. IsTrue b ↔ UniqueShortest (counted g M (sym longer j)) from (next j) (sym longer j))
-              (subst (λ y. IsTrue b ↔ UniqueShortest (counted g M (front ++ y ∷ [])) from (end M y) (front ++ y ∷ [])) id_is
-              (f g from (begun_at g) front search counts there (omega (arith, t.long, as_long, sum, settled_on, begun_low g))));
-          tests = tests_on;
-        }
+  -- the search goes on as far as line k ends, and b is read
+  pub goes_on_to : (new : Dijkstra) → IsSearch (counted g M (front ++ line.id ∷ [])) slot Along ((from, begun_at g) ∷ []) new →
+      (n : ℕ) → n ≡ within + line.len → limit_of new ≡ max (limit_of old) n → (b : Bool) →
+      ((h : Margin) (s c : ℕ) (route : List ℕ) →
+      IsSearch (counted h M (route ++ line.id ∷ [])) slot Along ((s, c) ∷ []) new →
+      line.len ≡ dm (counted h M (route ++ line.id ∷ [])) line.id →
+      UniqueShortest (counted h M (route ++ line.id ∷ [])) s (start M line.id) route →
+      c + (dm_of (counted h M (route ++ line.id ∷ [])) route + line.len) ≤ limit_of new + 1 →
+      (IsTrue b ↔ UniqueShortest (counted h M (route ++ line.id ∷ [])) s (end M line.id) (route ++ line.id ∷ []))) →
+      Tests g M slot ls i (k + 1) n b new
+  goes_on_to new search n sum far b f =
+      let settled : limit_of new ≡ n = omega (arith, far, sum, t.settled) in
+      let next = next_start M _ _ ls k w inside in
+      let there : UniqueShortest (counted g M (front ++ line.id ∷ [])) from (start M line.id) front =
+      subst (λ y. UniqueShortest (counted g M (front ++ line.id ∷ [])) from (start M y) front) (sym id_is)
+      (unique_more g M front (line.id ∷ []) from (start M x) (t.whether.0 refl)) in
+      let counts : line.len ≡ dm (counted g M (front ++ line.id ∷ [])) line.id =
+      ap (λ (r : ResolvedLine). r.len) is.value
+      ∙ sym (subst (λ y. dm (counted g M (front ++ y ∷ [])) y ≡ counted_dm g (dm M x)) (sym id_is) (line_counts g M front x x_known)) in
+      let as_long = own_same g M front (line.id ∷ []) front
+      (Each-range (λ y. IsTrue (has_line M y)) ls (i + 1) k (joined_known M ls w)) (λ y on. on) in
+      record {
+        search = subst (λ zs. IsSearch (counted g M zs) slot Along ((from, begun_at g) ∷ []) new)
+            (ap (λ y. front ++ y ∷ []) id_is ∙ sym longer) search;
+        settled = settled;
+        long = sum ∙ long_on;
+        small = omega (arith, sum, small_on);
+        whether = coe 0 1 (j. IsTrue b ↔ UniqueShortest (counted g M (sym longer j)) from (next j) (sym longer j))
+            (subst (λ y. IsTrue b ↔ UniqueShortest (counted g M (front ++ y ∷ [])) from (end M y) (front ++ y ∷ [])) id_is
+            (f g from (begun_at g) front search counts there (omega (arith, t.long, as_long, sum, settled, begun_low g))));
+      }

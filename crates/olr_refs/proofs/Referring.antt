@@ -1,19 +1,17 @@
 -- The encoding of a path, by its extension, its LRPs, its coverage queries and its reference.
-use Rattle.olr_refs.proofs.Common.{◌≡◌, ◌<◌, ◌+◌, ℕ, List, [], ◌∷◌, length, Option, Some, None, MatchOption, Contains}
-use Rattle.olr_refs.proofs.Common.{ap, ◌∙◌, arith, inl, inr, eq-eqb, IsTrue, Map, IsMap, dm_of, Path, is_path}
-use Rattle.olr_refs.proofs.Common.{extended_path, AreJoined, last_position, Reference, legs, reference_with}
-use Rattle.olr_refs.proofs.Common.{path_fault, CoverageQuery, QueriesOfWith, path_nonempty, all_first, all_last}
-use Rattle.olr_refs.proofs.Common.{path_also, Extends, later, joined_with, answer_of, Tried, OfPathWith}
-use Rattle.olr_refs.proofs.Common.{answer_by_points_with, EncodingWith, EncodesWith, Traversed, TraversedOfExtended}
-use Rattle.olr_refs.proofs.Common.{QueriesOfExtendedWith, sound_lines, one_tried, extended_sound, ForPoints}
-use Rattle.olr_refs.proofs.Common.{searches_of, ◌↔◌, kept_points, own_lines, OwnLinesOfWith, recovered_with, Margin}
+use Rattle.olr_refs.proofs.Common.{◌≡◌, ◌<◌, ◌+◌, ℕ, List, [], ◌∷◌, length, Option, Some, None, MatchOption, Contains, ap, ◌∙◌}
+use Rattle.olr_refs.proofs.Common.{arith, inl, inr, eq-eqb, IsTrue, Map, IsMap, dm_of, Path, is_path, extended_path, AreJoined}
+use Rattle.olr_refs.proofs.Common.{last_position, Reference, legs, reference_with, path_fault, CoverageQuery, QueriesOfWith}
+use Rattle.olr_refs.proofs.Common.{path_nonempty, all_first, all_last, path_also, Extends, later, joined_with, answer_of, Tried}
+use Rattle.olr_refs.proofs.Common.{OfPathWith, EncodingWith, EncodesWith, Traversed, TraversedOfExtended, QueriesOfExtendedWith}
+use Rattle.olr_refs.proofs.Common.{sound_lines, one_tried, extended_sound, ForPoints, searches_of, ◌↔◌, kept_points, own_lines}
+use Rattle.olr_refs.proofs.Common.{OwnLinesOfWith, recovered_with, Margin}
 use Rattle.olr_answers.specs.declared.answer.Answer.{Answer}
 use Rattle.olr_answers.specs.declared.answer.Answer.TheVariants.{Points, Refused}
 use Rattle.std.proofs.lemmas.Slice.Zip.{AllZip-long}
 use Rattle.std.proofs.lemmas.List.Sums.{length-filter}
-use Rattle.olr_refs.specs.Referring.{JoinsOf, AnsweredAlong, SearchesOf}
+use Rattle.olr_refs.specs.Referring.{JoinsOf, AnsweredAlong, RecoveredOf, SearchesOf}
 use Rattle.olr_spec.proofs.JoinedLemmas.{extended_joined}
-use Rattle.olr_refs.specs.Recovered.{RecoveredOf}
 use Rattle.olr_spec.specs.Encoding as spec
 use Rattle.olr_answers.specs.Answers as answers
 
@@ -41,12 +39,6 @@ points_answer g M E ls ps r xs e c a o = grind (arith, eq-eqb)
 pub of_path : (g : Margin) (M : Map) (P E : Path) (lead : ℕ) (F G : List ℕ) (Q : Path → List ℕ → List ℕ → List ℕ → Type 0) →
     (x : Extends M P E lead F G) → ForPoints g M E.lines (Q E x.before x.after) → OfPathWith g M P Q
 of_path g M P E lead F G Q x a = grind arith
-
-pub encoding_of : (g : Margin) (M : Map) (P E : Path) (lead : ℕ) (F G : List ℕ) (A : spec.Answer) (xs : List ℕ) →
-    Extends M P E lead F G →
-    ForPoints g M E.lines (λ js. AnsweredAlong g M E js A xs) → EncodingWith g M P A
-encoding_of g M P E lead F G A xs x a =
-    of_path g M P E lead F G (λ e _ _ js. A ≡ answer_by_points_with g M e js) x (a.0, a.1, a.2.answer)
 
 pub own_of : (g : Margin) (M : Map) (P E : Path) (lead : ℕ) (F G : List ℕ) (A : spec.Answer) (xs : List ℕ) →
     Extends M P E lead F G →

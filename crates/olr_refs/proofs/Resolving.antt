@@ -1,7 +1,7 @@
 -- Lines of a path as a map has them.
 use Rattle.olr_refs.proofs.Common.{arith, ◌≡◌, ◌<◌, ℕ, List, [], ◌∷◌, ◌++◌, length, get_or, refl, sym, ap, ◌∙◌, subst}
-use Rattle.olr_refs.proofs.Common.{get_or-map, length-map, map-append, slice_index, Map, ResolvedLine, record_of}
-use Rattle.olr_refs.proofs.Common.{records_of, ids, AreRecords, Some, slice_get}
+use Rattle.olr_refs.proofs.Common.{get_or-map, length-map, map-append, slice_index, Map, ResolvedLine, record_of, records_of}
+use Rattle.olr_refs.proofs.Common.{ids, AreRecords, Some, slice_get}
 use Rattle.std.proofs.lemmas.Option.{get_or_from_slice_get, slice_get_within}
 
 -- the record of line k

@@ -1,14 +1,12 @@
 -- Known coverage queries on an extended path: how one is found, and what it says there.
-use Rattle.olr_refs.proofs.Common.{cases_lt, ◌≡◌, ◌<◌, ◌≤◌, ◌-◌, ◌+◌, ◌∷◌, ℕ, min, Bool, true, false, List, get_or}
-use Rattle.olr_refs.proofs.Common.{Result, Some, Contains, Option, [], refl, sym, ap, ◌∙◌, subst, arith}
-use Rattle.olr_refs.proofs.Common.{get_or_default, IsTrue, ◌↔◌, slice_index, length, length-take, length-drop}
-use Rattle.olr_refs.proofs.Common.{get_or-take, get_or-drop, IsBinarySearchResult, nat_cmp, IsMap, Map, start, end}
-use Rattle.olr_refs.proofs.Common.{AreJoined, IsRoute, CountedTo, CoveredWith, stretch, KnownQuery, CoverageQuery}
-use Rattle.olr_refs.proofs.Common.{IsLastTestedWith, IsLastNear, IsReach, Ok, Err, IsReuse, IsAnswered, IsKnownOfWith}
-use Rattle.olr_refs.proofs.Common.{EndsHere, own_of, Contains-here, known_reach, no_work, All-contains}
-use Rattle.olr_refs.proofs.Common.{IsSearchInRange, IsKnownWith, query_to_with, if◌then◌else◌, Found, Reuse, Margin}
-use Rattle.olr_refs.proofs.Common.{counted, CountedRoute, drop-drop, drop-take, take-take, way_on, next_start}
-use Rattle.olr_refs.proofs.Common.{empty_stretch}
+use Rattle.olr_refs.proofs.Common.{cases_lt, Contains, IsRoute, CountedTo, stretch, EndsHere, drop-drop, drop-take, take-take}
+use Rattle.olr_refs.proofs.Common.{◌≡◌, IsKnownOfWith, Contains-here, All-contains, query_to_with, if◌then◌else◌, empty_stretch}
+use Rattle.olr_refs.proofs.Common.{◌<◌, ◌≤◌, ℕ, true, false, List, Some, refl, subst, arith, IsMap, start, Found, Reuse, way_on}
+use Rattle.olr_refs.proofs.Common.{◌-◌, ◌+◌, ◌∷◌, min, [], sym, ap, ◌∙◌, ◌↔◌, Map, end, Ok, Err, Bool, get_or_default}
+use Rattle.olr_refs.proofs.Common.{IsBinarySearchResult, CoverageQuery, IsLastTestedWith, IsSearchInRange, get_or, Result}
+use Rattle.olr_refs.proofs.Common.{Option, IsTrue, length, IsReach, IsReuse, own_of, no_work, Margin, counted, slice_index}
+use Rattle.olr_refs.proofs.Common.{length-take, length-drop, get_or-take, get_or-drop, CoveredWith, CountedRoute, nat_cmp}
+use Rattle.olr_refs.proofs.Common.{AreJoined, KnownQuery, IsLastNear, IsAnswered, known_reach, IsKnownWith, next_start}
 use Rattle.std.specs.Result.{result_ok}
 use Rattle.std.proofs.lemmas.Cmp.{ranked}
 use Rattle.olr_spec.proofs.KnownLemmas.{one_end}
@@ -45,7 +43,7 @@ own_stretch ls r p q h k =
     let long : r.lead + q - (r.lead + p) ≡ q - p = omega arith in
     rw (n, drop-take, long, drop-drop) (take-take (q - p) (r.own - p) _ (omega arith))
 
--- nothing is asked of the last line
+-- nothing is queried of the last line
 covered_unique : (g : Margin) (M : Map) (ls : List ℕ) (i j : ℕ) → i < j → j < length ls → CoveredWith g M ls i j ↔ CountedTo g M ls i j
 covered_unique g M ls i j h k = grind arith
 

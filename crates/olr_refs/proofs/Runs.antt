@@ -1,15 +1,13 @@
 -- A run of degree-two nodes that leads out from some lines, extended by one line at a time. Each line leads on from the
 -- one before it, which determines it, and is in the run already only if it is one of the lines.
-use Rattle.olr_refs.proofs.Common.{nat_tests, ◌⊎◌, ◌≡◌, ℕ, ◌+◌, ◌<◌, ◌≤◌, ◌==◌, Bool, not, true, false, List, [], ◌∷◌}
-use Rattle.olr_refs.proofs.Common.{◌++◌, length, map, reverse, Option, Some, None, MatchOption, refl, sym, ap, ◌∙◌}
-use Rattle.olr_refs.proofs.Common.{subst, arith, append_assoc, both_ways, map-append, reverse-append}
-use Rattle.olr_refs.proofs.Common.{list_any-IsPermutation, Map, has_line, dm, has, dm_of, last, limit, dm_of-append}
-use Rattle.olr_refs.proofs.Common.{far_end, Along, Against, ResolvedLine, IsResolved, record_of, records_of, ids}
-use Rattle.olr_refs.proofs.Common.{AreRecords, LiesBeyond, IsRun, same_start_run, same_end_run, last_push}
-use Rattle.olr_refs.proofs.Common.{reverse-reverse, ◌≢◌, is_some, ⊤, ne_eqb, or_from, or_parts, list_any-append}
-use Rattle.olr_refs.proofs.Common.{IsPermutation-reverse, MayPrecede, MayFollow, StartRun, EndRun, has_here}
-use Rattle.olr_refs.proofs.Common.{has_first, has_last, near_end, outermost, in_order, LeadsOn, IsLongest, IsTrue}
-use Rattle.olr_refs.proofs.Common.{append-nil, Direction, joined}
+use Rattle.olr_refs.proofs.Common.{nat_tests, Bool, both_ways, record_of, last_push, MayFollow, has_first, outermost, IsLongest}
+use Rattle.olr_refs.proofs.Common.{◌⊎◌, reverse, far_end, or_parts, StartRun, has_here, has_last, near_end, in_order, Direction}
+use Rattle.olr_refs.proofs.Common.{◌≡◌, ◌+◌, true, List, ◌++◌, Some, None, refl, subst, arith, dm_of, last, limit, Along, IsRun}
+use Rattle.olr_refs.proofs.Common.{ℕ, false, length, Option, Against, is_some, ne_eqb, or_from, EndRun, LeadsOn, IsTrue, joined}
+use Rattle.olr_refs.proofs.Common.{◌<◌, ◌≤◌, not, [], ◌∷◌, map, sym, ap, ◌∙◌, Map, dm, has, ids, ◌≢◌, ⊤, ◌==◌, append_assoc}
+use Rattle.olr_refs.proofs.Common.{reverse-append, dm_of-append, ResolvedLine, same_start_run, same_end_run, MatchOption}
+use Rattle.olr_refs.proofs.Common.{list_any-IsPermutation, reverse-reverse, list_any-append, IsPermutation-reverse, map-append}
+use Rattle.olr_refs.proofs.Common.{has_line, IsResolved, records_of, AreRecords, LiesBeyond, MayPrecede, append-nil}
 use Rattle.olr_spec.proofs.RunMoves.{EndRun-push}
 use Rattle.olr_spec.proofs.DecideLemmas.{last_of_list}
 

@@ -1,7 +1,6 @@
 -- Legs of joined lines: they are routes, and one leg begins where another ends.
-use Rattle.olr_refs.proofs.Common.{◌≡◌, ◌<◌, ◌≤◌, ◌-◌, ◌+◌, ℕ, List, ◌++◌, length, take, sym, ap, ◌∙◌, arith}
-use Rattle.olr_refs.proofs.Common.{slice_index, Map, dm_of, stretch, dm_of-append, stretch_parts, AreDistances, IsLastNear}
-use Rattle.olr_refs.proofs.Common.{IsLastWithinLimit, take-add}
+use Rattle.olr_refs.proofs.Common.{◌≡◌, ◌<◌, ◌≤◌, ◌-◌, ◌+◌, ℕ, List, ◌++◌, length, take, sym, ap, ◌∙◌, arith, slice_index, Map}
+use Rattle.olr_refs.proofs.Common.{dm_of, stretch, dm_of-append, stretch_parts, AreDistances, take-add}
 
 -- ---- lengths
 
@@ -22,18 +21,3 @@ stretch_sum M ls i j k h g =
 pub distances_rise : (M : Map) (ls ds : List ℕ) → AreDistances M ls ds → (j k : ℕ) → j ≤ k → k < length ds →
     slice_index ds j ≤ slice_index ds k
 distances_rise M ls ds d j k h g = let l = d.long in let e = dm_stretch M ls ds j k d h (omega arith) in omega arith
-
-pub far_of : (M : Map) (ls ds : List ℕ) (i k : ℕ) → AreDistances M ls ds → IsLastWithinLimit ds i k → IsLastNear M ls i k
-far_of M ls ds i k d f =
-    let from = f.from in
-    record {
-      from = from;
-      upto = omega arith;
-      near = λ j a b. omega (
-        arith,
-        f.near,
-        dm_stretch M ls ds i k d from (omega arith),
-        stretch_sum M ls i j k (omega arith) b,
-      );
-      beyond = λ j a b. omega (arith, f.beyond j a (omega arith), dm_stretch M ls ds i j d (omega arith) b);
-    }

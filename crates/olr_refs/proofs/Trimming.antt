@@ -1,24 +1,22 @@
 -- Which LRPs remain, by the distances of all positions.
-use Rattle.olr_refs.proofs.Common.{common_steps, inl, inr, ◌≡◌, ◌<◌, ◌≤◌, ◌-◌, ◌+◌, ℕ, zero, suc, Bool, true, false}
-use Rattle.olr_refs.proofs.Common.{cond, List, [], ◌∷◌, length, take, drop, refl, sym, ap, ◌∙◌, subst, arith}
-use Rattle.olr_refs.proofs.Common.{cases_lt, cases_eq, le-leb, nat_tests, take-map, take_all, slice_index}
-use Rattle.olr_refs.proofs.Common.{slice_range, Map, dm_of, CandidateWith, last_position, leg, legs, dm_between}
-use Rattle.olr_refs.proofs.Common.{reference_with, reference_by_with, AreDistances, later, distance_at}
-use Rattle.olr_refs.proofs.Common.{whole_distance, nat_le, length-take, length-drop, lt-leb, get_or-take, get_or-drop}
-use Rattle.olr_refs.proofs.Common.{AllPairs-from_increasing, filter, dm_along, from_front, to_back, last_where}
-use Rattle.olr_refs.proofs.Common.{first_where, first_kept, last_kept, kept_points, LinkedWith, follow_linked_with}
-use Rattle.olr_refs.proofs.Common.{between, kept_linked_with, from_front-add, AreAlong, ArePoints, AreKept, AreLinked}
-use Rattle.olr_refs.proofs.Common.{AreTrimmed, IsFirstKept, IsLastKept, Margin}
+use Rattle.olr_refs.proofs.Common.{common_steps, zero, slice_index, last_position, AreDistances, whole_distance, from_front-add}
+use Rattle.olr_refs.proofs.Common.{inl, inr, ◌≡◌, ◌<◌, ◌≤◌, ◌-◌, ◌+◌, suc, [], ◌∷◌, sym, ap, ◌∙◌, Map, leg, ℕ, slice_range}
+use Rattle.olr_refs.proofs.Common.{distance_at, length-take, length-drop, get_or-take, get_or-drop, first_where, Bool, cases_lt}
+use Rattle.olr_refs.proofs.Common.{cases_eq, nat_tests, last_kept, ArePoints, AreLinked, AreTrimmed, IsLastKept, true, false}
+use Rattle.olr_refs.proofs.Common.{cond, List, take, drop, refl, subst, arith, dm_of, legs, later, filter, Margin, length}
+use Rattle.olr_refs.proofs.Common.{dm_between, from_front, last_where, first_kept, kept_points, LinkedWith, IsFirstKept, le-leb}
+use Rattle.olr_refs.proofs.Common.{take-map, take_all, nat_le, lt-leb, dm_along, to_back, between, AreAlong, AreKept}
+use Rattle.olr_refs.proofs.Common.{CandidateWith, reference_with, reference_by_with, AllPairs-from_increasing, kept_linked_with}
+use Rattle.olr_spec.proofs.JoinLemmas.{follow_linked_with}
 use Rattle.olr_spec.proofs.KeptLemmas.{dm_along-legs, whole}
 use Rattle.olr_refs.proofs.Stretches.{distances_rise}
 
 -- ---- the LRPs
 
 linked_at : (g : Margin) (M : Map) (ls ps : List ℕ) → LinkedWith g M ls ps → AreLinked g M ls ps
-linked_at g M ls [] l k h = absurd (omega arith)
-linked_at g M ls (p ∷ []) l k h = absurd (omega arith)
 linked_at g M ls (p ∷ q ∷ ps) l zero h = l.0
 linked_at g M ls (p ∷ q ∷ ps) l (suc k) h = grind (arith, linked_at g M ls (q ∷ ps) l.1 k (omega arith))
+linked_at g M ls _ l k h = absurd (omega arith)
 
 -- the last two
 pub linked_end : (g : Margin) (M : Map) (ls ps : List ℕ) → AreLinked g M ls ps → 2 ≤ length ps →
@@ -134,24 +132,20 @@ module _ (g : Margin) (M : Map) (ls ds ps : List ℕ) (d : AreDistances M ls ds)
       slice_index ps a ≡ first_kept (legs M ls) positive (later ps)
   first_is positive a f =
       let test : ℕ → Bool = λ i. nat_le (from_front (legs M ls) i) positive in
-      let passes : test (slice_index ps a) ≡ true =
-      rw (front _ (upto a f.within)) (le-leb _ positive f.near) in
       let after : (k : ℕ) → a < k → k < length ps → test (slice_index ps k) ≡ false = λ k gt lt.
-      let next = f.next (omega arith) in
-      let order = ascend (a + 1) k (omega arith) lt in
-      rw (front _ (upto k lt)) (lt-leb _ positive (omega arith)) in
-      sym (ap (last_where test 0) (sym p.from_start) ∙ last_where_at test 0 ps a f.within passes after)
+      rw (front _ (upto k lt)) (lt-leb _ positive (omega (arith, f.next (omega arith), ascend (a + 1) k (omega arith) lt))) in
+      sym (ap (last_where test 0) (sym p.from_start) ∙ last_where_at test 0 ps a f.within
+      (rw (front _ (upto a f.within)) (le-leb _ positive f.near)) after)
 
   last_is : (negative b : ℕ) → IsLastKept ds ps negative b →
       slice_index ps b ≡ last_kept (legs M ls) negative (later ps)
   last_is negative b l =
       let test : ℕ → Bool = λ i. nat_le (to_back (legs M ls) i) negative in
       let within = l.within in
-      let passes : test (slice_index ps b) ≡ true = le-leb _ negative (omega (arith, back _ (upto b within))) in
-      let before : (k : ℕ) → k < b → test (slice_index ps k) ≡ false = λ k lt.
-      let order = ascend k (b - 1) (omega arith) (omega arith) in
-      lt-leb _ negative (omega (arith, l.before, back _ (upto k (omega arith)))) in
-      sym (ap (first_where test 0) (sym p.from_start) ∙ first_where_at test 0 ps b within passes before)
+      let before : (k : ℕ) → k < b → test (slice_index ps k) ≡ false = λ k lt. lt-leb _ negative
+      (omega (arith, l.before, ascend k (b - 1) (omega arith) (omega arith), back _ (upto k (omega arith)))) in
+      sym (ap (first_where test 0) (sym p.from_start) ∙ first_where_at test 0 ps b within
+      (le-leb _ negative (omega (arith, back _ (upto b within)))) before)
 
   range_is : (a b : ℕ) → a ≤ b → b < length ps → filter (between (slice_index ps a) (slice_index ps b)) ps
       ≡ slice_range ps a (b + 1)

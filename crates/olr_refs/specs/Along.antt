@@ -15,13 +15,6 @@ pub record DistancesTo (M : Map) (ls : List ℕ) (n : ℕ) (ds : List ℕ) : Typ
 abbrev pub AreDistances : Map → List ℕ → List ℕ → Type 0
 AreDistances M ls ds = DistancesTo M ls (length ls) ds
 
--- k is the last position, from i on, whose distance from i is within the limit
-pub record IsLastWithinLimit (ds : List ℕ) (i k : ℕ) : Type 0 where
-  pub from : i ≤ k
-  pub upto : k < length ds
-  pub near : slice_index ds k ≤ slice_index ds i + limit
-  pub beyond : (j : ℕ) → k < j → j < length ds → slice_index ds i + limit < slice_index ds j
-
 -- the positions after i that are covered and within the limit are those up to k
 pub record IsReach (g : Margin) (M : Map) (ls : List ℕ) (i k : ℕ) : Type 0 where
   pub from : i ≤ k

@@ -65,7 +65,6 @@ pub record AreSearched (M : Map) (queries : List CoverageQuery) (work : Work) (s
 abbrev pub begun_at : Margin → ℕ
 begun_at g = if g.routes == 0 then 0 else 1
 
--- from now on the line may count longer too, where the lines xs do so already
 abbrev pub MayMark : Margin → Map → (ℕ → ℕ) → List ℕ → List (ℕ × ℕ) → ResolvedLine → Dijkstra → Type 0
 MayMark g M slot xs from line s =
     ((g.routes ≡ 0) ⊎ MayCount M slot g xs line s) × IsSearch (counted g M xs) slot Along from s

@@ -56,7 +56,6 @@ pub record IsLastKept (ds ps : List ℕ) (negative k : ℕ) : Type 0 where
   pub near : whole_distance ds ≤ distance_at ds ps k + negative
   pub before : 0 < k → distance_at ds ps (k - 1) + negative < whole_distance ds
 
--- ks are the LRPs from the one to the other, with these remainders of the offsets
 pub record AreTrimmed (ds ps : List ℕ) (positive negative : ℕ) (ks : List ℕ) (pos_left neg_left : ℕ) : Type 0 where
   pub first : ℕ
   pub last : ℕ

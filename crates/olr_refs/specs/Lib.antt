@@ -6,6 +6,5 @@ pub mod ResolvedPaths
 pub mod Extends
 pub mod Fields
 pub mod KeptPoints
-pub mod Recovered
 pub mod Referring
 pub mod Reuse

@@ -1,5 +1,8 @@
--- What is known of an encoding with a margin beside its answer: the routes that join, and the searches that it makes.
+-- What is known of an encoding with a margin beside its answer: the routes that join, what decoders recover from the
+-- reference, and the searches that it makes.
 --     JoinsOf g M P A      if the answer has LRPs, this holds for its reference
+--     RecoveredOf g M P A      if the answer has LRPs, every decoder for which each LRP's own line is distinct recovers the
+--         legs between them
 --     SearchesOf g M P n      the path is encoded by n searches
 --     OwnLinesAlong M E js A xs      xs are the own lines of the extended path E at the LRPs of its answer; none if it has
 --         no reference
@@ -14,8 +17,9 @@ use Rattle.olr_spec.specs.Points.{OfPathWith}
 use Rattle.olr_spec.specs.Encoding.{path_fault, answer_by_points_with, EncodesWith}
 use Rattle.olr_spec.specs.Encoding as spec
 use Rattle.olr_spec.specs.Reference.{legs, kept_points}
-use Rattle.olr_spec.specs.Recovery.{own_lines, OwnLinesOfWith}
+use Rattle.olr_spec.specs.Recovery.{DistinctWith, IsStretchesWith, own_lines, OwnLinesOfWith}
 use Rattle.olr_spec.specs.Joins.{JoinedWith}
+use Rattle.olr_spec.specs.Receiver.{Receiver, Recovers}
 use Rattle.olr_spec.specs.Footprint.{FootWith}
 use Rattle.olr_spec.specs.Queries.{TraversedOf, QueriesOfWith, KnownOfWith}
 use Rattle.olr_answers.specs.Answers.{answer_of}
@@ -27,6 +31,11 @@ use Rattle.olr_refs.specs.declared.encoding.Encoding.{Encoding}
 abbrev pub JoinsOf : Margin → Map → Path → Answer → Type 0
 JoinsOf g M P (Refused f) = ⊤
 JoinsOf g M P (Points r) = JoinedWith g M P r
+
+abbrev pub RecoveredOf : Margin → Map → Path → Answer → Type 0
+RecoveredOf g M P (Refused f) = ⊤
+RecoveredOf g M P (Points r) =
+    (R : Receiver) → DistinctWith g R.far M P r → (ws : List (List ℕ)) → Recovers R M r ws ↔ IsStretchesWith g M P ws
 
 abbrev pub SearchesOf : Margin → Map → Path → ℕ → Type 0
 SearchesOf g M P n = MatchOption (path_fault M P) (OfPathWith g M P (λ E _ _ js. n ≡ searches_of E.lines (0 ∷ js))) (λ _. n ≡ 0)

@@ -6,7 +6,7 @@
 --     known_reach lead last_near e      how far the positions are covered and near enough, by a known query
 --     IsAnswered g M ls r i f seen noted      f is the coverage query of the LRP i, and what it shows; if none is known, it
 --         is searched
---     Asks g M ls r is q seen noted      q are the coverage queries of the LRPs is, and some of them that are along the
+--     Queried g M ls r is q seen noted      q are the coverage queries of the LRPs is, and some of them that are along the
 --         path's own lines; if none is known, all are searched
 use Rattle.std.specs.Prelude.{◌≡◌, ℕ, ◌+◌, ◌-◌, ◌≤◌, if◌then◌else◌, List, [], ◌∷◌, length, Option, IfSome, IsTrue}
 use Rattle.olr_spec.specs.Margins.{Margin}
@@ -44,7 +44,7 @@ pub record IsAnswered (g : Margin) (M : Map) (ls : List ℕ) (r : Reuse) (i : �
     pub cost : CostsAtMost M (f.query ∷ []) f.work
     pub searched : r.known.now ≡ [] → AreSearched M (f.query ∷ []) f.work seen noted
 
-pub record Asks (g : Margin) (M : Map) (ls : List ℕ) (r : Reuse) (is : List ℕ) (q : Queries) (seen noted : Option (List ℕ)) : Type 0
+pub record Queried (g : Margin) (M : Map) (ls : List ℕ) (r : Reuse) (is : List ℕ) (q : Queries) (seen noted : Option (List ℕ)) : Type 0
   where
     pub each : QueriesFromWith g M ls (querying ls is) q.all.items
     pub own : KnownOfWith g M (own_of ls r) q.all.items q.own.items

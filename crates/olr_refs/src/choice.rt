@@ -1,38 +1,27 @@
 //! The choice of the next location reference point (LRP) after a position.
-ghost use Rattle.std.specs.Prelude.{◌≡◌, ℕ, ◌+◌, ◌<◌, ◌≤◌, ◌≢◌, ◌↔◌, IsTrue, MatchOption, length, slice_index};
+ghost use Rattle.std.specs.Prelude.{◌≡◌, ◌<◌, IsTrue, MatchOption, length};
 ghost use Rattle.olr_spec.specs.Map.{coord_at};
 ghost use Rattle.olr_spec.specs.Coordinates.{fits16, relative};
 ghost use Rattle.olr_coords.specs.Bounds.{is_degrees};
 ghost use Rattle.olr_spec.specs.Points.{fit16, NextWith, NoNextWith};
-ghost use Rattle.olr_spec.specs.Extension.{limit};
-ghost use Rattle.olr_refs.specs.Along.{IsLastNear, IsLastWithinLimit, IsReach};
+ghost use Rattle.olr_refs.specs.Along.{IsLastNear, IsReach};
 
 use crate::along::ResolvedPath;
 use olr_coords::{Coord, rel16};
 use olr_model::MapRead;
 use olr_route::LEG_LIMIT;
 
-/// The last position, from `i` on, that is at most 150,000 dm from position `i`.
-fn last_within(distances: &[u128], i: usize) -> usize
-    requires within { i < length distances.now }
-    requires ascending { (j k : ℕ) → j ≤ k → k < length distances.now →
-        slice_index distances.now j ≤ slice_index distances.now k }
-    ensures { IsLastWithinLimit distances.now i result }
-{
-    for k in i + 1..distances.len() {
-        if distances[k] - distances[i] > u128::from(LEG_LIMIT) {
-            return k - 1;
-        }
-    }
-    distances.len() - 1
-}
-
 /// The last position of a path, from `i` on, that is at most 150,000 dm from position `i`.
 pub fn last_within_limit<M: MapRead>(resolved: &ResolvedPath<M>, i: usize) -> usize
     requires { i < length resolved.now.lines.now }
     ensures { IsLastNear (M.map resolved.now.map.now) resolved.now.lines.now i result }
 {
-    last_within(resolved.distances, i)
+    for k in i + 1..resolved.distances.len() {
+        if resolved.between(i, k) > u128::from(LEG_LIMIT) {
+            return k - 1;
+        }
+    }
+    resolved.lines.len()
 }
 
 /// Whether the difference between two longitudes, or two latitudes, fits 16 bits.

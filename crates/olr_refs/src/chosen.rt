@@ -6,7 +6,7 @@ ghost use Rattle.olr_route.specs.declared.distances.Direction.TheVariants.{Along
 ghost use Rattle.olr_route.specs.Searches.{IsSearch, limit_of};
 ghost use Rattle.olr_refs.specs.Along.{IsLastNear, IsReach};
 ghost use Rattle.olr_refs.specs.Choice.{ForPoints, IsChoice, Notes};
-ghost use Rattle.olr_refs.specs.Reuse.{IsReuse, IsAnswered, Asks};
+ghost use Rattle.olr_refs.specs.Reuse.{IsReuse, IsAnswered, Queried};
 
 use crate::along::ResolvedPath;
 use crate::choice::{last_within_limit, next_of};
@@ -146,9 +146,9 @@ fn reach_of<M: MapRead>(
     requires some { i < length resolved.now.lines.now }
     requires reuse { IsReuse resolved.now.margin (M.map resolved.now.map.now) resolved.now.lines.now reuse.now }
     ensures reach { IfOk result (IsReach resolved.now.margin (M.map resolved.now.map.now) resolved.now.lines.now i) }
-    ensures asks { OnOk result ((before : List ℕ) (begun : OptionOf (List ℕ))
-        → Asks resolved.now.margin (M.map resolved.now.map.now) resolved.now.lines.now reuse.now before queries.old begun seen.old
-        → Asks resolved.now.margin (M.map resolved.now.map.now) resolved.now.lines.now reuse.now (before ++ i ∷ []) queries.new begun seen.new) }
+    ensures queried { OnOk result ((before : List ℕ) (begun : OptionOf (List ℕ))
+        → Queried resolved.now.margin (M.map resolved.now.map.now) resolved.now.lines.now reuse.now before queries.old begun seen.old
+        → Queried resolved.now.margin (M.map resolved.now.map.now) resolved.now.lines.now reuse.now (before ++ i ∷ []) queries.new begun seen.new) }
 {
     if resolved.lines.len() - i <= 2 {
         return Ok(last_within_limit(resolved, i));
@@ -178,8 +178,8 @@ pub fn points<M: MapRead>(
     requires { IsReuse resolved.now.margin (M.map resolved.now.map.now) resolved.now.lines.now reuse.now }
     ensures choice { IfOk result (λ chosen. ForPoints resolved.now.margin (M.map resolved.now.map.now) resolved.now.lines.now
         (λ js. IsChoice resolved.now.lines.now js chosen.choice)) }
-    ensures asks { IfOk result (λ chosen. ForPoints resolved.now.margin (M.map resolved.now.map.now) resolved.now.lines.now
-        (λ js. Asks resolved.now.margin (M.map resolved.now.map.now) resolved.now.lines.now reuse.now (0 ∷ js) chosen.queries seen.old
+    ensures queried { IfOk result (λ chosen. ForPoints resolved.now.margin (M.map resolved.now.map.now) resolved.now.lines.now
+        (λ js. Queried resolved.now.margin (M.map resolved.now.map.now) resolved.now.lines.now reuse.now (0 ∷ js) chosen.queries seen.old
         seen.new)) }
 {
     let mut positions = Vec::new(alloc);

@@ -11,13 +11,13 @@ ghost use Rattle.olr_refs.specs.Choice.{AreSearched, ForPoints, IsChoice};
 ghost use Rattle.olr_route.specs.Counts.{saturated_count};
 ghost use Rattle.olr_refs.specs.Referring.{AnsweredAlong, IsEncoding};
 ghost use Rattle.olr_refs.specs.ResolvedLines.{records_of};
-ghost use Rattle.olr_refs.specs.Reuse.{IsReuse, Asks};
+ghost use Rattle.olr_refs.specs.Reuse.{IsReuse, Queried};
 
 use crate::along::{ResolvedPath, distances};
 use crate::chosen::{Choice, Chosen, Queries, points};
 use crate::extension::{Extended, extend};
 use crate::path_fault::own_lines;
-use crate::reference::{Referred, reference_of};
+use crate::reference::reference_of;
 use crate::reuse::Reuse;
 use olr_answers::{Answer, CoverageQuery, KnownQuery, Margin, Path, Refusal};
 use olr_model::{Footprint, LineId, MapRead};
@@ -117,10 +117,10 @@ pub fn encode_noting<M: MapRead>(
         lead: extended.lead,
         own: path.lines().len(),
     };
-    let (answered, queries) = encode_along(alloc, map, margin, &extended, &reuse, search, seen)?;
+    let (answer, own, queries) = encode_along(alloc, map, margin, &extended, &reuse, search, seen)?;
     Ok(Encoding {
-        answer: answered.answer,
-        own: answered.own,
+        answer,
+        own,
         traversed,
         queries: queries.all,
         known: queries.own,
@@ -151,14 +151,8 @@ fn refused(alloc: Global, refusal: Refusal) -> Encoding
     }
 }
 
-/// The answer of an extended path, and its own lines at the LRPs of the reference.
-#[derive(Drop)]
-struct Answered {
-    answer: Answer,
-    own: Vec<LineId>,
-}
-
-/// The answer of an extended path with a margin, by its LRPs, and the coverage queries.
+/// The answer of an extended path with a margin, by its LRPs; its own lines at the LRPs of the reference; and the coverage
+/// queries.
 #[tactic(auto, using(crate::proofs::Referring::points_answer))]
 fn encode_along<M: MapRead>(
     alloc: Global,
@@ -168,15 +162,15 @@ fn encode_along<M: MapRead>(
     reuse: &Reuse,
     search: &mut Dijkstra,
     seen: &mut Option<Footprint>,
-) -> Result<(Answered, Queries), AllocError>
+) -> Result<(Answer, Vec<LineId>, Queries), AllocError>
     requires joined { AreJoined (M.map map.now) extended.now.path.lines }
     requires records { extended.now.records ≡ records_of (M.map map.now) (M.node_slot map.now) extended.now.path.lines }
     requires short { extended.now.path.pos + extended.now.path.neg < dm_of (M.map map.now) extended.now.path.lines }
     requires reuse { IsReuse margin (M.map map.now) extended.now.path.lines reuse.now }
-    ensures { IfOk result (λ r. ForPoints margin (M.map map.now) extended.now.path.lines
-        (λ js. AnsweredAlong margin (M.map map.now) extended.now.path js (answer_of r.0.answer) r.0.own.items)
-        × ForPoints margin (M.map map.now) extended.now.path.lines
-        (λ js. Asks margin (M.map map.now) extended.now.path.lines reuse.now (0 ∷ js) r.1 seen.old seen.new)) }
+    ensures answered { IfOk result (λ r. ForPoints margin (M.map map.now) extended.now.path.lines
+        (λ js. AnsweredAlong margin (M.map map.now) extended.now.path js (answer_of r.0) r.1.items)) }
+    ensures queried { IfOk result (λ r. ForPoints margin (M.map map.now) extended.now.path.lines
+        (λ js. Queried margin (M.map map.now) extended.now.path.lines reuse.now (0 ∷ js) r.2 seen.old seen.new)) }
 {
     let lines = extended.lines.as_slice();
     let records = extended.records.as_slice();
@@ -189,8 +183,8 @@ fn encode_along<M: MapRead>(
         distances: &distances,
     };
     let Chosen { choice, queries } = points(alloc, &resolved, reuse, search, seen)?;
-    let answered = answer_by(alloc, &resolved, choice, extended.pos, extended.neg)?;
-    Ok((answered, queries))
+    let (answer, own) = answer_by(alloc, &resolved, choice, extended.pos, extended.neg)?;
+    Ok((answer, own, queries))
 }
 
 /// The answer by the chosen LRPs, and the lines at these. The two offsets, in decimetres, are together less than the length
@@ -202,25 +196,19 @@ fn answer_by<M: MapRead>(
     choice: Choice,
     pos: u64,
     neg: u64,
-) -> Result<Answered, AllocError>
+) -> Result<(Answer, Vec<LineId>), AllocError>
     requires choice { ForPoints resolved.now.margin (M.map resolved.now.map.now) resolved.now.lines.now
         (λ js. IsChoice resolved.now.lines.now js choice) }
     requires short { pos + neg < dm_of (M.map resolved.now.map.now) resolved.now.lines.now }
     ensures { IfOk result (λ a. ForPoints resolved.now.margin (M.map resolved.now.map.now) resolved.now.lines.now
         (λ js. AnsweredAlong resolved.now.margin (M.map resolved.now.map.now)
-        (record { lines = resolved.now.lines.now; pos = pos; neg = neg }) js (answer_of a.answer) a.own.items)) }
+        (record { lines = resolved.now.lines.now; pos = pos; neg = neg }) js (answer_of a.0) a.1.items)) }
 {
     match choice {
-        Choice::NoNext(k) => Ok(Answered {
-            answer: Answer::Refused(Refusal::NoNextPoint(k)),
-            own: Vec::new(alloc),
-        }),
+        Choice::NoNext(k) => Ok((Answer::Refused(Refusal::NoNextPoint(k)), Vec::new(alloc))),
         Choice::Positions(points) => {
-            let Referred { reference, own } = reference_of(alloc, resolved, &points, pos, neg)?;
-            Ok(Answered {
-                answer: Answer::Points(reference),
-                own,
-            })
+            let (reference, own) = reference_of(alloc, resolved, &points, pos, neg)?;
+            Ok((Answer::Points(reference), own))
         }
     }
 }

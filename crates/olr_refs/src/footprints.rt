@@ -7,8 +7,7 @@ ghost use Rattle.olr_spec.specs.Footprint.{Foot, FootWith};
 ghost use Rattle.olr_spec.specs.Margins.{no_margin};
 ghost use Rattle.olr_answers.specs.Answers.{answer_of};
 ghost use Rattle.olr_route.specs.Counts.{raised_count};
-ghost use Rattle.olr_refs.specs.Recovered.{RecoveredOf};
-ghost use Rattle.olr_refs.specs.Referring.{JoinsOf, SearchesOf};
+ghost use Rattle.olr_refs.specs.Referring.{JoinsOf, RecoveredOf, SearchesOf};
 
 use crate::encoding::{Encoding, encode_noting};
 use olr_answers::{Answer, Margin, Path};

@@ -92,33 +92,25 @@ fn own_lines<M: MapRead>(
     Ok(own)
 }
 
-/// A reference, and the path's own lines at its LRPs.
-#[derive(Drop)]
-pub struct Referred {
-    /// The reference.
-    pub reference: Reference,
-    /// The line that leaves each LRP, and at the last LRP the line that enters it.
-    pub own: Vec<LineId>,
-}
-
 /// The reference of the lines of an extended path, by the distances of their positions, the location reference points
-/// (LRPs), and the two offsets in decimetres, which together are shorter than the path; and the lines at its LRPs.
+/// (LRPs), and the two offsets in decimetres, which together are shorter than the path; and the lines at its LRPs: those
+/// that leave them, and at the last LRP the one that enters it.
 pub fn reference_of<M: MapRead>(
     alloc: Global,
     resolved: &ResolvedPath<M>,
     points: &[usize],
     pos: u64,
     neg: u64,
-) -> Result<Referred, AllocError>
+) -> Result<(Reference, Vec<LineId>), AllocError>
     requires points { ArePoints resolved.now.margin (M.map resolved.now.map.now) resolved.now.lines.now points.now }
     requires long { pos + neg < dm_of (M.map resolved.now.map.now) resolved.now.lines.now }
-    ensures reference { IfOk result (λ r. r.reference
+    ensures reference { IfOk result (λ r. r.0
         ≡ reference_with resolved.now.margin (legs (M.map resolved.now.map.now) resolved.now.lines.now) pos neg (later points.now)) }
-    ensures own { IfOk result (λ r. r.own.items ≡ own_lines resolved.now.lines.now
+    ensures own { IfOk result (λ r. r.1.items ≡ own_lines resolved.now.lines.now
         (kept_points (legs (M.map resolved.now.map.now) resolved.now.lines.now) pos neg (later points.now))) }
 {
     let trimmed = trim(resolved.distances, points, pos, neg);
     let own = own_lines(alloc, resolved, trimmed.points)?;
     let reference = reference_by(alloc, resolved, &trimmed)?;
-    Ok(Referred { reference, own })
+    Ok((reference, own))
 }

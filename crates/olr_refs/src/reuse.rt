@@ -96,17 +96,8 @@ pub fn known_after<M: MapRead>(
     })
 }
 
-/// Whether the lines from the end of line `i` to position `last` are some of the path's own.
-fn is_own(reuse: &Reuse, i: usize, last: usize) -> bool
-    requires small { reuse.now.lead + reuse.now.own < 2 ^ 64 }
-    requires inside { i + 1 < 2 ^ 64 }
-    ensures { IsTrue result ↔ ((reuse.now.lead ≤ i + 1) × (i + 1 < last)
-        × (last ≤ reuse.now.lead + reuse.now.own)) }
-{
-    reuse.lead <= i + 1 && i + 1 < last && last <= reuse.lead + reuse.own
-}
-
-/// A coverage query after `i` as one along the path's own lines, where it is.
+/// A coverage query after `i` as one along the path's own lines, where the lines from the end of line `i` to its last
+/// position are some of these.
 pub fn own_query<M: MapRead>(
     resolved: &ResolvedPath<M>,
     reuse: &Reuse,
@@ -120,7 +111,7 @@ pub fn own_query<M: MapRead>(
     requires query { query ≡ query_to_with resolved.now.margin (M.map resolved.now.map.now) resolved.now.lines.now i tested.last }
     ensures { IfSome result (IsKnownOfWith resolved.now.margin (M.map resolved.now.map.now) (own_of resolved.now.lines.now reuse.now) (query ∷ [])) }
 {
-    if !is_own(reuse, i, tested.last) {
+    if i + 1 < reuse.lead || tested.last <= i + 1 || reuse.lead + reuse.own < tested.last {
         return None;
     }
     Some(KnownQuery {

@@ -1,5 +1,5 @@
-use Rattle.olr_refs.proofs.Common.{on_ok_weaker, ◌↔◌, ℕ, List, Contains, sym, subst, IsStrictlyIncreasing, Sees}
-use Rattle.olr_refs.proofs.Common.{LiesWithin, limit_of, Along, [], ◌∷◌}
+use Rattle.olr_refs.proofs.Common.{on_ok_weaker, ◌↔◌, ℕ, List, Contains, sym, subst, IsStrictlyIncreasing, Sees, LiesWithin}
+use Rattle.olr_refs.proofs.Common.{limit_of, Along, [], ◌∷◌}
 use Rattle.olr_refs.proofs.Noting.{nodes_noted, search_sees}
 use Rattle.olr_refs.proofs.chosen.note_reached.Goals as goal
 

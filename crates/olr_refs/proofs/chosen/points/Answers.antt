@@ -1,12 +1,12 @@
 use Rattle.olr_refs.proofs.Common.{◌≡◌, ◌∙◌, sym, arith, length}
-use Rattle.olr_refs.proofs.Asking.{gone_more, ended, ended_there}
+use Rattle.olr_refs.proofs.Querying.{gone_more, ended, ended_there}
 use Rattle.olr_refs.proofs.Noting.{led_end, no_next_end}
 use Rattle.olr_refs.proofs.chosen.points.Goals as goal
 
 pub loop-last-preserved : goal.loop-last-preserved
 loop-last-preserved g c = gone_more _ _ _ _
     c.loop-last.positions.items c.push-in-Some.new.self.items c.loop-last.last c.in-Some.next _ _ _ _ _
-    c.loop-last.invariant c.in_ok-reach.ensures.asks c.in-Some.ensures c.in_ok-push-in-Some.ensures.items
+    c.loop-last.invariant c.in_ok-reach.ensures.queried c.in-Some.ensures c.in_ok-push-in-Some.ensures.items
 
 pub returns-in-None : goal.returns-in-None
 returns-in-None g c =
@@ -16,10 +16,10 @@ returns-in-None g c =
     let led = led_end _ M ls s.points c.loop-last.last s.led c.in-None.ensures in
     record {
       choice = (s.points, led.0, ((λ e. omega arith), sym led.1));
-      asks = (
+      queried = (
         s.points,
         led.0,
-        ended _ M ls _ c.loop-last.positions.items c.loop-last.last _ _ _ _ _ s c.in_ok-reach.ensures.asks,
+        ended _ M ls _ c.loop-last.positions.items c.loop-last.last _ _ _ _ _ s c.in_ok-reach.ensures.queried,
       );
     }
 
@@ -32,7 +32,7 @@ returns g c =
     let end : c.loop-last.last ≡ length ls = let w = s.within in omega arith in
     record {
       choice = (s.points, led.0, (led.1 ∙ end, s.positions ∙ s.first));
-      asks = (
+      queried = (
         s.points,
         led.0,
         ended_there _ M ls _ c.loop-last.positions.items c.loop-last.last _ _ _ s (omega arith),

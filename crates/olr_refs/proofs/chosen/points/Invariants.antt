@@ -1,5 +1,5 @@
 use Rattle.olr_refs.proofs.Common.{◌-◌, length}
-use Rattle.olr_refs.proofs.Asking.{Gone}
+use Rattle.olr_refs.proofs.Querying.{Gone}
 use Rattle.olr_refs.proofs.chosen.points.Given as goal
 
 abbrev pub invariant-loop-last : goal.invariant-loop-last

@@ -1,5 +1,5 @@
-use Rattle.olr_refs.proofs.Common.{[], ◌∷◌, ◌+◌, ℕ, List, refl, rules, sym, subst, stretch, CoverageQuery, Along}
-use Rattle.olr_refs.proofs.Common.{IsSearch, Map, Work, begun_at, counted}
+use Rattle.olr_refs.proofs.Common.{[], ◌∷◌, ◌+◌, ℕ, List, refl, rules, sym, subst, stretch, CoverageQuery, Along, IsSearch, Map}
+use Rattle.olr_refs.proofs.Common.{Work, begun_at, counted}
 use Rattle.olr_refs.proofs.Counting.{plain_search}
 use Rattle.olr_refs.proofs.Noting.{one_cost, one_noted}
 use Rattle.olr_refs.proofs.chosen.query_after.Given.{Over}

@@ -1,6 +1,6 @@
-use Rattle.olr_refs.proofs.Common.{◌≡◌, ◌≢◌, ℕ, Map, Option, Some, None, MatchOption, IsTrue, has_node, has_line, ap}
-use Rattle.olr_refs.proofs.Common.{sym, ◌∙◌, subst, arith, both_ways, passing, near_end, far_end, LeadsOn, length}
-use Rattle.olr_refs.proofs.Common.{IsMap, lines_at, ends_at, Direction, far_node, near_node, as_many}
+use Rattle.olr_refs.proofs.Common.{◌≡◌, ◌≢◌, ℕ, Map, Option, Some, None, MatchOption, IsTrue, has_node, has_line, ap, sym, ◌∙◌}
+use Rattle.olr_refs.proofs.Common.{subst, arith, both_ways, passing, near_end, far_end, LeadsOn, length, IsMap, lines_at}
+use Rattle.olr_refs.proofs.Common.{ends_at, Direction, far_node, near_node, as_many}
 use Rattle.olr_refs.proofs.degree_two_runs.line_beyond.Given.{Over}
 use Rattle.olr_refs.proofs.degree_two_runs.line_beyond.Goals.{After-lines_from-leaving}
 use Rattle.olr_refs.proofs.degree_two_runs.line_beyond.Goals as goal

@@ -1,7 +1,9 @@
-use Rattle.olr_refs.proofs.Common.{◌≡◌, length, arith, refl, ap, path_fault, None, Some, refusal_of, Reuse}
+use Rattle.olr_refs.proofs.Common.{◌≡◌, length, arith, refl, ap, path_fault, None, Some, refusal_of, Reuse, inr, subst, List, ℕ}
+use Rattle.olr_refs.proofs.Common.{EncodingWith, QueriesOfWith, QueriesFromWith, KnownOfWith, querying, answer_of}
+use Rattle.olr_refs.proofs.Common.{answer_by_points_with, foot_queried_with, ◌∷◌}
 use Rattle.olr_refs.proofs.Noting.{noted_none}
-use Rattle.olr_refs.proofs.Referring.{encoding_of, joins_of, own_of, traversed_of}
-use Rattle.olr_refs.proofs.Asking.{queries_whole, known_whole, reuse_of, settled_few}
+use Rattle.olr_refs.proofs.Referring.{joins_of, of_path, own_of, traversed_of}
+use Rattle.olr_refs.proofs.Querying.{own_is, reuse_of}
 use Rattle.olr_refs.proofs.encoding.encode_noting.Goals as goal
 
 pub encode_along-requires-clause-reuse : goal.encode_along-requires-clause-reuse
@@ -10,7 +12,7 @@ encode_along-requires-clause-reuse g c = reuse_of _ _ _ _ _ _ _ c.in_ok-extended
 
 pub returns-clause-searched : goal.returns-clause-searched
 returns-clause-searched g c = λ none.
-    let s = c.in_ok-answered.ensures.1.2.searched none in
+    let s = c.in_ok-answer.ensures.queried.2.searched none in
     record { searches = s.searches; notes = s.notes }
 
 pub returns-clause-encoding : goal.returns-clause-encoding
@@ -20,22 +22,31 @@ returns-clause-encoding g c =
     let P = c.args.path.now in
     let sound : path_fault M P ≡ None = grind arith in
     let x = c.in_ok-extended.ensures.ok in
-    let answered = c.in_ok-answered.ensures.0 in
-    let asks = c.in_ok-answered.ensures.1 in
+    let answered = c.in_ok-answer.ensures.answered in
+    let queried = c.in_ok-answer.ensures.queried in
     let r : Reuse = record { known = c.args.known; lead = c.extended.inside.lead; own = length c.lines.result.now } in
     let leads : r.lead ≡ c.in_ok-extended.extended.lead = grind arith in
     let owns : r.own ≡ length P.lines = grind arith in
-    let encoding = encoding_of _ M P _ _ _ _ _ _ x answered in
+    let q = c.in_ok-answer.queries in
+    let encoding : EncodingWith c.args.margin M P (answer_of c.in_ok-answer.answer) =
+    of_path _ M P _ _ _ _ (λ e _ _ js. answer_of c.in_ok-answer.answer ≡ answer_by_points_with c.args.margin M e js) x
+    (answered.0, answered.1, answered.2.answer) in
+    let queries : QueriesOfWith c.args.margin M P q.all.items =
+    rw sound (of_path _ M P _ _ _ _
+    (λ e _ _ js. QueriesFromWith c.args.margin M e.lines (querying e.lines (0 ∷ js)) q.all.items) x
+    (queried.0, queried.1, queried.2.each)) in
     record {
       answer = rw sound encoding;
       joins = joins_of _ M m P _ sound encoding;
       own = own_of _ M P _ _ _ _ _ _ x answered;
       traversed = λ v. rw sound (traversed_of M m P _ _ _ _ c.own_lines.ensures.path sound c.new-traversed.ensures x v);
-      queries = queries_whole _ M P _ _ _ _ x sound r leads owns _ _ _ asks;
-      known = known_whole _ M P _ _ _ _ x sound r leads owns _ _ _ asks;
+      queries = queries;
+      known = subst (λ (xs : List ℕ). KnownOfWith c.args.margin M xs q.all.items q.own.items)
+          (own_is M P _ _ _ _ x r leads owns) queried.2.own;
       encodings = refl;
-      searches = asks.2.cost.searches;
-      settled = settled_few _ M P _ _ _ _ x sound r leads owns _ _ _ asks m c.own_lines.ensures.path;
+      searches = queried.2.cost.searches;
+      settled = λ all h. queried.2.cost.settled all
+          (λ v s. h v ((foot_queried_with _ M m P c.own_lines.ensures.path _ queries v).1 (inr s)));
     }
 
 pub returns-in-Err-clause-encoding : goal.returns-in-Err-clause-encoding

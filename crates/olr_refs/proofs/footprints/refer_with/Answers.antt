@@ -1,6 +1,6 @@
 use Rattle.olr_refs.proofs.Common.{answer_of, ◌≡◌, refl, arith, ap, Work, raised_count}
-use Rattle.olr_refs.proofs.Referring.{recovered_of, searches_queried}
 use Rattle.olr_spec.proofs.LocalLemmas.{local_answer_with}
+use Rattle.olr_refs.proofs.Referring.{recovered_of, searches_queried}
 use Rattle.olr_refs.proofs.Noting.{noted_foot}
 use Rattle.olr_refs.proofs.footprints.refer_with.Goals as goal
 

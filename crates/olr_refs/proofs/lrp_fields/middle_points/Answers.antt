@@ -1,5 +1,4 @@
-use Rattle.olr_refs.proofs.Common.{◌≡◌, ◌+◌, ℕ, List, [], ◌∷◌, ◌++◌, take, sym, ap, ◌∙◌, arith, Middle, legs}
-use Rattle.olr_refs.proofs.Common.{middle_points_of}
+use Rattle.olr_refs.proofs.Common.{◌≡◌, ◌+◌, ℕ, List, [], ◌∷◌, ◌++◌, take, sym, ap, ◌∙◌, arith, Middle, legs, middle_points_of}
 use Rattle.olr_refs.proofs.PointLemmas.{middle_more}
 use Rattle.olr_refs.proofs.lrp_fields.middle_points.Goals as goal
 

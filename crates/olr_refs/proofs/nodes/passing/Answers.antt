@@ -1,5 +1,5 @@
-use Rattle.olr_refs.proofs.Common.{◌≡◌, ℕ, List, [], ◌∷◌, Map, IsTrue, has_node, refl, arith, subst, read_at, Along}
-use Rattle.olr_refs.proofs.Common.{Against, IsMap, lines_at, Direction, near_node}
+use Rattle.olr_refs.proofs.Common.{◌≡◌, ℕ, List, [], ◌∷◌, Map, IsTrue, has_node, refl, arith, subst, read_at, Along, Against}
+use Rattle.olr_refs.proofs.Common.{IsMap, lines_at, Direction, near_node}
 use Rattle.olr_refs.proofs.nodes.passing.Goals as goal
 
 -- no line is entered at a node that is not on the map

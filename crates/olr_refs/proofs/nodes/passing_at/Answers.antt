@@ -1,5 +1,5 @@
-use Rattle.olr_refs.proofs.Common.{◌≡◌, ◌∙◌, ℕ, IsTrue, has, has_line, map, start, end, arith, is_some, map-map}
-use Rattle.olr_refs.proofs.Common.{lines_in, lines_out, no_line, passes_between, unwrap_or}
+use Rattle.olr_refs.proofs.Common.{◌≡◌, ◌∙◌, ℕ, IsTrue, has, has_line, map, start, end, arith, is_some, map-map, lines_in}
+use Rattle.olr_refs.proofs.Common.{lines_out, no_line, passes_between, unwrap_or}
 use Rattle.olr_spec.proofs.OrderLemmas.{exactly_in, exactly_out}
 use Rattle.olr_refs.proofs.BySlots.{by_slots}
 use Rattle.olr_refs.proofs.nodes.passing_at.Goals as goal

@@ -1,5 +1,5 @@
-use Rattle.olr_refs.proofs.Common.{◌≡◌, ◌+◌, ◌≤◌, ℕ, true, false, [], ◌∷◌, List, ap, subst, arith, Along, IsSearch}
-use Rattle.olr_refs.proofs.Common.{Map, IsMap, CountedTo, ResolvedLine, end, slice_index, stretch, begun_at, MayMark}
+use Rattle.olr_refs.proofs.Common.{◌≡◌, ◌+◌, ◌≤◌, ℕ, refl, true, false, [], ◌∷◌, List, ap, subst, arith, Along, IsSearch, Map}
+use Rattle.olr_refs.proofs.Common.{IsMap, CountedTo, ResolvedLine, end, slice_index, stretch, begun_at, MayMark}
 use Rattle.olr_refs.proofs.Reaching.{IsLine, Tests, tests_start, all_covered, covered_so_far, near_after, line_near}
 use Rattle.olr_refs.proofs.Reaching.{may_mark, small_on, goes_on_to}
 use Rattle.olr_refs.proofs.reach.covered_to.Given.{Over}
@@ -84,7 +84,13 @@ loop-k-preserved g c =
     _ _ c.loop-k.invariant _ (c.in_ok-settle_counting.ensures.search _ _ (may g at)) _
     (ap (λ (r : ResolvedLine). c.loop-k.within + r.len) c.line.view_is) c.in_ok-settle_counting.ensures.limit _
     c.extends_unique_shortest.ensures in
-    on.tests (on.whether.0 c.if-not-extends_unique_shortest.false)
+    record {
+      search = on.search;
+      settled = on.settled;
+      long = on.long;
+      small = on.small;
+      whether = ((λ _. on.whether.0 c.if-not-extends_unique_shortest.false), λ _. refl);
+    }
 
 pub returns-then-not-extends_unique_shortest : goal.returns-then-not-extends_unique_shortest
 returns-then-not-extends_unique_shortest g c =
@@ -100,7 +106,7 @@ returns-then-not-extends_unique_shortest g c =
     cc in
     let t =
     covered_so_far _ (M g at) (m g at) (ls g at) _ _ c.args.resolved.now.joined
-    c.requires.last_near c.loop-k.k (omega arith) (omega arith) c.loop-k.invariant.unique no_more in
+    c.requires.last_near c.loop-k.k (omega arith) (omega arith) (c.loop-k.invariant.whether.0 refl) no_more in
     record { reach = t.0; last = t.1; long = on.long; search = on.search; no_farther = on.settled }
 
 pub returns : goal.returns
@@ -110,8 +116,8 @@ returns g c =
     let M = g.M.MapRead.map c.args.resolved.now.map.now in
     let slot = g.M.MapRead.node_slot c.args.resolved.now.map.now in
     let end : c.loop-k.k ≡ c.max-end.result = omega arith in
-    let t = subst (λ (n : ℕ). Tests margin M slot ls c.args.i n c.loop-k.within c.loop-k.search) end c.loop-k.invariant in
+    let t = subst (λ (n : ℕ). Tests margin M slot ls c.args.i n c.loop-k.within true c.loop-k.search) end c.loop-k.invariant in
     let all =
     all_covered margin M (g.met.M.MapRead.sound c.args.resolved.now.map.now) ls _ _
-    c.args.resolved.now.joined c.requires.last_near c.max-end.result c.requires.some (omega arith) t.unique in
+    c.args.resolved.now.joined c.requires.last_near c.max-end.result c.requires.some (omega arith) (t.whether.0 refl) in
     record { reach = all.0; last = all.1; long = t.long; search = t.search; no_farther = t.settled }

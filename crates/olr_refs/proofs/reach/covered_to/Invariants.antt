@@ -1,3 +1,4 @@
+use Rattle.olr_refs.proofs.Common.{true}
 use Rattle.olr_refs.proofs.Reaching.{Tests}
 use Rattle.olr_refs.proofs.reach.covered_to.Given as goal
 
@@ -5,4 +6,4 @@ use Rattle.olr_refs.proofs.reach.covered_to.Given as goal
 abbrev pub invariant-loop-k : goal.invariant-loop-k
 invariant-loop-k g l =
     Tests l.resolved.margin (g.M.MapRead.map l.resolved.map.now) (g.M.MapRead.node_slot l.resolved.map.now)
-    l.resolved.lines.now l.i l.k l.within l.search
+    l.resolved.lines.now l.i l.k l.within true l.search

@@ -1,5 +1,4 @@
-use Rattle.olr_refs.proofs.Common.{inl, inr, on_ok_weaker, sym, subst, ◌∙◌, ◌++◌, ◌∷◌, [], Along, IsSearch, Map}
-use Rattle.olr_spec.proofs.CountedLemmas.{counted_zero}
+use Rattle.olr_refs.proofs.Common.{inl, inr, on_ok_weaker, sym, subst, ◌∙◌, ◌++◌, ◌∷◌, [], Along, IsSearch, Map, counted_zero}
 use Rattle.olr_refs.proofs.reach.settle_counting.Goals as goal
 
 pub returns-then-routes-eq0-clause-search : goal.returns-then-routes-eq0-clause-search

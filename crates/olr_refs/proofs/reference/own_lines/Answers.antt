@@ -5,22 +5,15 @@ use Rattle.olr_refs.proofs.reference.own_lines.Goals as goal
 
 pub line_at-requires : goal.line_at-requires
 line_at-requires g c =
-    let l = c.requires.linked c.loop-k.k (omega arith) in
-    let order = l.after in
-    let upto = l.upto in
-    omega arith
+    let l = c.requires.linked c.loop-k.k (omega arith) in omega (arith, l.after, l.upto)
 
 pub overflow_sub-kept : goal.overflow_sub-kept
 overflow_sub-kept g c =
-    let end = linked_end _ _ _ _
-    c.requires.linked c.requires.two in
-    omega (arith, end.after)
+    let end = linked_end _ _ _ _ c.requires.linked c.requires.two in omega (arith, end.after)
 
 pub line_at-requires-2 : goal.line_at-requires-2
 line_at-requires-2 g c =
-    let end = linked_end _ _ _ _
-    c.requires.linked c.requires.two in
-    omega (arith, end.after, end.upto)
+    let end = linked_end _ _ _ _ c.requires.linked c.requires.two in omega (arith, end.after, end.upto)
 
 pub returns : goal.returns
 returns g c =

@@ -1,5 +1,5 @@
-use Rattle.olr_refs.proofs.Common.{ap, ResolvedLine, resolved_as}
-use Rattle.olr_refs.proofs.Joined.{known_at, start_known, end_known}
+use Rattle.olr_refs.proofs.Common.{IsTrue, ResolvedLine, has_node, resolved_as, subst, sym}
+use Rattle.olr_refs.proofs.Joined.{known_at}
 use Rattle.olr_refs.proofs.Resolving.{record_at}
 use Rattle.olr_refs.proofs.along.ResolvedPath.resolved_line.Goals as goal
 
@@ -13,6 +13,6 @@ returns g c =
     record {
       value = is;
       resolved = resolved_as M slot _ _ known is;
-      from = start_known M m _ _ known (ap (λ (r : ResolvedLine). r.from) is);
-      to = end_known M m _ _ known (ap (λ (r : ResolvedLine). r.to) is);
+      from = subst (λ (r : ResolvedLine). IsTrue (has_node M r.from)) (sym is) (m.starts _ known);
+      to = subst (λ (r : ResolvedLine). IsTrue (has_node M r.to)) (sym is) (m.ends _ known);
     }

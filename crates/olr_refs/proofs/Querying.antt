@@ -1,17 +1,13 @@
--- The coverage queries of LRPs: what is asked from one LRP to the next, and what that says of a path.
-use Rattle.olr_refs.proofs.Common.{◌≡◌, ◌<◌, ◌≤◌, ◌+◌, ◌-◌, ◌*◌, ℕ, List, [], ◌∷◌, ◌++◌, length, Contains, Option}
-use Rattle.olr_refs.proofs.Common.{Some, None, MatchOption, refl, sym, ap, ◌∙◌, subst, arith, inr, IsTrue, nat_tests}
-use Rattle.olr_refs.proofs.Common.{Map, IsMap, Path, is_path, NextWith, path_fault, FootWith, CoverageQuery}
-use Rattle.olr_refs.proofs.Common.{KnownQuery, foot_queried_with, append-nil, append_assoc, nat_lt, option_to_list}
-use Rattle.olr_refs.proofs.Common.{filter-append, querying, KnownOfWith, QueriesFromWith, QueriesOfWith}
-use Rattle.olr_refs.proofs.Common.{Next-candidate, Asks, IsKnownOfWith, IsAnswered, IsReuse, own_of, Extends}
-use Rattle.olr_refs.proofs.Common.{ForPoints, raised_work, taken_start, taken_end, from_start, length-append}
-use Rattle.olr_refs.proofs.Common.{Contains-append_left, Contains-append_right, Found, Reuse, Margin, IfSome}
-use Rattle.olr_refs.proofs.Common.{drop-append_seam, take-append_seam, All-push, All-weaker, AreKnownWith}
+-- The coverage queries of LRPs: what is queried from one LRP to the next, and what that says of a path.
+use Rattle.olr_refs.proofs.Common.{◌≡◌, ◌<◌, ◌≤◌, ◌+◌, ◌-◌, ◌∷◌, Some, None, refl, sym, ◌∙◌, Map, Path, Queried, ℕ, nat_tests}
+use Rattle.olr_refs.proofs.Common.{is_path, NextWith, querying, IsReuse, Extends, taken_end, All-push, All-weaker, List}
+use Rattle.olr_refs.proofs.Common.{KnownQuery, append-nil, IsAnswered, raised_work, taken_start, from_start, AreKnownWith, []}
+use Rattle.olr_refs.proofs.Common.{CoverageQuery, append_assoc, option_to_list, filter-append, IsKnownOfWith, length-append}
+use Rattle.olr_refs.proofs.Common.{◌++◌, length, Option, ap, subst, arith, IsTrue, nat_lt, own_of, Found, Reuse, Margin, IfSome}
+use Rattle.olr_refs.proofs.Common.{KnownOfWith, Contains-append_left, Contains-append_right, drop-append_seam, take-append_seam}
+use Rattle.olr_spec.proofs.AnswerLemmas.{Next-candidate}
 use Rattle.olr_refs.specs.declared.chosen.Queries.{Queries}
 use Rattle.olr_refs.proofs.Noting.{zip_append, cost_more, searched_more, Led, led_more}
-use Rattle.olr_refs.proofs.Referring.{of_path}
-use Rattle.olr_spec.specs.Encoding as spec
 
 -- ---- from LRP to LRP
 
@@ -30,11 +26,11 @@ module _ (g : Margin) (M : Map) (ls : List ℕ) (r : Reuse) where
       ] t
 
   -- one LRP more
-  pub asks_more : (is : List ℕ) (i : ℕ) (q s : Queries) (f : Found) (a b c : Option (List ℕ)) → i + 2 < length ls →
-      Asks g M ls r is q a b → IsAnswered g M ls r i f b c → s.all.items ≡ q.all.items ++ f.query ∷ [] →
+  pub queried_more : (is : List ℕ) (i : ℕ) (q s : Queries) (f : Found) (a b c : Option (List ℕ)) → i + 2 < length ls →
+      Queried g M ls r is q a b → IsAnswered g M ls r i f b c → s.all.items ≡ q.all.items ++ f.query ∷ [] →
       s.own.items ≡ q.own.items ++ option_to_list f.own → s.work ≡ raised_work q.work f.work →
-      Asks g M ls r (is ++ i ∷ []) s a c
-  asks_more is i q s f a b c h x y all own work =
+      Queried g M ls r (is ++ i ∷ []) s a c
+  queried_more is i q s f a b c h x y all own work =
       let here : querying ls (i ∷ []) ≡ i ∷ [] = grind (arith, nat_tests) in
       let e = filter-append (λ k. nat_lt (k + 2) (length ls)) is (i ∷ []) in
       record {
@@ -44,16 +40,16 @@ module _ (g : Margin) (M : Map) (ls : List ℕ) (r : Reuse) where
         searched = λ none. rw (all, work) (searched_more M _ _ _ _ a b c (x.searched none) (y.searched none));
       }
 
-  -- where at most one line follows line i nothing is asked
-  pub asks_none : (is : List ℕ) (i : ℕ) (q : Queries) (a b : Option (List ℕ)) → length ls ≤ i + 2 →
-      Asks g M ls r is q a b → Asks g M ls r (is ++ i ∷ []) q a b
-  asks_none is i q a b h x =
+  -- where at most one line follows line i nothing is queried
+  pub queried_none : (is : List ℕ) (i : ℕ) (q : Queries) (a b : Option (List ℕ)) → length ls ≤ i + 2 →
+      Queried g M ls r is q a b → Queried g M ls r (is ++ i ∷ []) q a b
+  queried_none is i q a b h x =
       let here : querying ls (i ∷ []) ≡ [] = grind (arith, nat_tests) in
       let same : querying ls (is ++ i ∷ []) ≡ querying ls is =
       filter-append (λ k. nat_lt (k + 2) (length ls)) is (i ∷ []) ∙ rw (here, append-nil) refl in
       record { each = rw same x.each; own = x.own; cost = x.cost; searched = x.searched }
 
--- the LRPs so far, up to the last, from which nothing was asked yet, and their coverage queries
+-- the LRPs so far, up to the last, from which nothing was queried yet, and their coverage queries
 pub record Gone (g : Margin) (M : Map) (ls : List ℕ) (r : Reuse) (ps : List ℕ) (last : ℕ) (q : Queries)
     (seen noted : Option (List ℕ)) : Type 0
   where
@@ -63,16 +59,16 @@ pub record Gone (g : Margin) (M : Map) (ls : List ℕ) (r : Reuse) (ps : List �
     pub first : done ++ last ∷ [] ≡ 0 ∷ points
     pub led : Led g M ls points last
     pub within : last ≤ length ls
-    pub asks : Asks g M ls r done q seen noted
+    pub queried : Queried g M ls r done q seen noted
 
 module _ (g : Margin) (M : Map) (ls : List ℕ) (r : Reuse) where
   -- what the queries of LRP i add
-  abbrev pub AsksOn : ℕ → Queries → Queries → Option (List ℕ) → Option (List ℕ) → Type 0
-  AsksOn i q s b c =
-      (before : List ℕ) (a : Option (List ℕ)) → Asks g M ls r before q a b → Asks g M ls r (before ++ i ∷ []) s a c
+  abbrev pub QueriedOn : ℕ → Queries → Queries → Option (List ℕ) → Option (List ℕ) → Type 0
+  QueriedOn i q s b c =
+      (before : List ℕ) (a : Option (List ℕ)) → Queried g M ls r before q a b → Queried g M ls r (before ++ i ∷ []) s a c
 
   pub gone_more : (ps qs : List ℕ) (last m : ℕ) (q s : Queries) (a b c : Option (List ℕ)) →
-      Gone g M ls r ps last q a b → AsksOn last q s b c → NextWith g M ls last m → qs ≡ ps ++ m ∷ [] →
+      Gone g M ls r ps last q a b → QueriedOn last q s b c → NextWith g M ls last m → qs ≡ ps ++ m ∷ [] →
       Gone g M ls r qs m s a c
   gone_more ps qs last m q s a b c gone on n e =
       record {
@@ -82,18 +78,18 @@ module _ (g : Margin) (M : Map) (ls : List ℕ) (r : Reuse) where
         first = rw gone.first refl;
         led = led_more g M ls gone.points last m gone.led n;
         within = (Next-candidate M ls last m n).upto;
-        asks = on gone.done a gone.asks;
+        queried = on gone.done a gone.queried;
       }
 
   pub ended : (ps : List ℕ) (last : ℕ) (q s : Queries) (a b c : Option (List ℕ)) → (gone : Gone g M ls r ps last q a b) →
-      AsksOn last q s b c → Asks g M ls r (0 ∷ gone.points) s a c
-  ended ps last q s a b c gone on = subst (λ (is : List ℕ). Asks g M ls r is s a c) gone.first (on gone.done a gone.asks)
+      QueriedOn last q s b c → Queried g M ls r (0 ∷ gone.points) s a c
+  ended ps last q s a b c gone on = subst (λ (is : List ℕ). Queried g M ls r is s a c) gone.first (on gone.done a gone.queried)
 
-  -- nothing is asked from the end
+  -- nothing is queried from the end
   pub ended_there : (ps : List ℕ) (last : ℕ) (q : Queries) (a b : Option (List ℕ)) →
-      (gone : Gone g M ls r ps last q a b) → length ls ≤ last → Asks g M ls r (0 ∷ gone.points) q a b
+      (gone : Gone g M ls r ps last q a b) → length ls ≤ last → Queried g M ls r (0 ∷ gone.points) q a b
   ended_there ps last q a b gone h =
-      ended ps last q q a b b gone (λ before begun x. asks_none g M ls r before last q begun b (omega arith) x)
+      ended ps last q q a b b gone (λ before begun x. queried_none g M ls r before last q begun b (omega arith) x)
 
 -- ---- of a path without a fault
 
@@ -103,7 +99,7 @@ lines_are : (M : Map) (P E : Path) (lead : ℕ) (F G : List ℕ) → (x : Extend
 lines_are M P E lead F G x =
     ap (λ (e : Path). e.lines) x.path ∙ append_assoc (taken_start M x.before P.lines) P.lines _
 
-own_is : (M : Map) (P E : Path) (lead : ℕ) (F G : List ℕ) → Extends M P E lead F G → (r : Reuse) → r.lead ≡ lead →
+pub own_is : (M : Map) (P E : Path) (lead : ℕ) (F G : List ℕ) → Extends M P E lead F G → (r : Reuse) → r.lead ≡ lead →
     r.own ≡ length P.lines → own_of E.lines r ≡ P.lines
 own_is M P E lead F G x r leads owns =
     let many : r.lead + r.own - r.lead ≡ length P.lines = omega arith in
@@ -123,23 +119,3 @@ reuse_of g M P E lead F G x is r leads owns known = record {
   few = grind arith;
   known = subst (λ (xs : List ℕ). AreKnownWith g M xs r.known.now) (sym (own_is M P E lead F G x r leads owns)) known;
 }
-
-module _ (g : Margin) (M : Map) (P E : Path) (lead : ℕ) (F G : List ℕ) (x : Extends M P E lead F G) (sound : path_fault M P ≡ None)
-    (r : Reuse) (leads : r.lead ≡ lead) (owns : r.own ≡ length P.lines) (q : Queries) (a b : Option (List ℕ))
-    (asks : ForPoints g M E.lines (λ js. Asks g M E.lines r (0 ∷ js) q a b)) where
-  whole : (X Y : Type 0) → X → MatchOption (path_fault M P) X (λ _. Y)
-  whole X Y h = subst (λ (o : Option spec.Refusal). MatchOption o X (λ _. Y)) (sym sound) h
-
-  pub queries_whole : QueriesOfWith g M P q.all.items
-  queries_whole = whole _ _ (of_path g M P E lead F G
-      (λ e _ _ js. QueriesFromWith g M e.lines (querying e.lines (0 ∷ js)) q.all.items) x (asks.0, asks.1, asks.2.each))
-
-  pub known_whole : KnownOfWith g M P.lines q.all.items q.own.items
-  known_whole = subst (λ (xs : List ℕ). KnownOfWith g M xs q.all.items q.own.items)
-      (own_is M P E lead F G x r leads owns) asks.2.own
-
-  -- the searches settle no more than the footprint each
-  pub settled_few : IsMap M → IsTrue (is_path P.lines) → (all : List ℕ) → ((v : ℕ) → FootWith g M P v → Contains all v) →
-      q.work.settled ≤ length q.all.items * length all
-  settled_few m is all h =
-      asks.2.cost.settled all (λ v s. h v ((foot_queried_with g M m P is q.all.items queries_whole v).1 (inr s)))
