@@ -23,11 +23,9 @@ changed_by cs i = changed (change_at cs i.name) i
 pub one_changed : (c : Option (Option Path)) (i : Item) → drops c ≡ false → under_change c i ≡ changed c i ∷ []
 one_changed c i h = grind arith
 
-changed_name : (c : Option (Option Path)) (i : Item) → i.name ≡ (changed c i).name
-changed_name c i = grind arith
-
-changed_made : (c : Option (Option Path)) (i : Item) → ((changed c i).made ≡ None) ⊎ (i ≡ changed c i)
-changed_made c i = grind arith
+one_lies : (c : Option (Option Path)) (i : Item) → (i.name ≡ (changed c i).name)
+    × (((changed c i).made ≡ None) ⊎ (i ≡ changed c i))
+one_lies c i = grind arith
 
 -- ---- the list, position by position
 
@@ -94,8 +92,7 @@ lies_itself (i ∷ is) = (refl, inr refl, lies_itself is)
 
 map_lies : (cs : Changes) (is ys : List Item) → Lies (is ++ ys) (map (changed_by cs) is ++ ys)
 map_lies cs [] ys = lies_itself ys
-map_lies cs (i ∷ is) ys =
-    (changed_name (change_at cs i.name) i, changed_made (change_at cs i.name) i, map_lies cs is ys)
+map_lies cs (i ∷ is) ys = let one = one_lies (change_at cs i.name) i in (one.0, one.1, map_lies cs is ys)
 
 pub overlaid_lies : (cs : Changes) (is ys : List Item) → RemovesNone cs → Lies (is ++ ys) (under_changes cs is ++ ys)
 overlaid_lies cs is ys none_removed =
@@ -105,8 +102,7 @@ put_lies : (us vs : List Item) (k : ℕ) (path : Path) (made : Option Made) → 
     Lies (put us k path made) (put vs k path made)
 put_lies [] vs k path made h = ap (λ (js : List Item). put js k path made) h
 put_lies (a ∷ us) [] k path made h = absurd h
-put_lies (a ∷ us) (b ∷ vs) zero path made h =
-    (h.0, inr (ap (λ (n : List ℕ). record { name = n; path = path; made = made }) h.0), h.2)
+put_lies (a ∷ us) (b ∷ vs) zero path made h = grind arith
 put_lies (a ∷ us) (b ∷ vs) (suc k) path made h = (h.0, h.1, put_lies us vs k path made h.2)
 
 all_put_lies : (us vs : List Item) (ps : List Put) → Lies us vs → Lies (all_put us ps) (all_put vs ps)
@@ -118,10 +114,7 @@ all_put_lies us vs (p ∷ ps) h = put_lies (all_put us ps) (all_put vs ps) p.pos
 lies_same : (before us vs : List Item) (es : List Entry) → Lies us vs → Reported before vs es → us ≡ vs
 lies_same before [] vs es h returned = sym h
 lies_same before (a ∷ us) [] es h returned = absurd h
-lies_same before (a ∷ us) (b ∷ vs) es h returned = elim h.1 [
-  | inl none ↦ let lost = rw none at returned.2 in absurd (cc lost)
-  | inr same ↦ (λ i. same i ∷ lies_same before us vs returned.1 h.2 returned.3 i)
-]
+lies_same before (a ∷ us) (b ∷ vs) es h returned = grind (arith, lies_same before us vs returned.1 h.2 returned.3)
 
 pub put_on_overlaid : (cs : Changes) (before is ys : List Item) (ps : List Put) (es : List Entry) → RemovesNone cs →
     Reported before (all_put (under_changes cs is ++ ys) ps) es →

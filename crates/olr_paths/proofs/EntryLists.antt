@@ -25,14 +25,13 @@ pub decided : (q r : Reference) (o p : Option (Bor (List ℕ))) → IsReference 
     option_map (λ s. s.now) p ≡ result_ok (published_text (spec.Points r))
     → (b : Bool) → b ≡ option_eq (λ s t. bytes_eq s.now t.now) o p
     → (IsTrue b → spec.Points q ≡ spec.Points r) × (spec.Points q ≡ spec.Points r → IsTrue b)
-decided q r None p soundq soundr textq textr b e = absurd cc
-decided q r (Some s) None soundq soundr textq textr b e = absurd cc
 decided q r (Some s) (Some t) soundq soundr textq textr b e =
     let first : s.now ≡ text_of q = cc in
     let second : t.now ≡ text_of r = cc in
     let both = same_texts q r s.now t.now (soundq, first) (soundr, second) in
     subst (λ (c : Bool). (IsTrue c → spec.Points q ≡ spec.Points r) × (spec.Points q ≡ spec.Points r → IsTrue c))
     (sym e) both
+decided q r _ _ soundq soundr textq textr b e = absurd cc
 
 -- ---- what was encoded
 

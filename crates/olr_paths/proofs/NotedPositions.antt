@@ -5,7 +5,7 @@ use Rattle.olr_paths.proofs.Common.{AreEncoded, nat_tests, slice_get, Published,
 use Rattle.olr_paths.proofs.Common.{ChangesOnly, BeginsIn, PathList, made_of, made_of_named, all_put, puts_of, length, get_or}
 use Rattle.olr_paths.proofs.Common.{IsTrue, Option, Begins, Finder, String, Global, subst, arith, holds, Index, Grows, items}
 use Rattle.olr_paths.proofs.Common.{◌==◌, List, ◌||◌, ◌&&◌, [], take, zero, Some, None, refl, Item, ◌++◌, Path, Made, ◌≡◌, ◌≢◌}
-use Rattle.olr_paths.proofs.Common.{◌+◌, ◌<◌, not, All, inl, inr, suc, ◌∷◌, sym, ◌∙◌, has, ◌≤◌, Put, put, ap, Rc, ℕ}
+use Rattle.olr_paths.proofs.Common.{◌+◌, ◌<◌, not, All, suc, ◌∷◌, sym, ◌∙◌, has, ◌≤◌, Put, put, ap, Rc, ℕ}
 use Rattle.olr_paths.proofs.Alls.{all_more, at_position}
 use Rattle.olr_paths.proofs.NamedEntries.{Entries, item_of, items_of, item_at}
 use Rattle.olr_paths.proofs.PathIdLemmas.{noted_grown}
@@ -85,8 +85,7 @@ lack_from : (es : Entries) (l : CoverageQuery)
     → ((k : ℕ) (e : String Global × NamedPath) → slice_get es k ≡ Some e → BeginsIn (made_of_named e.1) l → ⊥) →
     Begins (items_of es) l → ⊥
 lack_from [] l none h = h
-lack_from (e ∷ es) l none (inl b) = none 0 e refl b
-lack_from (e ∷ es) l none (inr b) = lack_from es l (λ k. none (suc k)) b
+lack_from (e ∷ es) l none h = grind (arith, none 0 e refl, lack_from es l (λ k. none (suc k)))
 
 -- what is published of a path is noted
 pub noted_as : (f : Finder) (m : ℕ) (n : NamedPath) (p : Rc Published Global) → n.published ≡ Some p → NamedNoted f m n →

@@ -16,8 +16,7 @@ begins_put : (is : List Item) (k : ℕ) (path : Path) (made : Option Made) (v : 
     Begins (put is k path made) v →
     Begins is v ⊎ BeginsIn made v
 begins_put [] k path made v h = absurd h
-begins_put (i ∷ is) zero path made v (inl h) = inr h
-begins_put (i ∷ is) zero path made v (inr h) = inl (inr h)
+begins_put (i ∷ is) zero path made v h = grind arith
 begins_put (i ∷ is) (suc k) path made v h = grind (arith, begins_put is k path made v)
 
 pub begins_all_put : (is : List Item) (ps : List Put) (v : CoverageQuery) → Begins (all_put is ps) v → Begins is v
@@ -30,16 +29,14 @@ begins_all_put is (p ∷ ps) v h =
 pub begins_push : (es : List (ℕ × NamedPath)) (e : ℕ × NamedPath) (v : CoverageQuery) →
     BeginsPut (puts_of (es ++ e ∷ [])) v →
     BeginsPut (puts_of es) v ⊎ BeginsIn (option_map (λ p. made_of p.value) e.1.published) v
-begins_push [] e v (inl h) = inr h
-begins_push [] e v (inr h) = absurd h
+begins_push [] e v h = grind arith
 begins_push (x ∷ es) e v h = grind (arith, begins_push es e v)
 
 -- ---- after one path is added, set or dropped
 
 pub begins_add : (is : List Item) (j : Item) (v : CoverageQuery) → Begins (is ++ j ∷ []) v → Begins is v
     ⊎ BeginsIn j.made v
-begins_add [] j v (inl h) = inr h
-begins_add [] j v (inr h) = absurd h
+begins_add [] j v h = grind arith
 begins_add (i ∷ is) j v h = grind (arith, begins_add is j v)
 
 pub begins_set : (name : List ℕ) (path : Path) (made : Option Made) (is : List Item) (v : CoverageQuery) →

@@ -3,10 +3,10 @@
 use Rattle.olr_paths.proofs.Common.{AllPairs-from_increasing, get_or_from_slice_get, IsStrictlyIncreasing, string_bytes}
 use Rattle.olr_paths.proofs.Common.{IsBinarySearchResult, slice_get_within, length-remove, set_value_at, insert_entry}
 use Rattle.olr_paths.proofs.Common.{cases_order, get_or_read, NamedNoted, IsNoted, KeyLists, named_keys, has-remove, slice_get}
-use Rattle.olr_paths.proofs.Common.{result_ok, string_eq, NamedPath, place_not, cases_lt, place_of, PathList, AreNoted, flipped}
+use Rattle.olr_paths.proofs.Common.{result_ok, string_eq, NamedPath, place_not, place_of, PathList, AreNoted, flipped}
 use Rattle.olr_paths.proofs.Common.{ascends, inl, length, get_or, Result, remove, eq-eqb, Finder, String, Global, has_at}
-use Rattle.olr_paths.proofs.Common.{Spares, inr, false, subst, arith, Grows, zero, Bool, ◌&&◌, List, ◌++◌, Some, refl, ◌≡◌, ◌≢◌}
-use Rattle.olr_paths.proofs.Common.{suc, ◌<◌, not, ◌∷◌, Err, ◌-◌, ◌+◌, sym, ◌∙◌, has, [], Ok, ap, ℕ}
+use Rattle.olr_paths.proofs.Common.{Spares, inr, subst, arith, Grows, zero, List, ◌++◌, Some, refl, ◌≡◌, ◌≢◌}
+use Rattle.olr_paths.proofs.Common.{suc, ◌<◌, ◌∷◌, Err, ◌-◌, ◌+◌, sym, ◌∙◌, [], Ok, ap, ℕ}
 use Rattle.std.specs.Ordering.{nat_cmp}
 use Rattle.olr_paths.proofs.NamedEntries.{Entries, item_of, items_of, absent, not_here}
 
@@ -34,20 +34,15 @@ key_spared f g path_id m k ne spare h indexed =
 -- the ids at different positions
 apart : (xs : List ℕ) → IsStrictlyIncreasing xs → (i j : ℕ) → i < length xs → j < length xs → i ≢ j →
     get_or xs i 0 ≢ get_or xs j 0
-apart xs up i j a b ne same = elim (cases_lt i j) [
-  | inl low ↦ let lt = AllPairs-from_increasing xs up i j 0 low b in absurd (omega arith)
-  | inr high ↦ let lt = AllPairs-from_increasing xs up j i 0 (omega (arith, ne)) a in absurd (omega arith)
-]
+apart xs up i j a b ne same =
+    grind (arith, cases_order i j, AllPairs-from_increasing xs up i j 0, AllPairs-from_increasing xs up j i 0)
 
 -- an id that was removed is not among the rest
 not_left : (xs : List ℕ) (p k : ℕ) → IsStrictlyIncreasing xs → p < length xs → k < length (remove xs p) →
     get_or (remove xs p) k 0 ≢ get_or xs p 0
 not_left xs p k up at lt same =
     let v = get_or xs p 0 in
-    let there = has_at (remove xs p) k v lt same in
-    let off : has (remove xs p) v ≡ false =
-    has-remove xs p v v up at refl ∙ ap (λ (b : Bool). not b && has xs v) (eq-eqb v v refl) in
-    absurd (cc (there, off))
+    grind (arith, has_at (remove xs p) k v lt same, has-remove xs p v v up at refl, eq-eqb v v refl)
 
 -- the id after the last
 pub below_next : (xs : List ℕ) (last path_id : ℕ) → IsStrictlyIncreasing xs → slice_get xs (length xs - 1) ≡ Some last →
@@ -61,12 +56,7 @@ below_next xs last path_id up at is k lt =
 pub position_by : (xs : List ℕ) (x : ℕ) (r : Result ℕ ℕ) → IsStrictlyIncreasing xs →
     IsBinarySearchResult (λ y. nat_cmp y x) xs r → (k : ℕ) → k < length xs → get_or xs k 0 ≡ x → result_ok r ≡ Some k
 position_by xs x (Ok i) up h k lt is =
-    let p = place_of xs x (Ok i) up h in
-    elim (cases_order i k) [
-      | inl same ↦ ap Some same
-      | inr other ↦ absurd (apart xs up i k p.0 lt (λ e. elim other [ inl low ↦ omega arith | inr high ↦ omega arith ])
-          (p.1 ∙ sym is))
-    ]
+    let p = place_of xs x (Ok i) up h in grind (arith, cases_order i k, apart xs up i k p.0 lt, p.1)
 position_by xs x (Err i) up h k lt is =
     let off = place_not xs x i (place_of xs x (Err i) up h) in
     let on = has_at xs k x lt is in

@@ -147,10 +147,7 @@ impl Index {
     {
         for (k, item) in earlier.iter().enumerate() {
             let number = item.index_number();
-            if is_at(current, k, number) {
-                continue;
-            }
-            if is_among(current, number) {
+            if is_at(current, k, number) || is_among(current, number) {
                 continue;
             }
             self.remove(number, path_id);
