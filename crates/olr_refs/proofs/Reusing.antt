@@ -6,7 +6,7 @@ use Rattle.olr_refs.proofs.Common.{◌-◌, ◌+◌, ◌∷◌, min, [], sym, ap
 use Rattle.olr_refs.proofs.Common.{IsBinarySearchResult, CoverageQuery, IsLastTestedWith, IsSearchInRange, get_or, Result}
 use Rattle.olr_refs.proofs.Common.{Option, IsTrue, length, IsReach, IsReuse, own_of, no_work, Margin, counted, slice_index}
 use Rattle.olr_refs.proofs.Common.{length-take, length-drop, get_or-take, get_or-drop, CoveredWith, CountedRoute, nat_cmp}
-use Rattle.olr_refs.proofs.Common.{AreJoined, KnownQuery, IsLastNear, IsAnswered, known_reach, IsKnownWith, next_start}
+use Rattle.olr_refs.proofs.Common.{AreJoined, KnownQuery, IsLastNear, IsAnswered, IsKnownWith, next_start}
 use Rattle.std.specs.Result.{result_ok}
 use Rattle.std.proofs.lemmas.Cmp.{ranked}
 use Rattle.olr_spec.proofs.KnownLemmas.{one_end}
@@ -141,7 +141,7 @@ module _ (g : Margin) (M : Map) (m : IsMap M) (ls : List ℕ) (r : Reuse) (is : 
       (before_known g M ls r is joined i e begins order upto within right (e.last - 1) (omega arith) (omega arith)) no_more)
 
   -- nothing is searched
-  pub answered_known : (f : Found) → f.reach ≡ known_reach r.lead last_near e → f.query ≡ e.query → f.own ≡ Some e →
+  pub answered_known : (f : Found) → f.reach ≡ (if e.covered then last_near else r.lead + e.last - 1) → f.query ≡ e.query → f.own ≡ Some e →
       f.work ≡ no_work → (seen : Option (List ℕ)) → IsAnswered g M ls r i f seen seen
   answered_known f reach query own work seen =
       let there = found e.covered refl in

@@ -3,12 +3,11 @@
 --     IsReuse g M ls r      the known queries are right along the path's own lines
 --     EndsHere lead end e      a known query ends at the position `end`, the last that can be tested; or before it, if the
 --         query's last position is not covered
---     known_reach lead last_near e      how far the positions are covered and near enough, by a known query
 --     IsAnswered g M ls r i f seen noted      f is the coverage query of the LRP i, and what it shows; if none is known, it
 --         is searched
 --     Queried g M ls r is q seen noted      q are the coverage queries of the LRPs is, and some of them that are along the
 --         path's own lines; if none is known, all are searched
-use Rattle.std.specs.Prelude.{◌≡◌, ℕ, ◌+◌, ◌-◌, ◌≤◌, if◌then◌else◌, List, [], ◌∷◌, length, Option, IfSome, IsTrue}
+use Rattle.std.specs.Prelude.{◌≡◌, ℕ, ◌+◌, ◌≤◌, List, [], ◌∷◌, length, Option, IfSome, IsTrue}
 use Rattle.olr_spec.specs.Margins.{Margin}
 use Rattle.olr_spec.specs.Map.{Map}
 use Rattle.olr_spec.specs.Points.{stretch}
@@ -30,11 +29,6 @@ pub record IsReuse (g : Margin) (M : Map) (ls : List ℕ) (r : Reuse) : Type 0 w
 -- so if its last position is covered, no position after it has to be tested, and else this one has to be
 abbrev pub EndsHere : ℕ → ℕ → KnownQuery → Type 0
 EndsHere lead end e = (lead + e.last ≤ end) × (IsTrue e.covered → lead + e.last ≡ end)
-
--- the last position that is covered and near enough, where positions up to last_near are: the position before the query's last
--- one if that isn't covered
-abbrev pub known_reach : ℕ → ℕ → KnownQuery → ℕ
-known_reach lead last_near e = if e.covered then last_near else lead + e.last - 1
 
 pub record IsAnswered (g : Margin) (M : Map) (ls : List ℕ) (r : Reuse) (i : ℕ) (f : Found) (seen noted : Option (List ℕ)) : Type 0
   where

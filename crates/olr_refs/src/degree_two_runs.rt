@@ -107,17 +107,14 @@ fn grown_run<M: MapRead>(
 }
 
 /// The lines of a run, which are listed outwards, in the order of travel.
-fn in_order(direction: Direction, run: Vec<ResolvedLine>) -> Vec<ResolvedLine>
+fn in_order(direction: Direction, mut run: Vec<ResolvedLine>) -> Vec<ResolvedLine>
     ensures { result.items ≡ in_order direction (reverse run.items) }
 {
     match direction {
-        Direction::Along => run,
-        Direction::Against => {
-            let mut run = run;
-            run.reverse();
-            run
-        }
+        Direction::Along => (),
+        Direction::Against => run.reverse(),
     }
+    run
 }
 
 /// The line by which a run of the length `len` is extended, as the map has it. None if there is none, if it is in

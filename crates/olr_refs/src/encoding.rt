@@ -7,7 +7,7 @@ ghost use Rattle.olr_spec.specs.Encoding.{path_fault};
 ghost use Rattle.olr_spec.specs.Queries.{AreKnownWith};
 ghost use Rattle.olr_answers.specs.Answers.{answer_of, refusal_of};
 ghost use Rattle.olr_spec.specs.Routes.{dm_of};
-ghost use Rattle.olr_refs.specs.Choice.{AreSearched, ForPoints, IsChoice};
+ghost use Rattle.olr_refs.specs.Choice.{AreSearched, ForPoints};
 ghost use Rattle.olr_route.specs.Counts.{saturated_count};
 ghost use Rattle.olr_refs.specs.Referring.{AnsweredAlong, IsEncoding};
 ghost use Rattle.olr_refs.specs.ResolvedLines.{records_of};
@@ -152,7 +152,7 @@ fn refused(alloc: Global, refusal: Refusal) -> Encoding
 }
 
 /// The answer of an extended path with a margin, by its LRPs; its own lines at the LRPs of the reference; and the coverage
-/// queries.
+/// queries. Its two offsets are together less than the length of its lines.
 #[tactic(auto, using(crate::proofs::Referring::points_answer))]
 fn encode_along<M: MapRead>(
     alloc: Global,
@@ -183,32 +183,14 @@ fn encode_along<M: MapRead>(
         distances: &distances,
     };
     let Chosen { choice, queries } = points(alloc, &resolved, reuse, search, seen)?;
-    let (answer, own) = answer_by(alloc, &resolved, choice, extended.pos, extended.neg)?;
-    Ok((answer, own, queries))
-}
-
-/// The answer by the chosen LRPs, and the lines at these. The two offsets, in decimetres, are together less than the length
-/// of the lines.
-#[tactic(auto, using(crate::proofs::Referring::points_answer))]
-fn answer_by<M: MapRead>(
-    alloc: Global,
-    resolved: &ResolvedPath<M>,
-    choice: Choice,
-    pos: u64,
-    neg: u64,
-) -> Result<(Answer, Vec<LineId>), AllocError>
-    requires choice { ForPoints resolved.now.margin (M.map resolved.now.map.now) resolved.now.lines.now
-        (λ js. IsChoice resolved.now.lines.now js choice) }
-    requires short { pos + neg < dm_of (M.map resolved.now.map.now) resolved.now.lines.now }
-    ensures { IfOk result (λ a. ForPoints resolved.now.margin (M.map resolved.now.map.now) resolved.now.lines.now
-        (λ js. AnsweredAlong resolved.now.margin (M.map resolved.now.map.now)
-        (record { lines = resolved.now.lines.now; pos = pos; neg = neg }) js (answer_of a.0) a.1.items)) }
-{
     match choice {
-        Choice::NoNext(k) => Ok((Answer::Refused(Refusal::NoNextPoint(k)), Vec::new(alloc))),
+        Choice::NoNext(k) => {
+            let refused = Answer::Refused(Refusal::NoNextPoint(k));
+            Ok((refused, Vec::new(alloc), queries))
+        }
         Choice::Positions(points) => {
-            let (reference, own) = reference_of(alloc, resolved, &points, pos, neg)?;
-            Ok((Answer::Points(reference), own))
+            let (reference, own) = reference_of(alloc, &resolved, &points, extended.pos, extended.neg)?;
+            Ok((Answer::Points(reference), own, queries))
         }
     }
 }

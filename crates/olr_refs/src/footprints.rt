@@ -15,19 +15,16 @@ use olr_model::{Footprint, MapRead};
 use olr_route::{Dijkstra, Work};
 use std::alloc::{AllocError, Global};
 
-/// A path's traversed nodes, and the nodes that its searches settled.
-fn with_seen(traversed: Footprint, seen: Option<Footprint>) -> Result<Footprint, AllocError>
+/// A path's footprint: its traversed nodes, and the nodes that its searches settled.
+fn with_seen(mut footprint: Footprint, seen: Option<Footprint>) -> Result<Footprint, AllocError>
     ensures { IfOk result
-        (λ f. (v : ℕ) → Contains f v ↔ (Contains traversed v ⊎ MatchOption seen ⊥ (λ s. Contains s v))) }
+        (λ f. (v : ℕ) → Contains f v ↔ (Contains footprint v ⊎ MatchOption seen ⊥ (λ s. Contains s v))) }
 {
-    match seen {
-        None => Ok(traversed),
-        Some(seen) => {
-            let mut footprint = traversed;
-            footprint.note_all(seen.as_slice())?;
-            Ok(footprint)
-        }
-    }
+    let Some(seen) = seen else {
+        return Ok(footprint);
+    };
+    footprint.note_all(seen.as_slice())?;
+    Ok(footprint)
 }
 
 /// The answer of a path on a map, and its footprint: the nodes on which the answer depends. On any sound map that is

@@ -3,7 +3,7 @@ ghost use Rattle.std.specs.Prelude.{◌≡◌, ◌+◌, ◌-◌, ◌^◌, ◌<�
 ghost use Rattle.std.specs.Prelude.{Option, List, ℕ};
 ghost use Rattle.olr_spec.specs.Queries.{IsKnownOfWith, IsLastTestedWith, query_to_with};
 ghost use Rattle.olr_refs.specs.Along.{IsLastNear, IsReach};
-ghost use Rattle.olr_refs.specs.Reuse.{IsReuse, IsAnswered, EndsHere, known_reach, own_of};
+ghost use Rattle.olr_refs.specs.Reuse.{IsReuse, IsAnswered, EndsHere, own_of};
 
 use crate::along::ResolvedPath;
 use crate::reach::Tested;
@@ -53,19 +53,6 @@ fn ends_here(known: &KnownQuery, lead: usize, last_near: usize, lines: usize) ->
     }
 }
 
-/// How far the positions are covered and near enough, by a known query; positions up to `last_near` are near enough.
-fn reach_by(known: &KnownQuery, lead: usize, last_near: usize) -> usize
-    requires some { 0 < known.now.last }
-    requires small { lead + known.now.last < 2 ^ 64 }
-    ensures { result ≡ known_reach lead last_near known.now }
-{
-    if known.covered {
-        last_near
-    } else {
-        lead + known.last as usize - 1
-    }
-}
-
 /// The coverage query after `i`, where it is known; positions up to `last_near` are near enough.
 pub fn known_after<M: MapRead>(
     resolved: &ResolvedPath<M>,
@@ -88,8 +75,13 @@ pub fn known_after<M: MapRead>(
     if !ends_here(&known, reuse.lead, last_near, resolved.lines.len()) {
         return None;
     }
+    let reach = if known.covered {
+        last_near
+    } else {
+        reuse.lead + known.last as usize - 1
+    };
     Some(Found {
-        reach: reach_by(&known, reuse.lead, last_near),
+        reach,
         query: known.query,
         own: Some(known),
         work: Work::none(),
