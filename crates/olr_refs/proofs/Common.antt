@@ -7,7 +7,7 @@ pub use Rattle.olr_refs.specs.Fields.{lowest_class, middle_points_of}
 pub use Rattle.olr_refs.specs.KeptPoints.{AreAlong, AreKept, AreLinked, ArePoints, AreTrimmed, IsFirstKept, IsLastKept}
 pub use Rattle.olr_refs.specs.KeptPoints.{distance_at, later, whole_distance}
 pub use Rattle.olr_refs.specs.ResolvedLines.{AreRecords, ids, records_of}
-pub use Rattle.olr_refs.specs.Reuse.{Queried, EndsHere, IsAnswered, IsReuse, own_of}
+pub use Rattle.olr_refs.specs.Reuse.{Queried, IsAnswered, IsReuse, own_of}
 pub use Rattle.olr_refs.specs.Runs.{IsLongest, IsRun, LeadsOn, LiesBeyond, in_order, outermost, joined}
 pub use Rattle.olr_refs.specs.declared.reuse.Found.{Found}
 pub use Rattle.olr_refs.specs.declared.reuse.Reuse.{Reuse}

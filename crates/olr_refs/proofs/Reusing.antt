@@ -1,5 +1,5 @@
 -- Known coverage queries on an extended path: how one is found, and what it says there.
-use Rattle.olr_refs.proofs.Common.{cases_lt, Contains, IsRoute, CountedTo, stretch, EndsHere, drop-drop, drop-take, take-take}
+use Rattle.olr_refs.proofs.Common.{cases_lt, Contains, IsRoute, CountedTo, stretch, drop-drop, drop-take, take-take}
 use Rattle.olr_refs.proofs.Common.{◌≡◌, IsKnownOfWith, Contains-here, All-contains, query_to_with, if◌then◌else◌, empty_stretch}
 use Rattle.olr_refs.proofs.Common.{◌<◌, ◌≤◌, ℕ, true, false, List, Some, refl, subst, arith, IsMap, start, Found, Reuse, way_on}
 use Rattle.olr_refs.proofs.Common.{◌-◌, ◌+◌, ◌∷◌, min, [], sym, ap, ◌∙◌, ◌↔◌, Map, end, Ok, Err, Bool, get_or_default}
@@ -105,6 +105,10 @@ module _ (g : Margin) (M : Map) (ls : List ℕ) (r : Reuse) (is : IsReuse g M ls
               coe 0 1 (j. CountedRoute g M (from_is j) (start M (line j)) (part_is m h (omega arith) j)) there;
           covered = grind (arith, part_is);
         }
+
+-- a known query ends at the position `end`, the last that can be tested; or before it, if its last position is not covered
+abbrev EndsHere : ℕ → ℕ → KnownQuery → Type 0
+EndsHere lead end e = (lead + e.last ≤ end) × (IsTrue e.covered → lead + e.last ≡ end)
 
 -- a known query that ends at the last position that is tested
 module _ (g : Margin) (M : Map) (m : IsMap M) (ls : List ℕ) (r : Reuse) (is : IsReuse g M ls r) (joined : AreJoined M ls) (i last_near : ℕ)

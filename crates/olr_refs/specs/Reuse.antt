@@ -1,17 +1,15 @@
 -- Coverage queries, each of which is known or searched.
 --     own_of ls r      the path's own lines, which are some of the lines ls of an extended path
 --     IsReuse g M ls r      the known queries are right along the path's own lines
---     EndsHere lead end e      a known query ends at the position `end`, the last that can be tested; or before it, if the
---         query's last position is not covered
 --     IsAnswered g M ls r i f seen noted      f is the coverage query of the LRP i, and what it shows; if none is known, it
 --         is searched
 --     Queried g M ls r is q seen noted      q are the coverage queries of the LRPs is, and some of them that are along the
 --         path's own lines; if none is known, all are searched
-use Rattle.std.specs.Prelude.{◌≡◌, ℕ, ◌+◌, ◌≤◌, List, [], ◌∷◌, length, Option, IfSome, IsTrue}
+use Rattle.std.specs.Prelude.{◌≡◌, ℕ, ◌+◌, ◌≤◌, List, [], ◌∷◌, length, Option, IfSome}
 use Rattle.olr_spec.specs.Margins.{Margin}
 use Rattle.olr_spec.specs.Map.{Map}
 use Rattle.olr_spec.specs.Points.{stretch}
-use Rattle.olr_spec.specs.Queries.{IsQueryWith, QueriesFromWith, querying, KnownQuery, AreKnownWith, IsKnownOfWith, KnownOfWith}
+use Rattle.olr_spec.specs.Queries.{IsQueryWith, QueriesFromWith, querying, AreKnownWith, IsKnownOfWith, KnownOfWith}
 use Rattle.olr_refs.specs.Along.{IsReach}
 use Rattle.olr_refs.specs.Choice.{AreSearched, CostsAtMost}
 use Rattle.olr_refs.specs.declared.chosen.Queries.{Queries}
@@ -25,10 +23,6 @@ pub record IsReuse (g : Margin) (M : Map) (ls : List ℕ) (r : Reuse) : Type 0 w
   pub inside : r.lead + r.own ≤ length ls
   pub few : r.own ≤ 10000
   pub known : AreKnownWith g M (own_of ls r) r.known.now
-
--- so if its last position is covered, no position after it has to be tested, and else this one has to be
-abbrev pub EndsHere : ℕ → ℕ → KnownQuery → Type 0
-EndsHere lead end e = (lead + e.last ≤ end) × (IsTrue e.covered → lead + e.last ≡ end)
 
 pub record IsAnswered (g : Margin) (M : Map) (ls : List ℕ) (r : Reuse) (i : ℕ) (f : Found) (seen noted : Option (List ℕ)) : Type 0
   where

@@ -153,7 +153,6 @@ fn refused(alloc: Global, refusal: Refusal) -> Encoding
 
 /// The answer of an extended path with a margin, by its LRPs; its own lines at the LRPs of the reference; and the coverage
 /// queries. Its two offsets are together less than the length of its lines.
-#[tactic(auto, using(crate::proofs::Referring::points_answer))]
 fn encode_along<M: MapRead>(
     alloc: Global,
     map: &M,
@@ -189,7 +188,13 @@ fn encode_along<M: MapRead>(
             Ok((refused, Vec::new(alloc), queries))
         }
         Choice::Positions(points) => {
-            let (reference, own) = reference_of(alloc, &resolved, &points, extended.pos, extended.neg)?;
+            let (reference, own) = reference_of(
+                alloc,
+                &resolved,
+                &points,
+                extended.pos,
+                extended.neg,
+            )?;
             Ok((Answer::Points(reference), own, queries))
         }
     }

@@ -1,9 +1,8 @@
 //! Coverage queries that are known, and are not searched again.
-ghost use Rattle.std.specs.Prelude.{◌≡◌, ◌+◌, ◌-◌, ◌^◌, ◌<◌, ◌≤◌, ◌↔◌, [], ◌∷◌, min, IsTrue, IfSome, length};
-ghost use Rattle.std.specs.Prelude.{Option, List, ℕ};
+ghost use Rattle.std.specs.Prelude.{◌≡◌, ◌+◌, ◌<◌, ℕ, List, [], ◌∷◌, Option, IfSome, length};
 ghost use Rattle.olr_spec.specs.Queries.{IsKnownOfWith, IsLastTestedWith, query_to_with};
 ghost use Rattle.olr_refs.specs.Along.{IsLastNear, IsReach};
-ghost use Rattle.olr_refs.specs.Reuse.{IsReuse, IsAnswered, EndsHere, own_of};
+ghost use Rattle.olr_refs.specs.Reuse.{IsReuse, IsAnswered, own_of};
 
 use crate::along::ResolvedPath;
 use crate::reach::Tested;
@@ -36,23 +35,6 @@ pub struct Found {
     pub work: Work,
 }
 
-/// Whether a known query ends at the last position that is tested on an extended path of so many lines, of which `lead`
-/// precede the path's own, and where positions up to `last_near` are near enough: so if its last position is covered, no
-/// position after it has to be tested, and else this one has to be.
-fn ends_here(known: &KnownQuery, lead: usize, last_near: usize, lines: usize) -> bool
-    requires some { 0 < lines }
-    requires small { lead + known.now.last < 2 ^ 64 }
-    ensures { IsTrue result ↔ EndsHere lead (min last_near (lines - 1)) known.now }
-{
-    let last = lead + known.last as usize;
-    let end = last_near.min(lines - 1);
-    if known.covered {
-        last == end
-    } else {
-        last <= end
-    }
-}
-
 /// The coverage query after `i`, where it is known; positions up to `last_near` are near enough.
 pub fn known_after<M: MapRead>(
     resolved: &ResolvedPath<M>,
@@ -72,14 +54,13 @@ pub fn known_after<M: MapRead>(
         .binary_search_by_key(&first, |known| known.first as usize)
         .ok()?;
     let known = reuse.known[k];
-    if !ends_here(&known, reuse.lead, last_near, resolved.lines.len()) {
+    // It ends at the last position that can be tested, or before it if its own last position isn't covered.
+    let last = reuse.lead + known.last as usize;
+    let end = last_near.min(resolved.lines.len() - 1);
+    if last > end || (known.covered && last != end) {
         return None;
     }
-    let reach = if known.covered {
-        last_near
-    } else {
-        reuse.lead + known.last as usize - 1
-    };
+    let reach = if known.covered { last_near } else { last - 1 };
     Some(Found {
         reach,
         query: known.query,
