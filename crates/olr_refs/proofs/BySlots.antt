@@ -1,14 +1,11 @@
 -- Degree-two nodes, by the slots of nodes.
-use Rattle.olr_refs.proofs.Common.{◌≡◌, ◌==◌, ◌∙◌, ℕ, List, [], ◌∷◌, IsTrue, Map, has, has_node, map, refl, sym, ap, inl, inr}
+use Rattle.olr_refs.proofs.Common.{arith, ◌≡◌, ◌==◌, ℕ, List, [], ◌∷◌, IsTrue, Map, has, has_node, map, refl}
 use Rattle.olr_refs.proofs.Common.{cases_eq, eq-eqb, has_here, ne_eqb, passes_between, has_there}
 
 module _ (M : Map) (slot : ℕ → ℕ)
     (own : (v w : ℕ) → IsTrue (has_node M v) → IsTrue (has_node M w) → slot v ≡ slot w → v ≡ w) where
   same_slots : (v w : ℕ) → IsTrue (has_node M v) → IsTrue (has_node M w) → (slot v == slot w) ≡ (v == w)
-  same_slots v w a b = elim (cases_eq v w) [
-    | inl is ↦ eq-eqb (slot v) (slot w) (ap slot is) ∙ sym (eq-eqb v w is)
-    | inr ne ↦ ne_eqb (slot v) (slot w) (λ e. ne (own v w a b e)) ∙ sym (ne_eqb v w ne)
-  ]
+  same_slots v w a b = grind (arith, cases_eq v w, eq-eqb, ne_eqb, own v w a b)
 
   -- by the other ends of the lines xs that enter a node, and of the lines ys that leave it
   module _ (v : ℕ) (known : IsTrue (has_node M v)) (f g : ℕ → ℕ) where

@@ -1,7 +1,7 @@
 -- The ends of the lines of a list, appended to other nodes.
-use Rattle.olr_refs.proofs.Common.{◌⊎◌, inl, inr, ◌≡◌, ℕ, ◌+◌, ◌<◌, ◌≤◌, [], ◌∷◌, ◌++◌, take, eqb, Map, end, has, ◌||◌, ◌↔◌}
+use Rattle.olr_refs.proofs.Common.{◌⊎◌, inl, inr, ◌≡◌, ℕ, ◌+◌, ◌<◌, [], ◌∷◌, ◌++◌, take, eqb, Map, end, has, ◌||◌, ◌↔◌}
 use Rattle.olr_refs.proofs.Common.{◌==◌, List, length, get_or, subst, arith, eq-eqb, start, NodeOf, dedup, or_cases, or_right}
-use Rattle.olr_refs.proofs.Common.{Contains, IsPermutation, eqb-true, take_all, Contains-push, list_any_more, IsPermutation-sym}
+use Rattle.olr_refs.proofs.Common.{Contains, IsPermutation, eqb-true, Contains-push, list_any_more, IsPermutation-sym}
 use Rattle.olr_refs.proofs.Common.{Contains-append_left, or_left, Contains-dedup_nat, Contains-from_dedup, Contains-permutation}
 use Rattle.std.proofs.lemmas.List.Elements.{Contains-push_cases}
 
@@ -37,9 +37,6 @@ module _ (M : Map) (ls : List ℕ) (i x : ℕ) (inside : i < length ls) (is : x 
   ends_more F ns h v =
       both_pushed _ _ _ _ _ _ _ _ (h v) (pushed ns (start M x) v) (pushed (ns ++ start M x ∷ []) (end M x) v)
       (nodes_more v)
-
-pub all_ends : (M : Map) (F ls ns : List ℕ) (i : ℕ) → length ls ≤ i → HasEnds M F (take i ls) ns → HasEnds M F ls ns
-all_ends M F ls ns i h ends = subst (λ (zs : List ℕ). HasEnds M F zs ns) (take_all i ls h) ends
 
 -- ---- sorted, without duplicates
 

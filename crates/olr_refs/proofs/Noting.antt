@@ -143,12 +143,6 @@ no_next_end g M ls k h = grind arith
 
 -- ---- the footprint
 
--- the nodes that were seen are added to the traversed nodes
-pub seen_added : (traversed new : List ℕ) (seen : Option (List ℕ)) (nodes : List ℕ) → seen ≡ Some nodes
-    → ((v : ℕ) → Contains new v ↔ (Contains traversed v ⊎ Contains nodes v)) → (v : ℕ) →
-    Contains new v ↔ (Contains traversed v ⊎ MatchOption seen ⊥ (λ s. Contains s v))
-seen_added traversed new seen nodes e f v = rw e (f v)
-
 foot_of : (F G T S B N Q : Type 0) → (F ↔ (T ⊎ S)) → (T ↔ N) → (S ↔ (B ⊎ Q)) → (B → ⊥) → (G ↔ (N ⊎ Q)) → F ↔ G
 foot_of F G T S B N Q f o n none law = grind arith
 

@@ -1,6 +1,6 @@
-use Rattle.olr_refs.proofs.Common.{◌+◌, take, ◌∷◌, ◌++◌, [], ℕ, List, refl, sym, ap, ◌∙◌, subst, arith, slice_index}
+use Rattle.olr_refs.proofs.Common.{take_all, ◌+◌, take, ◌∷◌, ◌++◌, [], ℕ, List, refl, sym, ap, ◌∙◌, subst, arith, slice_index}
 use Rattle.olr_refs.proofs.Common.{ResolvedLine}
-use Rattle.olr_refs.proofs.Ends.{HasEnds, ends_more, all_ends}
+use Rattle.olr_refs.proofs.Ends.{HasEnds, ends_more}
 use Rattle.olr_refs.proofs.Resolving.{record_at, records_length}
 use Rattle.olr_refs.proofs.extension.push_ends.Goals as goal
 
@@ -18,4 +18,5 @@ loop-record-preserved c = λ M slot ls e.
 pub returns : goal.returns
 returns c = λ M slot ls e.
     let long = records_length M slot ls _ e in
-    all_ends M _ ls _ c.loop-record.record-index (omega arith) (c.loop-record.invariant M slot ls e)
+    subst (λ (zs : List ℕ). HasEnds M c.args.nodes.now.items zs c.loop-record.nodes.items)
+    (take_all c.loop-record.record-index ls (omega arith)) (c.loop-record.invariant M slot ls e)
