@@ -32,7 +32,6 @@ pub use Rattle.olr_spec.specs.Extension.{Path, limit}
 pub use Rattle.olr_spec.specs.Map.{has}
 pub use Rattle.olr_spec.specs.Queries.{CoverageQuery, KnownQuery}
 pub use Rattle.olr_spec.specs.Routes.{dm_of}
-pub use Rattle.smallvec.specs.SmallVec.{SmallVec}
 pub use Rattle.std.proofs.Common.{All, Bool, Bor, Contains, Err, Global, IfSome, IsTrue, List, None, Ok, Option, Result, Some}
 pub use Rattle.std.proofs.Common.{String, [], ap, append-nil, append_assoc, arith, cond, false, get_or, inl, inr, is_some}
 pub use Rattle.std.proofs.Common.{length, map, not, refl, slice_get, subst, suc, sym, take, true, vec_capacity, vec_len, zero}
@@ -41,7 +40,6 @@ pub use Rattle.std.proofs.lemmas.Bool.Decides.{nat_tests}
 pub use Rattle.std.proofs.lemmas.Bool.{cases_Bool, cases_lt, cases_order, eq-eqb, true≢false}
 pub use Rattle.std.proofs.lemmas.List.Edits.{length-remove}
 pub use Rattle.std.proofs.lemmas.List.Elements.{All-contains, All-head, All-nil, All-pop, All-push, All-tail, filter-append}
-pub use Rattle.std.proofs.lemmas.List.Kept.{AllPairs-from_increasing}
 pub use Rattle.std.proofs.lemmas.List.{get_or_default, get_or_read, length-map, length_push, map-append, take-map, take_all}
 pub use Rattle.std.proofs.lemmas.List.{take_more}
 pub use Rattle.std.proofs.lemmas.Option.{get_or_from_slice_get, slice_get-map, slice_get_within}

@@ -1,7 +1,7 @@
 -- Lists of named paths under changes: which names they have, and the effect of one more change.
-use Rattle.olr_paths.proofs.Common.{◌≡◌, ℕ, not, List, ◌∷◌, ◌++◌, map, Some, None, refl, sym, ap, ◌∙◌, Rc, Path, Item}
-use Rattle.olr_paths.proofs.Common.{Bool, append_assoc, string_bytes, insert_entry, under_changes, bytes_decides, filter-append}
-use Rattle.olr_paths.proofs.Common.{true, option_map, map-append, path_named, NamesDiffer, under_change, changes_in, append-nil}
+use Rattle.olr_paths.proofs.Common.{◌≡◌, ℕ, not, List, ◌∷◌, ◌++◌, map, Some, None, refl, sym, ap, ◌∙◌, Rc, Path, Item, Bool}
+use Rattle.olr_paths.proofs.Common.{append_assoc, string_bytes, insert_entry, under_changes, bytes_decides, filter-append, true}
+use Rattle.olr_paths.proofs.Common.{option_map, map-append, path_named, NamesDiffer, under_change, changes_in, append-nil}
 use Rattle.olr_paths.proofs.Common.{false, ◌&&◌, cond, [], Option, subst, arith, filter, lookup, drops, path_in, String, Global}
 use Rattle.olr_paths.proofs.Common.{is_some, string_eq, same_name, same_is, all_named, set_item, NamedPath, Changes, change_at}
 use Rattle.olr_paths.specs.Items.{item_of}

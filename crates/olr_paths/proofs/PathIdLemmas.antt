@@ -1,12 +1,12 @@
 -- A list of entries with the ids of its paths, as paths are added, removed and replaced.
 --     Each P es ms      P holds of the id and the path at each position
-use Rattle.olr_paths.proofs.Common.{AllPairs-from_increasing, get_or_from_slice_get, IsStrictlyIncreasing, string_bytes}
-use Rattle.olr_paths.proofs.Common.{IsBinarySearchResult, slice_get_within, length-remove, set_value_at, insert_entry}
-use Rattle.olr_paths.proofs.Common.{cases_order, get_or_read, NamedNoted, IsNoted, KeyLists, named_keys, has-remove, slice_get}
-use Rattle.olr_paths.proofs.Common.{result_ok, string_eq, NamedPath, place_not, place_of, PathList, AreNoted, flipped}
-use Rattle.olr_paths.proofs.Common.{ascends, inl, length, get_or, Result, remove, eq-eqb, Finder, String, Global, has_at}
-use Rattle.olr_paths.proofs.Common.{Spares, inr, subst, arith, Grows, zero, List, ◌++◌, Some, refl, ◌≡◌, ◌≢◌}
-use Rattle.olr_paths.proofs.Common.{suc, ◌<◌, ◌∷◌, Err, ◌-◌, ◌+◌, sym, ◌∙◌, [], Ok, ap, ℕ}
+use Rattle.olr_paths.proofs.Common.{get_or_from_slice_get, IsStrictlyIncreasing, IsBinarySearchResult, slice_get_within, length}
+use Rattle.olr_paths.proofs.Common.{string_bytes, length-remove, set_value_at, insert_entry, cases_order, get_or_read, KeyLists}
+use Rattle.olr_paths.proofs.Common.{NamedNoted, named_keys, has-remove, slice_get, result_ok, string_eq, NamedPath, place_not}
+use Rattle.olr_paths.proofs.Common.{IsNoted, place_of, PathList, AreNoted, flipped, ascends, get_or, Result, remove, eq-eqb, []}
+use Rattle.olr_paths.proofs.Common.{inl, inr, ◌≡◌, ◌≢◌, suc, ◌<◌, ◌∷◌, Err, ◌-◌, ◌+◌, sym, ◌∙◌, Ok, ap, ℕ}
+use Rattle.olr_paths.proofs.Common.{Finder, String, Global, has_at, Spares, subst, arith, Grows, zero, List, ◌++◌, Some, refl}
+use Rattle.std.proofs.lemmas.List.Kept.{AllPairs-from_increasing}
 use Rattle.std.specs.Ordering.{nat_cmp}
 use Rattle.olr_paths.proofs.NamedEntries.{Entries, item_of, items_of, absent, not_here}
 

@@ -55,16 +55,11 @@ impl NamedPath {
         ensures made { IfOk result (λ n. made_of_named n ≡ made_of_named self.now) }
     {
         let path = self.path.clone()?;
-        let Some(published) = &self.published else {
-            return Ok(NamedPath {
-                path,
-                published: None,
-            });
+        let published = match &self.published {
+            Some(published) => Some(published.clone()?),
+            None => None,
         };
-        Ok(NamedPath {
-            path,
-            published: Some(published.clone()?),
-        })
+        Ok(NamedPath { path, published })
     }
 }
 
@@ -297,8 +292,6 @@ fn next_path_id(path_ids: &[u64]) -> Result<u64, AllocError>
     let Some(last) = path_ids.last() else {
         return Ok(0);
     };
-    match last.checked_add(1) {
-        Some(path_id) => Ok(path_id),
-        None => Err(AllocError),
-    }
+    let path_id = last.checked_add(1).ok_or(AllocError)?;
+    Ok(path_id)
 }

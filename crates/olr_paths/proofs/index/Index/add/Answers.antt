@@ -1,14 +1,11 @@
-use Rattle.olr_paths.proofs.Common.{◌≡◌, ◌∙◌, subst, sym, ap, nat_eq, List, [], ℕ, Option, Some, None, get, unwrap_or}
-use Rattle.olr_paths.proofs.Common.{IsStrictlyIncreasing, SmallVec, items_of}
+use Rattle.olr_paths.proofs.Common.{arith, ◌≡◌, ◌∙◌, ap, nat_eq, [], ℕ, Option, get, unwrap_or, IsStrictlyIncreasing, items_of}
+use Rattle.smallvec.specs.SmallVec.{SmallVec}
 use Rattle.olr_paths.proofs.index.Index.add.Goals as goal
 
 -- the list of a number, or an empty one
 ascends : (o : Option (SmallVec ℕ)) (empty v : SmallVec ℕ) → empty.items ≡ [] → v ≡ unwrap_or o empty →
     IsStrictlyIncreasing (items_of o) → IsStrictlyIncreasing v.items
-ascends None empty v none is h =
-    subst (λ (xs : List ℕ). IsStrictlyIncreasing xs) (sym (ap (λ (s : SmallVec ℕ). s.items) is ∙ none)) h
-ascends (Some w) empty v none is h =
-    subst (λ (xs : List ℕ). IsStrictlyIncreasing xs) (sym (ap (λ (s : SmallVec ℕ). s.items) is)) h
+ascends o empty v none is h = grind arith
 
 pub put-requires : goal.put-requires
 put-requires c =
