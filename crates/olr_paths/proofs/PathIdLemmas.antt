@@ -148,7 +148,8 @@ module _ (l : PathList) (g : Finder) (q path_id : ℕ) (within : q < length l.pa
 
   -- its path is replaced
   pub noted_set : (n : NamedPath) → NamedNoted g path_id n → AreNoted (set_value_at es q n) ms g
-  noted_set n one = each_set (λ k. NamedNoted g (get_or ms k 0)) es q n beside (subst (λ (m : ℕ). NamedNoted g m n) (sym here) one)
+  noted_set n one =
+      each_set (λ k. NamedNoted g (get_or ms k 0)) es q n beside (subst (λ (m : ℕ). NamedNoted g m n) (sym here) one)
 
   -- its path still has its index entries
   pub noted_but : (x : String Global × NamedPath) → slice_get es q ≡ Some x →

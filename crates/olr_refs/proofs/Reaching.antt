@@ -194,8 +194,10 @@ module _ (g : Margin) (M : Map) (m : IsMap M) (slot : ℕ → ℕ) (ls : List �
             known = x_known;
             at = refl;
             len = refl;
-            ahead = end_ahead K slot from (start M x) front old s (t.whether.0 refl) far (node (start M x) (m.starts x x_known));
-            settled = λ y on. omega (arith, same y, starts_settled K slot from (start M x) front old s (t.whether.0 refl) far y on);
+            ahead = end_ahead K slot from (start M x) front old s (t.whether.0 refl) far
+                (node (start M x) (m.starts x x_known));
+            settled = λ y on.
+                omega (arith, same y, starts_settled K slot from (start M x) front old s (t.whether.0 refl) far y on);
           })
     ],
     t.search,
@@ -226,7 +228,8 @@ module _ (g : Margin) (M : Map) (m : IsMap M) (slot : ℕ → ℕ) (ls : List �
       (unique_more g M front (line.id ∷ []) from (start M x) (t.whether.0 refl)) in
       let counts : line.len ≡ dm (counted g M (front ++ line.id ∷ [])) line.id =
       ap (λ (r : ResolvedLine). r.len) is.value
-      ∙ sym (subst (λ y. dm (counted g M (front ++ y ∷ [])) y ≡ counted_dm g (dm M x)) (sym id_is) (line_counts g M front x x_known)) in
+      ∙ sym (subst (λ y. dm (counted g M (front ++ y ∷ [])) y ≡ counted_dm g (dm M x)) (sym id_is)
+      (line_counts g M front x x_known)) in
       let as_long = own_same g M front (line.id ∷ []) front
       (Each-range (λ y. IsTrue (has_line M y)) ls (i + 1) k (joined_known M ls w)) (λ y on. on) in
       record {

@@ -145,8 +145,8 @@ module _ (g : Margin) (M : Map) (m : IsMap M) (ls : List ℕ) (r : Reuse) (is : 
       (before_known g M ls r is joined i e begins order upto within right (e.last - 1) (omega arith) (omega arith)) no_more)
 
   -- nothing is searched
-  pub answered_known : (f : Found) → f.reach ≡ (if e.covered then last_near else r.lead + e.last - 1) → f.query ≡ e.query → f.own ≡ Some e →
-      f.work ≡ no_work → (seen : Option (List ℕ)) → IsAnswered g M ls r i f seen seen
+  pub answered_known : (f : Found) → f.reach ≡ (if e.covered then last_near else r.lead + e.last - 1) → f.query ≡ e.query →
+      f.own ≡ Some e → f.work ≡ no_work → (seen : Option (List ℕ)) → IsAnswered g M ls r i f seen seen
   answered_known f reach query own work seen =
       let there = found e.covered refl in
       record {

@@ -32,7 +32,8 @@ pub record IsAnswered (g : Margin) (M : Map) (ls : List ℕ) (r : Reuse) (i : �
     pub cost : CostsAtMost M (f.query ∷ []) f.work
     pub searched : r.known.now ≡ [] → AreSearched M (f.query ∷ []) f.work seen noted
 
-pub record Queried (g : Margin) (M : Map) (ls : List ℕ) (r : Reuse) (is : List ℕ) (q : Queries) (seen noted : Option (List ℕ)) : Type 0
+pub record Queried (g : Margin) (M : Map) (ls : List ℕ) (r : Reuse) (is : List ℕ) (q : Queries)
+    (seen noted : Option (List ℕ)) : Type 0
   where
     pub each : QueriesFromWith g M ls (querying ls is) q.all.items
     pub own : KnownOfWith g M (own_of ls r) q.all.items q.own.items

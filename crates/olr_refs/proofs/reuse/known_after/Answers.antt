@@ -1,4 +1,5 @@
-use Rattle.olr_refs.proofs.Common.{◌+◌, ◌-◌, if◌then◌else◌, ◌≡◌, arith, refl, rules, get_or, Some, KnownQuery, answers_always, Found}
+use Rattle.olr_refs.proofs.Common.{◌+◌, ◌-◌, if◌then◌else◌, ◌≡◌, arith, refl, rules, get_or, Some}
+use Rattle.olr_refs.proofs.Common.{KnownQuery, answers_always, Found}
 use Rattle.olr_refs.proofs.Reusing.{found_at, answered_known}
 use Rattle.olr_refs.proofs.reuse.known_after.Goals.{then-known-2, else-known-2}
 use Rattle.olr_refs.proofs.reuse.known_after.Goals as goal
