@@ -48,8 +48,7 @@ pub use Rattle.olr_spec.proofs.Common.{relative, StartRun, ap, both_ways, cond_b
 pub use Rattle.olr_spec.proofs.Common.{◌≢◌, ◌≤◌, ◌⊎◌, ◌||◌, or_cases}
 pub use Rattle.olr_spec.proofs.CountedLemmas.{counted_nil, counted_own, counted_route, counted_start, counted_zero}
 pub use Rattle.olr_spec.proofs.CountedLemmas.{route_counted}
-pub use Rattle.olr_spec.proofs.FieldLemmas.{dm_same, from_front-add, position_is}
-pub use Rattle.olr_spec.proofs.FitLemmas.{extended_sound, reference_fits_with, by_answer}
+pub use Rattle.olr_spec.proofs.FitLemmas.{extended_sound, reference_fits_with, by_answer, dm_same, from_front-add, position_is}
 pub use Rattle.olr_spec.proofs.JoinLemmas.{CountedTo, LinkedWith, between, kept_linked_with, stretch_last, empty_stretch}
 pub use Rattle.olr_spec.proofs.JoinedAnswers.{joined_with}
 pub use Rattle.olr_spec.proofs.ListLemmas.{Contains-cases, Contains-here, Contains-one, Each, Each-from, Each-range, Known}

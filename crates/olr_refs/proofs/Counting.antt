@@ -5,7 +5,7 @@ use Rattle.olr_refs.proofs.Common.{UniqueShortest, dm_of, dm_of-append, Each, ro
 use Rattle.olr_refs.proofs.Common.{Along, Dijkstra, IsSearch, LiesWithin, limit_of, CoverageQuery, Sees, Contains-one, cond}
 use Rattle.olr_refs.proofs.Common.{Each-tail, has_cases, dec_same, begun_at, label_of, Margin, counted, counted_dm}
 use Rattle.olr_refs.proofs.Common.{counted_dm_of, CountedRoute, counted_own, counted_zero, counted_route, route_counted}
-use Rattle.olr_spec.proofs.CountedMoves.{counted_longer, more_counts}
+use Rattle.olr_spec.proofs.RouteMoves.{counted_longer, more_counts}
 use Rattle.olr_route.proofs.UniqueLemmas.{label_way, way_le}
 use Rattle.olr_route.specs.declared.frontier.TheConstants.{GREATEST_LIMIT}
 
