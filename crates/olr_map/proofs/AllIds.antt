@@ -172,13 +172,12 @@ module _ (t : RoadMap) where
         let s = slot_of t.index (node_slots t.nodes) t.kept.indexed (all_held t.lines) v (ap (λ o. is_some o) is) in
         let e = entry_at t v s.0 s.1 in
         let within = inside t.nodes s.0 (ap (λ o. is_some o) e.1) in
-        let place = same_Some _ _ (sym (node_read t v s.0 e.0 s.1 e.1) ∙ is) in (
+        let long = t.nodes.places_beside in
+        let read = node_read t v s.0 e.0 s.1 e.1 in
+        let place = place_at t.nodes s.0 e.0 c e.1 in (
           s.0,
-          ap (λ hs. slice_get hs s.0) same ∙ slice_get-get_or hs s.0 None within
-              ∙ ap (λ o. Some o) (same_id s.0 ∙ t.kept.indexed.filled v s.0 s.1),
-          ap (λ cs. slice_get cs s.0) beside
-              ∙ slice_get-get_or cs s.0 c (let long = t.nodes.places_beside in omega arith)
-              ∙ ap (λ d. Some d) (place_at t.nodes s.0 e.0 c e.1 ∙ place),
+          grind (arith, slice_get-get_or hs s.0 None within, same_id s.0, t.kept.indexed.filled v s.0 s.1),
+          grind (arith, slice_get-get_or cs s.0 c, place, read),
         )
 
     back : ((k : ℕ) × (slice_get ids k ≡ Some (Some v)) × (slice_get places k ≡ Some c)) →
@@ -186,9 +185,9 @@ module _ (t : RoadMap) where
     back r =
         let here = named v r.0 (get_or_from_slice_get hs r.0 (Some v) None (sym (ap (λ hs. slice_get hs r.0) same) ∙ r.1)) in
         let e = entry_at t v r.0 here in
-        node_read t v r.0 e.0 here e.1
-        ∙ ap (λ d. Some d) (sym (place_at t.nodes r.0 e.0 c e.1)
-        ∙ get_or_from_slice_get cs r.0 c c (sym (ap (λ cs. slice_get cs r.0) beside) ∙ r.2))
+        let place = place_at t.nodes r.0 e.0 c e.1 in
+        let read = get_or_from_slice_get cs r.0 c c (sym (ap (λ cs. slice_get cs r.0) beside) ∙ r.2) in
+        grind (arith, node_read t v r.0 e.0 here e.1, place, read)
 
   nodes_once : IsDistinct ◌==◌ (present hs)
   nodes_once = ids_once hs (λ p q v i j. same_Some p q (sym (named v p i) ∙ named v q j))

@@ -2,7 +2,7 @@
 use Rattle.olr_map.proofs.Common.{map, option_map, option_map_or, IsRelinked, spare_numbers, IsRoomWithin, common_steps, ◌≡◌}
 use Rattle.olr_map.proofs.Common.{unwrap_or, node_slots, links_room, HasRoomFor, tables_map, IsReserved, ◌==◌, ◌&&◌}
 use Rattle.olr_map.proofs.Common.{true, cond, Some, None, refl, subst, arith, Coord, IsMap, SlotIndex, Links, ℕ, ◌<◌, ◌≤◌, []}
-use Rattle.olr_map.proofs.Common.{sym, ap, ◌∙◌, Map, Line, at, held, Room, Side, Out, In, pairs_of, spare_of, all_held}
+use Rattle.olr_map.proofs.Common.{sym, ap, ◌∙◌, Map, Line, held, Room, Side, Out, In, pairs_of, spare_of, all_held}
 use Rattle.olr_map.proofs.Common.{links_at, lines_on, lines_at, links_in, map_from, length, FinMap, lookup, eq-eqb, slot_by}
 use Rattle.olr_map.proofs.Common.{in_slot, IsListed, room_of, room_at, RoadMap, eqb-true, node_room, node_slot}
 use Rattle.olr_map.proofs.Common.{IsIndexed, AreTables, NodeSlots, LineTable, from_entries, empty_map, empty_sound, coord_in}
@@ -11,7 +11,7 @@ use Rattle.std.specs.Ordering.{nat_cmp}
 use Rattle.olr_map.proofs.ColumnLemmas.{few_nodes}
 use Rattle.olr_map.proofs.Lookups.{all_get, same_answers}
 use Rattle.olr_map.proofs.Blocking.{listed_found}
-use Rattle.olr_map.proofs.Indexing.{id_of, one_node, same_side, Relisted, relisted}
+use Rattle.olr_map.proofs.Indexing.{one_node, same_side, Relisted, relisted}
 use Rattle.olr_map.proofs.Reading.{got_node, got_line, kept_from}
 use Rattle.olr_spec.specs.Map as maps
 
@@ -26,10 +26,8 @@ kept_none b s ls no_nodes no_slots no_lines =
       nodes = from_entries (map (λ (e : ℕ × ℕ). (e.0, coord_in (node_slots s) e.1)) (no_nodes i));
       lines = from_entries (no_lines i);
     } in
-    kept_from b (node_slots s) (all_held ls) (record {
-      filled = λ v p h. absurd (cc (none v));
-      named = λ v p h. let free = ap (λ es. option_map id_of (at es p)) no_slots in absurd cc;
-    }) (few_nodes s) (subst IsMap (sym empty) empty_sound)
+    kept_from b (node_slots s) (all_held ls) (grind (arith, common_steps, none)) (few_nodes s)
+    (subst IsMap (sym empty) empty_sound)
     (λ side v l h. let free = ap (λ o. option_map (links_at side) (in_slot (node_slots s) o)) (none v) in absurd cc)
 
 -- ---- at least as much capacity
@@ -133,8 +131,7 @@ module _ (t : RoadMap) (nodes' : NodeSlots) (side : Side) (p v : ℕ) {R : Links
       (λ s k h is.
       let m = roomier_links s k h is in
       let before = t.kept.listed s k m.0 m.1 in
-      subst (λ (K : Map). IsListed s K (node_slot t.index) k h) (sym roomier_map)
-      (record { numbers = m.2.lines ∙ before.numbers; ends = m.2.ends ∙ before.ends }))
+      grind (arith, roomier_map, m.2, before))
 
   pub roomier_reserved : (kept' : AreTables t.index (node_slots nodes') (all_held t.lines)) →
       node_room nodes' ≡ node_room t.nodes →

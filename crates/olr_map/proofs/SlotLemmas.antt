@@ -83,16 +83,23 @@ module _ {X : Type 0} where
         let long = length_push fs p in
         let roomy = s.roomy in
         let few = s.few in
-        let old : (i : ℕ) → i < length fs → slice_index (fs ++ p ∷ []) i ≡ slice_index fs i =
-        λ i lt. get_or_append_left fs (p ∷ []) 0 i lt in
-        let last : (i : ℕ) → i ≡ length fs → slice_index (fs ++ p ∷ []) i ≡ p =
-        λ i at'. get_or_push fs p 0 i (sym at') in
-        let others : (i : ℕ) → i < length fs → p ≡ slice_index fs i → ⊥ =
-        λ i lt same. let t = ap (λ q. is_some (at es q)) same in let free = s.vacant i lt in cc in
         subst (λ (xs : List ℕ). IsSlotted (set es p None) xs more) (sym is) (record {
-          inside = λ i lt. grind (arith, common_steps, cases_eq, old, last, s.inside i);
-          vacant = λ i lt. grind (arith, common_steps, cases_eq, old, last, others, free_at, still_free, get_or-set_same);
-          apart = λ i j lt k. grind (arith, common_steps, cases_eq, old, last, others, s.apart i j);
+          inside = λ i lt. grind (arith, common_steps, cases_eq, get_or_append_left, get_or_push, s.inside i);
+          vacant = λ i lt.
+              let free = s.vacant i in
+              grind (
+                arith,
+                common_steps,
+                cases_eq,
+                get_or_append_left,
+                get_or_push,
+                free,
+                free_at,
+                still_free,
+                get_or-set_same,
+              );
+          apart = λ i j lt k.
+              grind (arith, common_steps, cases_eq, get_or_append_left, get_or_push, s.vacant i, s.apart i j);
           roomy = omega arith;
           few = omega arith;
         })
