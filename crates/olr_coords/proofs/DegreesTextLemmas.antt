@@ -163,7 +163,7 @@ pub record IsStep (k n : ℕ) : Type 0 where
   pub places : 1 ≤ k
   pub positive : 0 < 10 ^ (k - 1)
   pub small : 10 ^ (k - 1) ≤ 10 ^ 7
-  pub digit : n / 10 ^ (k - 1) < 10
+  pub first : n / 10 ^ (k - 1) < 10
   pub rest : n % 10 ^ (k - 1) < 10 ^ (k - 1)
   pub next : decimals k n ≡ (48 + n / 10 ^ (k - 1)) ∷ decimals (k - 1) (n % 10 ^ (k - 1))
 

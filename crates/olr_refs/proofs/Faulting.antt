@@ -1,17 +1,12 @@
 -- What is known of a path for which none of reasons 1 to 3 holds.
-use Rattle.olr_refs.proofs.Common.{ap, ◌∙◌, inl, inr, common_steps, ◌≡◌, ◌<◌, ◌≤◌, ◌-◌, ◌+◌, ◌==◌, ℕ, Bool, true, false, not}
-use Rattle.olr_refs.proofs.Common.{List, ◌∷◌, length, drop, get_or, Some, None, arith, eq-eqb, cases_eq, nat_tests}
-use Rattle.olr_refs.proofs.Common.{get_or_default, IsTrue, slice_index, Map, has_line, start, end, AreJoined, first_unknown}
-use Rattle.olr_refs.proofs.Common.{first_break, no_unknown, Each, has_index, drop_more, drop_all, Each-from, Known}
+use Rattle.olr_refs.proofs.Common.{ap, ◌∙◌, inl, inr, ◌≡◌, ◌<◌, ◌≤◌, ◌-◌, ◌+◌, ◌==◌, ℕ, Bool, true, false, not}
+use Rattle.olr_refs.proofs.Common.{List, ◌∷◌, length, drop, Some, None, arith, eq-eqb, cases_eq, nat_tests}
+use Rattle.olr_refs.proofs.Common.{slice_index, Map, start, end, AreJoined, first_unknown}
+use Rattle.olr_refs.proofs.Common.{first_break, no_unknown, Each, drop_more, drop_all, Each-from, Known}
 use Rattle.olr_spec.proofs.JoinedLemmas as spec
 
 all_known : (M : Map) (ls : List ℕ) → first_unknown M ls ≡ None → Each (Known M) ls
 all_known M ls e = Each-from (Known M) ls (no_unknown M ls e)
-
--- the line that was read at index k is on the map
-pub each_read : (M : Map) (ls : List ℕ) (k x : ℕ) → first_unknown M ls ≡ None → k < length ls → x ≡ get_or ls k x →
-    IsTrue (has_line M x)
-each_read M ls k x e h r = grind (arith, common_steps, nat_tests, get_or_default, all_known, has_index)
 
 -- ---- breaks
 
