@@ -86,18 +86,8 @@ module _ {X : Type 0} where
         subst (λ (xs : List ℕ). IsSlotted (set es p None) xs more) (sym is) (record {
           inside = λ i lt. grind (arith, common_steps, cases_eq, get_or_append_left, get_or_push, s.inside i);
           vacant = λ i lt.
-              let free = s.vacant i in
-              grind (
-                arith,
-                common_steps,
-                cases_eq,
-                get_or_append_left,
-                get_or_push,
-                free,
-                free_at,
-                still_free,
-                get_or-set_same,
-              );
+              let out = s.vacant i in
+              grind (arith, common_steps, cases_eq, get_or_append_left, get_or_push, out, free_at, still_free, get_or-set_same);
           apart = λ i j lt k.
               grind (arith, common_steps, cases_eq, get_or_append_left, get_or_push, s.vacant i, s.apart i j);
           roomy = omega arith;
