@@ -24,15 +24,10 @@ module _ (g : Margin) (most : IsTrue (is_margin g)) where
       omega arith
 
   line_twice : (M : Map) (xs : List ℕ) (y : ℕ) → dm (counted g M xs) y ≤ 2 * dm M y
-  line_twice M xs y = grind (
-    arith,
-    counted_absent,
-    counted_own,
-    counted_other,
-    twice (dm M y),
-    cases_Bool (has_line M y),
-    cases_Bool (has xs y),
-  )
+  line_twice M xs y =
+      let known = cases_Bool (has_line M y) in
+      let own = cases_Bool (has xs y) in
+      grind (arith, counted_absent, counted_own, counted_other, twice (dm M y), known, own)
 
   lines_twice : (M : Map) (xs ys : List ℕ) → dm_of (counted g M xs) ys ≤ 2 * dm_of M ys
   lines_twice M xs [] = omega arith

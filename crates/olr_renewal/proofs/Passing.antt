@@ -1,6 +1,6 @@
 -- From one candidate to the next in a list: each position between is passed by a step of its own.
-use Rattle.olr_renewal.proofs.Common.{inl, zero, false, length, get_or, slice_get, subst, arith, cases_Bool, cases_lt, at_index}
-use Rattle.olr_renewal.proofs.Common.{inr, ◌≡◌, ℕ, suc, ◌+◌, ◌-◌, ◌<◌, ◌≤◌, List, [], ◌∷◌, Some, None, refl, has, min, Item}
+use Rattle.olr_renewal.proofs.Common.{zero, false, length, get_or, slice_get, subst, arith, cases_Bool, cases_lt, at_index, ◌≡◌}
+use Rattle.olr_renewal.proofs.Common.{ℕ, suc, ◌+◌, ◌-◌, ◌<◌, ◌≤◌, List, [], ◌∷◌, Some, None, refl, has, min, Item}
 use Rattle.olr_renewal.proofs.Common.{slice_get_within, IsStrictlyIncreasing, ascends, get_or_default, AllPairs-from_increasing}
 use Rattle.std.proofs.lemmas.List.{get_or_past}
 
@@ -19,12 +19,10 @@ pub record Walked (is : List Item) (found : List ℕ) (Q : ℕ → Type 0) (k : 
 
 module _ (is : List Item) (found : List ℕ) (up : IsStrictlyIncreasing found) where
   behind : (k : ℕ) → k < length found → min (length is) (get_or found k 0 + 1) ≤ candidate is found (k + 1)
-  behind k lt = elim (cases_lt (k + 1) (length found)) [
-    | inl more ↦
-        let later = AllPairs-from_increasing found up k (k + 1) 0 (omega arith) more in
-        omega (arith, get_or_default found (k + 1) (length is) 0 more)
-    | inr last ↦ omega (arith, get_or_past found (k + 1) (length is) last)
-  ]
+  behind k lt =
+      let later = AllPairs-from_increasing found up k (k + 1) 0 in
+      let here = get_or_default found (k + 1) (length is) 0 in
+      grind (arith, cases_lt (k + 1) (length found), later, here, get_or_past found (k + 1) (length is))
 
   module _ (Q : ℕ → Type 0)
       (step : (p : ℕ) (i : Item) → slice_get is p ≡ Some i → has found p ≡ false → Q p → Q (p + 1)) where
@@ -42,15 +40,8 @@ module _ (is : List Item) (found : List ℕ) (up : IsStrictlyIncreasing found) w
         Walked is found Q k
     on_to k p le before done = record {
       done = gap (candidate is found k - p) p (candidate is found k) (omega arith) (omega arith) (λ j a b.
-          elim (cases_Bool (has found j)) [
-            | inr off ↦ off
-            | inl on ↦ let m = at_index found j on in elim (cases_lt m.0 k) [
-              | inl low ↦ absurd (omega (arith, m.2, before m.0 low m.1))
-              | inr high ↦
-                  let read = get_or_default found k (length is) 0 (omega (arith, m.1)) in
-                  absurd (omega (arith, m.2, ascends found up k m.0 high m.1))
-            ]
-          ]) done;
+          let read = get_or_default found k (length is) 0 in
+          grind (arith, cases_Bool (has found j), at_index found j, before, ascends found up k, read)) done;
     }
 
 module _ {is : List Item} {found : List ℕ} {Q : ℕ → Type 0} where
