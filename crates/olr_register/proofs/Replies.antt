@@ -33,17 +33,12 @@ answer_held g M is content a name A =
           HasAnswer (content_on g M is) name A ↔ (answer_in is name ≡ Some A)
       by None o e f none = ((λ h. absurd (cc (e, h.1))), (λ h. absurd (grind (arith, f, none, h))))
       by (Some P) None e f h = absurd h
-      by (Some P) (Some m) e f right = (
-        (λ h. grind (
-          arith,
-          e,
-          f,
-          h,
-          one_answer_with g M content.map P (named_path (all_named is) name P content.paths e)
-              m.answer A right.answer,
-        )),
-        λ h. (P, e, retained_answer g M P (made_in is name) A m f right h),
-      )
+      by (Some P) (Some m) e f right =
+          let good = named_path (all_named is) name P content.paths e in
+          let one = one_answer_with g M content.map P good m.answer A right.answer in (
+            (λ h. grind (arith, e, f, h, one)),
+            (λ h. (P, e, retained_answer g M P (made_in is name) A m f right h)),
+          )
 
 pub planned_changes : (g h : Margin) (M N : Map) (before js : List Item) (es : List Entry) →
     IsContent (content_on g M before) → AreEncodings g M before → AreEncodings h N js →
