@@ -81,7 +81,8 @@ module _ (M : Map) where
         | inl all ↦
             absurd (both_ways (is_recordable_node_at M v) other
             (and_from (is_recordable_coord (coord_at M v)) (list_all (is_recordable_line_at M) (lines_out M v))
-            (coords_pass all v) (list_all-from_AllPass (is_recordable_line_at M) (lines_out M v) (λ i d lt. shapes_pass all _))))
+            (coords_pass all v)
+            (list_all-from_AllPass (is_recordable_line_at M) (lines_out M v) (λ i d lt. shapes_pass all _))))
         | inr none ↦ none
       ]
 

@@ -79,16 +79,16 @@ module _ (r : Inside) {x : Registered} (view : of_parts r.margin r.roads (items 
         let now = rw (← view) at takes in replies.Lacks is (λ i. now i && may_want_once (with_change c y) first i)
 
   -- the change is made: it leads to this list on the later map, es is reported, and the work is v
-  pub record IsMadeNow (k : Margin) (y : Change) (later : RoadMap) (js : List Item) (es : List replies.Entry) (v : Work) : Type 0
-    where
-      pub ok : with_change c y ≡ Ok (content_on k (map_of later) js)
-      pub placed : HasCoords (Make y)
-      pub made : AreEncodings k (map_of later) js
-      pub differ : Differences c (content_on k (map_of later) js) es
-      pub many : ℕ
-      pub raised : CountIs (Affects c (y ∷ [])) (all_named js) many
-      pub rise : Rise r.work v many
-      pub same : IsFalse (encodes false (Make y)) → v ≡ r.work
+  pub record IsMadeNow (k : Margin) (y : Change) (later : RoadMap) (js : List Item) (es : List replies.Entry) (v : Work) :
+      Type 0 where
+    pub ok : with_change c y ≡ Ok (content_on k (map_of later) js)
+    pub placed : HasCoords (Make y)
+    pub made : AreEncodings k (map_of later) js
+    pub differ : Differences c (content_on k (map_of later) js) es
+    pub many : ℕ
+    pub raised : CountIs (Affects c (y ∷ [])) (all_named js) many
+    pub rise : Rise r.work v many
+    pub same : IsFalse (encodes false (Make y)) → v ≡ r.work
 
   pub done_now : {k : Margin} {y : Change} {later : RoadMap} {js : List Item} {es : List replies.Entry} {v : Work} {q : Reply} →
       IsMadeNow k y later js es v → reply_of q ≡ replies.Paths es → Answered x (Make y) (Ok q) (of_parts k later js r.batch v)
@@ -186,8 +186,8 @@ module _ (r : Inside) {x : Registered} (view : of_parts r.margin r.roads (items 
       };
     }
 
-    pub margin_made : {k : Margin} → IsTrue (is_margin k) → {t : ChangeSet} → changed_of t ≡ [] → {js : List Item} {n : Renewed} →
-        IsRenewal k M t is (to_renew true is) js n →
+    pub margin_made : {k : Margin} → IsTrue (is_margin k) → {t : ChangeSet} → changed_of t ≡ [] →
+        {js : List Item} {n : Renewed} → IsRenewal k M t is (to_renew true is) js n →
         IsMadeNow k (Set_margin k) r.roads js (entries_of n) (raised_work r.work n.work)
     margin_made {k} most {t} idle {js} {n} renewal =
         let count = renewal.counted M (can_set g k most M is t idle right.register.content).before in
@@ -196,7 +196,8 @@ module _ (r : Inside) {x : Registered} (view : of_parts r.margin r.roads (items 
           ok = rw (renewal.named, named_to_renew true is) refl;
           placed = most;
           made = made;
-          differ = planned_changes g k M M is js (entries_of n) right.register.content right.register.made made renewal.reported;
+          differ = planned_changes g k M M is js (entries_of n) right.register.content right.register.made made
+              renewal.reported;
           many = count.0;
           raised = rw renewal.named (counted_all k M (nodes_of t) (lines_of t) c (Set_margin k ∷ []) is count.0 count.1
               (given_all k [] is));

@@ -87,8 +87,8 @@ are_paths : (is : List Item) → ArePaths (all_named is) → AllByRecursion (λ 
 are_paths [] p = tt
 are_paths (i ∷ is) p = (p.0, are_paths is p.1)
 
-pub is_before : (g : Margin) → IsTrue (is_margin g) → (M N : Map) (T X : List ℕ) (C : List ChangedLine) (is : List Item) → AreTouched M N T X C → IsMap M →
-    ArePaths (all_named is) → AreEncodingsIfAny g M is → IsBefore g M N T X C is
+pub is_before : (g : Margin) → IsTrue (is_margin g) → (M N : Map) (T X : List ℕ) (C : List ChangedLine) (is : List Item) →
+    AreTouched M N T X C → IsMap M → ArePaths (all_named is) → AreEncodingsIfAny g M is → IsBefore g M N T X C is
 is_before g most M N T X C is touched sound paths made =
     record {
       margin = most;

@@ -2,7 +2,7 @@
 --     path_by p, change_of c      the path of these parts;  the change, in terms of commands
 --     AreGiven xs hs      `given` is true for the paths that one of the changes gives
 --     MayReport taking fault      the first fault, or out of memory where no fault takes precedence over it
---     IsMade g h old new ks ls s t x      the change leads from the first margin, map, list and what edits touched to the second
+--     IsMade g h old new ks ls s t x      the change leads from the first margin, map, list and touched set to the second
 --     StaysUnderWay old new b d      bounds that are under way on the old map, but for what batch b touched, are so on the
 --         new map, but for what batch d touched
 --     Makes old new is b d x result      it is made, or it is rejected and the batch is unchanged

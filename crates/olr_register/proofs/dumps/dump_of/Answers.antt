@@ -4,10 +4,12 @@ use Rattle.olr_register.proofs.DumpTexts.{dump_text, keys_there, texts_at}
 use Rattle.olr_register.proofs.dumps.dump_of.Goals as goal
 
 pub push_nodes-requires-clause-there : goal.push_nodes-requires-clause-there
-push_nodes-requires-clause-there c = rw (c.deref.ensures.value, c.in_ok-nodes.ensures) (keys_there (map_of c.args.roads.now).nodes)
+push_nodes-requires-clause-there c =
+    rw (c.deref.ensures.value, c.in_ok-nodes.ensures) (keys_there (map_of c.args.roads.now).nodes)
 
 pub push_lines-requires-clause-there : goal.push_lines-requires-clause-there
-push_lines-requires-clause-there c = rw (c.deref-2.ensures.value, c.in_ok-lines.ensures) (keys_there (map_of c.args.roads.now).lines)
+push_lines-requires-clause-there c =
+    rw (c.deref-2.ensures.value, c.in_ok-lines.ensures) (keys_there (map_of c.args.roads.now).lines)
 
 pub returns : goal.returns
 returns c =

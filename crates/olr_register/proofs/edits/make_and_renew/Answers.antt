@@ -43,7 +43,8 @@ renew-renewed-requires c =
     rw (c.new-none.ensures (items c.args.paths.now)) (record {
       renewable = (map_of old, can);
       bounded = bounds_edited old new slots
-          (is_edit old new slots (edit_of c.args.judged.edit) done (nodes_of c.args.judged.touched.now) can.before.difference.nodes)
+          (is_edit old new slots (edit_of c.args.judged.edit) done (nodes_of c.args.judged.touched.now)
+          can.before.difference.nodes)
           c.requires.bounded;
     })
 

@@ -25,5 +25,7 @@ pub returns : goal.returns
 returns c =
     let node = record_line (node_change (c.args.id, coord_at (map_of c.self.inside.roads) c.args.id)) in
     let text = rw (c.new-text.ensures.items, ← append-nil node) at c.in_ok-push_node.ensures in
-    shut_answered c.self.inside c.self.view_is c.if-is_some.ensures refl
-    (rw (sym c.is_recordable_place.ensures ∙ c.if-not-is_recordable_place.false, ← c.node.ensures, c.is_none.ensures, c.if-is_none.false), λ i. Records 1 (text i))
+    shut_answered c.self.inside c.self.view_is c.if-is_some.ensures refl (
+      rw (sym c.is_recordable_place.ensures ∙ c.if-not-is_recordable_place.false, ← c.node.ensures, c.is_none.ensures, c.if-is_none.false),
+      λ i. Records 1 (text i),
+    )
