@@ -3,11 +3,11 @@ use Rattle.olr_register.proofs.Common.{◌≡◌, ◌∙◌, ◌+◌, ℕ, List,
 use Rattle.olr_register.proofs.Common.{State, start_state, SoundOutcome, CommandFault, Registered, length-append, map_push}
 use Rattle.olr_register.proofs.Common.{run_more, command_of, outcome_of, Applied, nothing_registered, Represents}
 use Rattle.olr_commands.specs.History.{Whole}
-use Rattle.olr_commands.specs.declared.command.Command.{Command as Asked}
+use Rattle.olr_commands.specs.declared.command.Command.{Command as Given}
 use Rattle.olr_commands.specs.declared.reply.Reply.{Reply as Answered}
 
 -- a register in the state to which the commands lead with these answers
-abbrev pub HasRun : Registered → List Asked → List (Result Answered CommandFault) → Type 0
+abbrev pub HasRun : Registered → List Given → List (Result Answered CommandFault) → Type 0
 HasRun x cs rs =
     (t : State) × Represents x.state t × Whole SoundOutcome start_state (map command_of cs) (map outcome_of rs) t
 
@@ -15,7 +15,7 @@ pub run_starts : (x : Registered) (rs : List (Result Answered CommandFault)) →
     HasRun x [] rs
 run_starts x rs new none = rw (new, none) (start_state, (refl, tt), (refl, refl))
 
-pub run_continues : (x y : Registered) (cs : List Asked) (c : Asked) (rs ss : List (Result Answered CommandFault))
+pub run_continues : (x y : Registered) (cs : List Given) (c : Given) (rs ss : List (Result Answered CommandFault))
     (r : Result Answered CommandFault) → HasRun x cs rs → Applied x (command_of c) (outcome_of r) y →
     IsContent y.state.content → ss ≡ rs ++ r ∷ [] → HasRun y (cs ++ c ∷ []) ss
 run_continues x y cs c rs ss r run applied sound more =

@@ -195,7 +195,7 @@ fn dump_of(
 }
 
 impl Register {
-    ghost use Rattle.olr_commands.specs.State.{Dump as Asked};
+    ghost use Rattle.olr_commands.specs.State.{Dump as Dumps};
     ghost use Rattle.olr_register.specs.Answered.{Answered};
 
     /// The records that build the register from an empty one: its margin, if it has one, its nodes and its lines, each in
@@ -203,7 +203,7 @@ impl Register {
     /// precedence.
     #[inline(never)]
     pub fn dump(&self) -> Result<Reply, CommandFault>
-        ensures { Answered self.now Asked result self.now }
+        ensures { Answered self.now Dumps result self.now }
     {
         if self.batch.is_some() {
             return Err(CommandFault::BatchOpen);

@@ -159,7 +159,7 @@ fn put_listed<M: MapRead>(
 ) -> Result<(), AllocError>
     ensures changed { OnOk result
         (FindsChanged (overlay_changes overlaid.entry.overlay.now) (items overlaid.entry.list.now) found.new.items) }
-    ensures asked { OnOk result
+    ensures listed { OnOk result
         (CoversSearched (M.map map.now) (M.node_slot map.now) touched.now near.now (items overlaid.entry.list.now)
         found.new.items) }
 {

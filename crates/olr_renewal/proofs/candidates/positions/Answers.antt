@@ -28,7 +28,7 @@ returns g c =
       covers = covers_more N (nodes_of t) (lines_of t) (shown_items l) two c.dedup.new.self.items
           (λ v. (once_has two sorted c.dedup.new.self.items c.sort_unstable.ensures.permutation once v).1)
           (covers_overlaid cs is ys l.none_removed N slot t s two
-          (covers_grown N slot t s is one two grown c.in_ok-put_listed.ensures.asked)
+          (covers_grown N slot t s is one two grown c.in_ok-put_listed.ensures.listed)
           (changed_grown cs is one two grown c.in_ok-put_listed.ensures.changed)
           (λ k low high. c.in_ok-put_range.ensures.put k (omega arith) (omega arith)) c.requires);
     }
