@@ -1,8 +1,8 @@
 //! A register with its last reply.
 
 ghost use Rattle.std.specs.Prelude.{◌≡◌};
-ghost use Rattle.olr_c.specs.Asked.{Asked, IsNew};
-ghost use Rattle.olr_c.specs.Asked as asked;
+ghost use Rattle.olr_c.specs.Called.{Called, IsNew};
+ghost use Rattle.olr_c.specs.Called as called;
 
 use olr_register::Register;
 use olr_run::{RunFault, Scratch, Status, run_bytes};
@@ -34,7 +34,7 @@ impl Keep {
     /// Carries out records, and stores their replies as the last reply. Returns 0 if all were accepted, 1 if some were
     /// rejected, and 4 if an allocation failed before the last one was answered.
     pub fn ask(&mut self, alloc: Global, records: &[u8]) -> u8
-        ensures { Asked self.old.register records.now self.new.register self.new.reply.items result }
+        ensures { Called self.old.register records.now self.new.register self.new.reply.items result }
     {
         self.reply.clear();
         let ended = run_bytes(
@@ -51,7 +51,7 @@ impl Keep {
 
 /// The status that is returned to C for a run.
 fn code_of(ended: &Result<Status, RunFault>) -> u8
-    ensures { result ≡ asked.code_of ended.now }
+    ensures { result ≡ called.code_of ended.now }
 {
     match ended {
         Ok(Status::AllAccepted) => 0,

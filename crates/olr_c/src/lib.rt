@@ -8,7 +8,7 @@ mod owned;
 
 ghost use Rattle.std.specs.Prelude.{◌≡◌, ◌≢◌, ◌++◌, ◌≤◌, ◌<◌, length, take, drop, None, Some, IsSomeAnd, MatchOption};
 ghost use Rattle.std.specs.Vec.{vec_ptr};
-ghost use Rattle.olr_c.specs.Asked.{AskedOf, IsNew};
+ghost use Rattle.olr_c.specs.Called.{CalledOf, IsNew};
 
 use crate::handle::{Handle, put, taken};
 use crate::keep::Keep;
@@ -51,7 +51,7 @@ pub extern "C" fn olr_c_drop(alloc: Global, handle: &mut Handle)
 /// Carries out records, usually one, with or without its line end.
 #[unsafe(no_mangle)]
 pub extern "C" fn olr_c_ask(alloc: Global, handle: &mut Handle, records: &[u8]) -> u8
-    ensures { AskedOf handle.old.owned.keep records.now handle.new.owned.keep result }
+    ensures { CalledOf handle.old.owned.keep records.now handle.new.owned.keep result }
 {
     let Some(mut keep) = taken(alloc, handle) else {
         return NO_REGISTER;

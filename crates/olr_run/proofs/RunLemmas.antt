@@ -14,8 +14,8 @@ command_claims s t (Ok c) o sound h = search (rules, arith, outcome_leads, is_na
 command_claims s t (Err f) (Ok reply) sound h = absurd (let no = h.0 in cc)
 command_claims s t (Err f) (Err g) sound h = grind arith
 
-lacking_claims : (s t : State) (asked : Option Command) (o : Outcome) → IsContent t.content → OutOfMemory s o t →
-    Claimed s asked o t
+lacking_claims : (s t : State) (given : Option Command) (o : Outcome) → IsContent t.content → OutOfMemory s o t →
+    Claimed s given o t
 lacking_claims s t None o sound h = grind arith
 lacking_claims s t (Some c) o sound h = grind arith
 

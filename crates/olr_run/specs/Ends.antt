@@ -4,7 +4,7 @@
 --     WithoutLog      a run without a log, from the empty register
 --     FromLog, WithLog      a run from a log that was opened; or that could not be opened
 --     NoSources      why what the arguments ask for can't be begun
---     AskedEnds, Ends      the end by what the arguments ask for, and by the arguments
+--     EndsBy, Ends      the end by the options, and by the arguments
 use Rattle.std.specs.Prelude.{◌≡◌, ◌⊎◌, ℕ, Bool, true, false, not, ◌&&◌, ◌||◌, List, [], Option, Some, None, Result, Ok, Err}
 use Rattle.std.specs.Prelude.{is_ok, is_some, if◌then◌else◌, IsTrue}
 use Rattle.clap.specs.Faults.{fault_of}
@@ -61,12 +61,12 @@ run_code ended in_batch = if is_ok ended && in_batch then 6 else exit_code ended
 abbrev pub lacks_log : Options → Bool
 lacks_log o = not (is_some o.log) && (o.new || is_some o.compact_at)
 
--- what is asked for can't be begun
-pub data NoSources (Opened : List ℕ → Option Known → Type 0) (asked : Options) (code : ℕ) : Type 0 where
-  Log_lacking : lacks_log asked ≡ true → code ≡ 2 → NoSources Opened asked code
-  Not_opened : (name : List ℕ) → asked.file ≡ Some name → Opened name None → code ≡ 3 → NoSources Opened asked code
-  No_size : (text : List ℕ) → asked.compact_at ≡ Some text → NoSize text → code ≡ 2 → NoSources Opened asked code
-  No_memory : code ≡ 4 → NoSources Opened asked code
+-- what the options say can't be begun
+pub data NoSources (Opened : List ℕ → Option Known → Type 0) (options : Options) (code : ℕ) : Type 0 where
+  Log_lacking : lacks_log options ≡ true → code ≡ 2 → NoSources Opened options code
+  Not_opened : (name : List ℕ) → options.file ≡ Some name → Opened name None → code ≡ 3 → NoSources Opened options code
+  No_size : (text : List ℕ) → options.compact_at ≡ Some text → NoSize text → code ≡ 2 → NoSources Opened options code
+  No_memory : code ≡ 4 → NoSources Opened options code
 
 module _ {D F : Type 0} {d : disk.Ghosts D} {f : folder.Ghosts F D} where
   -- the result of opening a log of this name, or of making it
@@ -105,19 +105,19 @@ module _ {D F : Type 0} {d : disk.Ghosts D} {f : folder.Ghosts F D} {W : Type 0}
   module _ (Opened : List ℕ → Option Known → Type 0)
       (OpenedLog : List ℕ → Bool → Result (LogFile D F d f) OpenError → Type 0) (input : Known) (o p : Buffered W)
       (left : Option (LogFile D F d f)) (code : ℕ) where
-    -- a log is left only if the file that is asked for was opened, and the size is one
-    pub data AskedEnds (asked : Options) : Type 0 where
-      Without_sources : NoSources Opened asked code → p ≡ o → left ≡ None → AskedEnds asked
-      Without : asked.log ≡ None → (file : Known) → IsFile asked.file Opened file → left ≡ None →
-          WithoutLog asked.stop (records_read asked.lines file input) (written contents o) (written contents p) code
-          → AskedEnds asked
-      With : (name : List ℕ) → asked.log ≡ Some name → (file : Known) → IsFile asked.file Opened file → (least : ℕ) →
-          IsLength asked.compact_at (Some least) → (opened : Result (LogFile D F d f) OpenError) →
-          OpenedLog name asked.new opened
-          → WithLog opened left least asked.stop (records_read asked.lines file input) o p code → AskedEnds asked
+    -- a log is left only if the file that is named was opened, and the size is one
+    pub data EndsBy (options : Options) : Type 0 where
+      Without_sources : NoSources Opened options code → p ≡ o → left ≡ None → EndsBy options
+      Without : options.log ≡ None → (file : Known) → IsFile options.file Opened file → left ≡ None →
+          WithoutLog options.stop (records_read options.lines file input) (written contents o) (written contents p) code
+          → EndsBy options
+      With : (name : List ℕ) → options.log ≡ Some name → (file : Known) → IsFile options.file Opened file → (least : ℕ) →
+          IsLength options.compact_at (Some least) → (opened : Result (LogFile D F d f) OpenError) →
+          OpenedLog name options.new opened
+          → WithLog opened left least options.stop (records_read options.lines file input) o p code → EndsBy options
 
     -- a run is made only if the arguments have no fault
     pub data Ends (arguments : List (List ℕ)) : Type 0 where
       Explained : Explains (fault_of keep_app arguments) (written contents o) (written contents p) code → left ≡ None →
           Ends arguments
-      Carried_out : fault_of keep_app arguments ≡ [] → AskedEnds (options arguments) → Ends arguments
+      Carried_out : fault_of keep_app arguments ≡ [] → EndsBy (options arguments) → Ends arguments

@@ -31,9 +31,9 @@ Shows text before later (Err fault.Write) = AddsFront text before later
 Shows text before later (Err fault.Memory) = later ≡ before
 Shows text before later (Err e) = ⊥
 
--- by the status: what was asked for is written, as above, with 0, 3 and 4; a fault has status 2, and out of memory 4
+-- by the status: help or the version is written, as above, with 0, 3 and 4; a fault has status 2, and out of memory 4
 abbrev pub ExplainsFault : {D : Type 0} → (D → Known) → OptionsFault D → Known → Known → ℕ → Type 0
-ExplainsFault output (opts.Asked e) before later code =
+ExplainsFault output (opts.Help e) before later code =
     (Adds (output e) before later × (code ≡ 0)) ⊎ (AddsFront (output e) before later × (code ≡ 3))
     ⊎ ((later ≡ before) × (code ≡ 4))
 ExplainsFault output (opts.Wrong e) before later code = (later ≡ before) × (code ≡ 2)

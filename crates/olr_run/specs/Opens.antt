@@ -12,11 +12,11 @@ abbrev pub Opens : {O F E : Type 0} → Once O (Bor (List ℕ) × Unit {0}) (Res
 Opens {O} {F} {E} call remaining opener name opened =
     (r : Result F E) × FnOnceReturnsAt call opener name r × (option_map remaining (result_ok r) ≡ opened)
 
--- the bytes of the file that is asked for, or no bytes if none is
+-- the bytes of the file that is named, or no bytes if none is
 abbrev pub IsFile : Option (List ℕ) → (List ℕ → Option Known → Type 0) → Known → Type 0
-IsFile asked Opened file = MatchOption asked (file ≡ Some []) (λ name. Opened name (Some file))
+IsFile named Opened file = MatchOption named (file ≡ Some []) (λ name. Opened name (Some file))
 
--- the result of opening the file that is asked for, if there is one
+-- the result of opening the file that is named, if there is one
 abbrev pub OpensFile : {O F E : Type 0} → Once O (Bor (List ℕ) × Unit {0}) (Result F E) → O → Option (List ℕ) →
     Result (Option F) E → Type 0
 OpensFile call opener None (Ok None) = Unit {0}

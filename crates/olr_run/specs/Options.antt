@@ -2,7 +2,7 @@
 --     keep_app      the program's arguments, -m FILE, -s, --lines, -l LOG, --new and --compact-at SIZE, beside the flags for
 --         help and the version
 --     Options, options arguments      what they ask for, by clap's matches of the arguments
---     is_asked_for kind      the error is no fault: help or the version was asked for
+--     is_help kind      the error is no fault: help or the version is wanted
 --     IsOptionsFault kinds fault      clap's error is of one of these kinds, or an allocation failed
 use Rattle.std.specs.Prelude.{◌≡◌, ℕ, Bool, true, false, List, Option, Some, None, option_map, codes, ⊤}
 use Rattle.std.specs.Str.{bytes_eq}
@@ -16,7 +16,7 @@ use Rattle.clap.specs.declared.error.kind.ErrorKind.{ErrorKind}
 use Rattle.clap.specs.declared.error.kind.ErrorKind.TheVariants as kind
 use Rattle.olr_run.specs.declared.arguments.Options.{Options as Arguments}
 use Rattle.olr_run.specs.declared.arguments.OptionsFault.{OptionsFault}
-use Rattle.olr_run.specs.declared.arguments.OptionsFault.TheVariants.{Asked, Wrong, Memory}
+use Rattle.olr_run.specs.declared.arguments.OptionsFault.TheVariants.{Help, Wrong, Memory}
 
 abbrev pub described_app : App
 described_app = on_top (λ s. record s { has_version = true }) (new_app (codes "olr-keep"))
@@ -28,7 +28,7 @@ value_rule id = record (new_rule id) { action = Some Set; value_names = 1 }
 abbrev pub flag_rule : List ℕ → Rule
 flag_rule id = record (new_rule id) { action = Some SetTrue }
 
--- the same, asked for by a letter, or by a long name
+-- the same, by a letter, or by a long name
 abbrev pub with_short : ℕ → Rule → Rule
 with_short letter r = record r { short = Some letter }
 
@@ -84,13 +84,13 @@ options_of o =
       compact_at = option_map (λ s. s.now) o.compact_at;
     }
 
--- help and the version are asked for; the other kinds are faults
-abbrev pub is_asked_for : ErrorKind → Bool
-is_asked_for kind.DisplayHelp = true
-is_asked_for kind.DisplayVersion = true
-is_asked_for _ = false
+-- help and the version are wanted; the other kinds are faults
+abbrev pub is_help : ErrorKind → Bool
+is_help kind.DisplayHelp = true
+is_help kind.DisplayVersion = true
+is_help _ = false
 
 abbrev pub IsOptionsFault : Kinds → OptionsFault Error → Type 0
-IsOptionsFault kinds (Asked e) = IsAmong (kind_of e) kinds × (is_asked_for (kind_of e) ≡ true)
-IsOptionsFault kinds (Wrong e) = IsAmong (kind_of e) kinds × (is_asked_for (kind_of e) ≡ false)
+IsOptionsFault kinds (Help e) = IsAmong (kind_of e) kinds × (is_help (kind_of e) ≡ true)
+IsOptionsFault kinds (Wrong e) = IsAmong (kind_of e) kinds × (is_help (kind_of e) ≡ false)
 IsOptionsFault kinds Memory = ⊤

@@ -3,7 +3,7 @@
 --         byte, and all of the text
 --     IsSize text n      a text names this number of bytes, from 1 on and of 64 bits at most: a decimal number, perhaps behind a
 --         plus sign, of such units
---     IsLength asked length      the least length of a log that is compacted, if what was asked for is a size
+--     IsLength size length      the least length of a log that is compacted, if the option is a size
 use Rattle.std.specs.Prelude.{◌≡◌, ◌*◌, ◌-◌, ◌^◌, ◌<◌, ◌==◌, ℕ, List, Option, Some, None, take, length, slice_index}
 use Rattle.std.specs.Prelude.{if◌then◌else◌, MatchOption}
 use Rattle.std.specs.Str.Parse.{IsNumeral, digits_value, without_leading_plus}

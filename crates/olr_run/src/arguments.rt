@@ -20,8 +20,8 @@ pub struct Options<'a> {
 /// Why arguments give no options. The text for the user is that of the error.
 #[derive(Drop)]
 pub enum OptionsFault<D: Drop> {
-    /// Help or the version was asked for.
-    Asked(D),
+    /// Help or the version is wanted.
+    Help(D),
     /// An argument is invalid.
     Wrong(D),
     /// Out of memory.

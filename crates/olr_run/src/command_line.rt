@@ -104,7 +104,7 @@ fn rejected(error: Error) -> OptionsFault<Error>
     if error.use_stderr() {
         return OptionsFault::Wrong(error);
     }
-    OptionsFault::Asked(error)
+    OptionsFault::Help(error)
 }
 
 /// Reads the command-line arguments, the first of which is the program's own name. Arguments that the definition

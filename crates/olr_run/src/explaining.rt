@@ -51,7 +51,7 @@ pub fn explain<D: Display + Drop, W: Write + Drop, E: Write>(
             let _ = write!(errors, "{error}");
             WRONG_ARGUMENTS
         }
-        OptionsFault::Asked(error) => match show(alloc, error, output) {
+        OptionsFault::Help(error) => match show(alloc, error, output) {
             Ok(()) => 0,
             Err(fault) => report_fault(fault, errors),
         },

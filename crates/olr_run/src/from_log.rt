@@ -160,9 +160,9 @@ fn report_begun<E: Write>(
     );
 }
 
-/// What is asked of a run with a log.
+/// A run with a log, as the options have it.
 #[derive(Clone, Copy)]
-pub(crate) struct Asked<'a> {
+pub(crate) struct LogRun<'a> {
     /// The log.
     pub(crate) name: &'a str,
     /// Whether to stop at the first rejected record.
@@ -202,41 +202,41 @@ pub trait OpenLog<D: Disk, G: Folder<D>> {
 /// Returns the exit status, and the log as it was left.
 pub(crate) fn with_log<D: Disk + Drop, G: Folder<D>, S: Source + Drop, W: Write + Drop, E: Write>(
     alloc: Global,
-    asked: &Asked<'_>,
+    run: &LogRun<'_>,
     opened: Result<LogFile<D, G>, OpenError>,
     source: S,
     output: &mut Buffered<W>,
     errors: &mut E,
 ) -> (u8, Option<LogFile<D, G>>)
     ensures ends { (records : Records) → IfSome records (S.left source) →
-        WithLog W.contents opened result.1 asked.now.from.bytes asked.now.stop records output.old output.new result.0 }
+        WithLog W.contents opened result.1 run.now.from.bytes run.now.stop records output.old output.new result.0 }
     ensures bounded { result.0 ≤ 7 }
     ensures sent { (result.0 ≤ 1) ⊎ (result.0 ≡ 6) → pending output.new ≡ [] }
     ensures lacks { length (pending output.new) ≤ most_pending }
 {
     let mut log = match opened {
         Ok(log) => log,
-        Err(error) => return (report_unopened(asked.name, error, errors), None),
+        Err(error) => return (report_unopened(run.name, error, errors), None),
     };
     let was_cut_off = log.is_padded();
-    let (mut register, records) = match begin_with(alloc, &mut log, asked.from) {
+    let (mut register, records) = match begin_with(alloc, &mut log, run.from) {
         Ok(begun) => begun,
-        Err(fault) => return (report_start(asked.name, fault, errors), Some(log)),
+        Err(fault) => return (report_start(run.name, fault, errors), Some(log)),
     };
-    report_begun(asked.name, records, register.len(), was_cut_off, errors);
+    report_begun(run.name, records, register.len(), was_cut_off, errors);
     let (ended, gate) = run_with_log(
         alloc,
         &mut register,
         source,
         log,
-        asked.from,
+        run.from,
         output,
-        asked.stop,
+        run.stop,
     );
     let fault = gate.fault();
     let in_batch = register.is_open();
     mem::forget(register);
     let log = close_log(&ended, gate);
-    let status = log_status(asked.name, ended, fault, in_batch, errors);
+    let status = log_status(run.name, ended, fault, in_batch, errors);
     (status, Some(log))
 }

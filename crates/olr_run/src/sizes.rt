@@ -42,7 +42,7 @@ fn size(text: &str) -> Option<usize>
     count.checked_mul(unit)
 }
 
-/// The least length of a log that is compacted. It comes from what was asked for, and from nowhere else.
+/// The least length of a log that is compacted. It comes from an option, and from nowhere else.
 #[derive(Clone, Copy)]
 pub struct CompactionLength {
     bytes: usize,
@@ -57,11 +57,11 @@ impl CompactionLength {
     }
 }
 
-/// The least length of a log that is compacted; none is if no size was asked for. None if what was asked for is no size.
-pub fn compaction_length(asked: Option<&str>) -> Option<CompactionLength>
-    ensures { IsLength (option_map (λ text. text.now) asked.entry) (option_map (λ l. l.bytes) result) }
+/// The least length of a log that is compacted; none is if no size is given. None if what is given is no size.
+pub fn compaction_length(chosen: Option<&str>) -> Option<CompactionLength>
+    ensures { IsLength (option_map (λ text. text.now) chosen.entry) (option_map (λ l. l.bytes) result) }
 {
-    let bytes = match asked {
+    let bytes = match chosen {
         Some(text) => size(text)?,
         None => usize::MAX,
     };

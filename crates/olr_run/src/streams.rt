@@ -14,7 +14,7 @@ use crate::arguments::Options;
 use crate::command_line::options;
 use crate::explaining::{WRONG_ARGUMENTS, explain};
 use crate::files::open_file;
-use crate::from_log::{Asked, OpenLog, with_log};
+use crate::from_log::{LogRun, OpenLog, with_log};
 use crate::inputs::both_sources;
 use crate::logged::end_sent;
 use crate::records::{Scratch, run_source};
@@ -66,36 +66,36 @@ fn without_log<S: Source + Drop, W: Write + Drop, E: Write>(
 /// of a log that is compacted; or the exit status, if that is reported to be impossible.
 fn sources<F: Read + Drop, O: FnOnce(&str) -> io::Result<F>, R: Read + Drop, E: Write>(
     alloc: Global,
-    asked: &Options<'_>,
+    options: &Options<'_>,
     open_records: O,
     input: R,
     errors: &mut E,
 ) -> Result<(Joined<Input<F>, Input<R>>, CompactionLength), u8>
     requires { O.IsAlwaysCallable open_records }
     ensures left { IfOk result (λ r. (file : Known)
-        × IsFile (options_of asked.now).file (Opens O.FnOnce F.remaining open_records) file
-        × IfSome (records_read asked.now.lines file (R.remaining input))
+        × IsFile (options_of options.now).file (Opens O.FnOnce F.remaining open_records) file
+        × IfSome (records_read options.now.lines file (R.remaining input))
         (JoinedLeft (InputLeft F.remaining) (InputLeft R.remaining) r.0.first r.0.second)
-        × IsLength (options_of asked.now).compact_at (Some r.1.bytes)) }
-    ensures refused { IfErr result (NoSources (Opens O.FnOnce F.remaining open_records) (options_of asked.now)) }
+        × IsLength (options_of options.now).compact_at (Some r.1.bytes)) }
+    ensures refused { IfErr result (NoSources (Opens O.FnOnce F.remaining open_records) (options_of options.now)) }
     ensures status { IfErr result (λ code. (2 ≤ code) × (code ≤ 4)) }
     ensures quiet { IfOk result (λ _. errors.new ≡ errors.old) }
 {
-    if lacks_log(asked) {
+    if lacks_log(options) {
         let _ = errors.write_all(b"olr-keep: --new and --compact-at need -l LOG\n");
         return Err(WRONG_ARGUMENTS);
     }
-    let Ok(file) = open_file(open_records, asked.file) else {
+    let Ok(file) = open_file(open_records, options.file) else {
         let _ = errors.write_all(b"olr-keep: cannot open the command file\n");
         return Err(NO_FILE);
     };
-    let Some(from) = compaction_length(asked.compact_at) else {
+    let Some(from) = compaction_length(options.compact_at) else {
         let _ = errors.write_all(
             b"olr-keep: --compact-at takes bytes, or a number with K, M or G, as 500M\n",
         );
         return Err(WRONG_ARGUMENTS);
     };
-    match both_sources(alloc, file, input, asked.lines) {
+    match both_sources(alloc, file, input, options.lines) {
         Ok(source) => Ok((source, from)),
         Err(_) => Err(report_fault(RunFault::Memory, errors)),
     }
@@ -105,7 +105,7 @@ fn sources<F: Read + Drop, O: FnOnce(&str) -> io::Result<F>, R: Read + Drop, E: 
 /// the file and then those of the input, and returns the exit status. With `--lines`, each line of both is one record. Without
 /// a log it begins with an empty register; with one it begins with what the log says, and stores each accepted change there
 /// before the answer is sent. No log is opened or made if the arguments can't be carried out. `open_log` opens the log of a
-/// name, or makes it if asked. Replies, and help if it was asked for, are written to `output`, and all of them have been sent
+/// name, or makes it if the options say so. Replies, and help if it is wanted, are written to `output`, and all of them have been sent
 /// if the status is 0, 1 or 6; otherwise the last ones may still be pending, at most 64 KB. Messages are written to `errors`.
 /// Returns also the log as it was left. The register is not dropped: its memory is left to the end of the process.
 pub fn program<
@@ -135,21 +135,24 @@ pub fn program<
     ensures lacks { length (pending output.new) ≤ most_pending }
     ensures quiet { (options (map S.text arguments.now)).log ≡ None → result.0 ≤ 1 → errors.new ≡ errors.old }
 {
-    let asked = match options(alloc, arguments) {
-        Ok(asked) => asked,
+    let options = match options(alloc, arguments) {
+        Ok(options) => options,
         Err(fault) => return (explain(alloc, &fault, output, errors), None),
     };
-    let (source, from) = match sources(alloc, &asked, open_records, input, errors) {
+    let (source, from) = match sources(alloc, &options, open_records, input, errors) {
         Ok(sources) => sources,
         Err(status) => return (status, None),
     };
-    let Some(name) = asked.log else {
-        return (without_log(alloc, source, asked.stop, output, errors), None);
+    let Some(name) = options.log else {
+        return (
+            without_log(alloc, source, options.stop, output, errors),
+            None,
+        );
     };
-    let opened = open_log.open(name, asked.new);
-    let run = Asked {
+    let opened = open_log.open(name, options.new);
+    let run = LogRun {
         name,
-        stop: asked.stop,
+        stop: options.stop,
         from,
     };
     with_log(alloc, &run, opened, source, output, errors)

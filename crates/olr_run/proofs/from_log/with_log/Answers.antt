@@ -21,7 +21,7 @@ returns-clause-ends g c = λ records begins.
       refl,
       Begun begun.0 c.begin_with.new.log c.in-Ok-begin_with.begun.0 r.new.register begun.1 r.result.0
           (closed_run g.W.Write.contents c.begin_with.new.log c.close_log-log.result c.args.output.now r.new.output r.result.1
-          r.result.0 after c.args.asked.now.stop c.in-Ok-begin_with.begun.0 r.new.register records (r.ensures.ended records begins))
+          r.result.0 after c.args.run.now.stop c.in-Ok-begin_with.begun.0 r.new.register records (r.ensures.ended records begins))
           r.result.1 r.ensures.length after
           (c.log_status-status.ensures.code ∙ ap (run_code r.result.0) c.is_open-in_batch.ensures),
     )

@@ -16,7 +16,7 @@ returns-in_default-clause-ends g c =
     Carried_out c.in-Ok.ensures.kinds
     (rw (← c.in-Ok.ensures.ok)
     (Without (rw c.in_default.is refl) s.0 s.1 refl
-    (c.without_log.ensures.ends (records_read c.in-Ok.asked.lines s.0 (g.R.Read.remaining c.args.input)) s.2)))
+    (c.without_log.ensures.ends (records_read c.in-Ok.options.lines s.0 (g.R.Read.remaining c.args.input)) s.2)))
 
 pub returns-clause-ends : goal.returns-clause-ends
 returns-clause-ends g c =
@@ -25,4 +25,4 @@ returns-clause-ends g c =
     (rw (← c.in-Ok.ensures.ok)
     (With c.in-Some.name.now (rw c.in-Some.is refl) s.0 s.1 c.in-Ok-sources.sources.1.bytes s.3 c.open-opened.result
     c.open-opened.ensures
-    (c.with_log.ensures.ends (records_read c.in-Ok.asked.lines s.0 (g.R.Read.remaining c.args.input)) s.2)))
+    (c.with_log.ensures.ends (records_read c.in-Ok.options.lines s.0 (g.R.Read.remaining c.args.input)) s.2)))

@@ -5,7 +5,7 @@ use Rattle.olr_run.proofs.Common.{NoSize}
 use Rattle.std.specs.Fn.{Once}
 use Rattle.olr_run.proofs.streams.sources.Goals as goal
 
--- ---- what was asked for
+-- ---- what the options say
 
 -- the bytes of the file that was opened
 module _ {O F E : Type 0} (call : Once O (Bor (List ℕ) × Unit {0}) (Result F E)) (remaining : F → Known)
@@ -22,7 +22,7 @@ module _ {O F E : Type 0} (call : Once O (Bor (List ℕ) × Unit {0}) (Result F 
   name_of None error h = absurd h
   name_of (Some n) error h = (n, refl, (Err error, h, refl))
 
-no_size : (asked : Option (List ℕ)) → IsLength asked None → (text : List ℕ) × (asked ≡ Some text) × NoSize text
+no_size : (size : Option (List ℕ)) → IsLength size None → (text : List ℕ) × (size ≡ Some text) × NoSize text
 no_size None h = absurd cc
 no_size (Some text) h = (text, refl, h)
 
@@ -31,13 +31,13 @@ returns-then-lacks_log-clause-refused g c = Log_lacking (sym c.lacks_log.ensures
 
 pub returns-in_default-clause-refused : goal.returns-in_default-clause-refused
 returns-in_default-clause-refused g c =
-    let n = name_of g.O.FnOnce g.F.Read.remaining c.args.open_records (options_of c.args.asked.now).file c.in_default.field-0
+    let n = name_of g.O.FnOnce g.F.Read.remaining c.args.open_records (options_of c.args.options.now).file c.in_default.field-0
     c.in_default.ensures in
     Not_opened n.0 n.1 n.2 refl
 
 pub returns-in_default-compaction_length-clause-refused : goal.returns-in_default-compaction_length-clause-refused
 returns-in_default-compaction_length-clause-refused g c =
-    let n = no_size (options_of c.args.asked.now).compact_at c.in_default-compaction_length.ensures in
+    let n = no_size (options_of c.args.options.now).compact_at c.in_default-compaction_length.ensures in
     No_size n.0 n.1 n.2 refl
 
 pub returns-in-Err-clause-refused : goal.returns-in-Err-clause-refused
@@ -46,7 +46,7 @@ returns-in-Err-clause-refused g c = No_memory c.report_fault.ensures
 pub returns-in-Ok-both_sources-clause-left : goal.returns-in-Ok-both_sources-clause-left
 returns-in-Ok-both_sources-clause-left g c = (
   file_bytes g.F.Read.remaining c.in-Ok.file,
-  file_is g.O.FnOnce g.F.Read.remaining c.args.open_records (options_of c.args.asked.now).file c.in-Ok.file c.in-Ok.ensures,
+  file_is g.O.FnOnce g.F.Read.remaining c.args.open_records (options_of c.args.options.now).file c.in-Ok.file c.in-Ok.ensures,
   c.in-Ok-both_sources.ensures,
   c.in-Some.ensures,
 )

@@ -1,8 +1,8 @@
 -- What the calls from C do to a register.
 --     code_of end      the status that is returned to C for a run
---     Asked old records new reply code      the records were carried out, and the reply has their outcomes' texts; or
+--     Called old records new reply code      the records were carried out, and the reply has their outcomes' texts; or
 --         an allocation failed, and it has the first bytes of these texts
---     AskedOf old records new code      the same for the register of a handle
+--     CalledOf old records new code      the same for the register of a handle
 --     IsNew keep      a register of an empty map and no paths, with an empty reply
 use Rattle.std.specs.Prelude.{◌≡◌, ℕ, false, List, [], Option, Some, None, Result, Ok, Err, IsSomeAnd}
 use Rattle.olr_register.specs.Registered.{Registered, nothing_registered}
@@ -19,15 +19,15 @@ code_of (Ok status.SomeRefused) = 1
 code_of (Ok status.Stopped) = 1
 code_of (Err fault) = 4
 
-abbrev pub Asked : Registered → List ℕ → Registered → List ℕ → ℕ → Type 0
-Asked old records new reply code =
+abbrev pub Called : Registered → List ℕ → Registered → List ℕ → ℕ → Type 0
+Called old records new reply code =
     (end : Result Status RunFault)
     × EndedOn Claims Claims false old (Some (records_of records)) (Some []) new (Some reply) end × (code ≡ code_of end)
 
-abbrev pub AskedOf : Option Keep → List ℕ → Option Keep → ℕ → Type 0
-AskedOf None records new code = (code ≡ 2) × (new ≡ None)
-AskedOf (Some old) records new code =
-    IsSomeAnd new (λ k. Asked old.register records k.register k.reply.items code)
+abbrev pub CalledOf : Option Keep → List ℕ → Option Keep → ℕ → Type 0
+CalledOf None records new code = (code ≡ 2) × (new ≡ None)
+CalledOf (Some old) records new code =
+    IsSomeAnd new (λ k. Called old.register records k.register k.reply.items code)
 
 abbrev pub IsNew : Keep → Type 0
 IsNew k = (k.register ≡ nothing_registered) × (k.reply.items ≡ [])
