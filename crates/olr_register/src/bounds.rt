@@ -3,10 +3,10 @@ ghost use Rattle.std.specs.Prelude.{◌≡◌, ℕ, List, [], Contains, IfOk, On
 ghost use Rattle.olr_map.specs.RoadMaps.{map_of, slot_of, CanUndoAll, map_before};
 ghost use Rattle.olr_paths.specs.Items.{Item, items};
 ghost use Rattle.olr_paths.specs.Origins.{AreNewQueries};
+ghost use Rattle.olr_renewal.specs.ChangeSets.{nodes_of, lines_of, changed_of};
 ghost use Rattle.olr_paths.specs.Overlaid.{under_overlay};
 ghost use Rattle.olr_renewal.specs.AffectedSearches.{AreBoundsOf};
 ghost use Rattle.olr_renewal.specs.Bounds.{IsUnderWay, IsSource};
-ghost use Rattle.olr_renewal.specs.ChangeSets.{nodes_of, lines_of, changed_of};
 ghost use Rattle.olr_renewal.specs.Reencoded.{AreRenewed};
 ghost use Rattle.olr_spec.specs.Map.{Map};
 ghost use Rattle.olr_spec.specs.Queries.{CoverageQuery as QueryRecord};

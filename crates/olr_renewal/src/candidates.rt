@@ -3,11 +3,11 @@ ghost use Rattle.std.specs.Prelude.{◌≡◌, ◌<◌, ◌≤◌, ℕ, [], Some
 ghost use Rattle.std.specs.List.Sorted.{IsStrictlyIncreasing};
 ghost use Rattle.olr_spec.specs.Map.{Map, has, has_node};
 ghost use Rattle.olr_paths.specs.PathIds.{path_ids_of};
+ghost use Rattle.olr_renewal.specs.Bounds.{IsEdit, IsRight, IsUnderWay};
 ghost use Rattle.olr_paths.specs.Items.{items};
 ghost use Rattle.olr_paths.specs.Overlaid.{overlay_changes};
 ghost use Rattle.olr_paths.specs.Origins.{Begins};
 ghost use Rattle.olr_paths.specs.Views.{shown_items};
-ghost use Rattle.olr_renewal.specs.Bounds.{IsEdit, IsRight, IsUnderWay};
 ghost use Rattle.olr_renewal.specs.ChangeSets.{nodes_of, lines_of};
 ghost use Rattle.olr_renewal.specs.AffectedSearches.{AreBoundsOf};
 ghost use Rattle.olr_renewal.specs.Candidates.{Includes, Finds, Covers, CoversSearched, FindsChanged};

@@ -1,7 +1,7 @@
 //! What is published of an encoding.
 ghost use Rattle.std.specs.Prelude.{◌≡◌, IfOk};
-ghost use Rattle.olr_spec.specs.Queries.{AreKnownWith};
 ghost use Rattle.olr_paths.specs.Items.{IsEncodingOf, made_of};
+ghost use Rattle.olr_spec.specs.Queries.{AreKnownWith};
 
 use olr_answers::KnownQuery;
 use olr_model::MapRead;
