@@ -218,9 +218,3 @@ pub fn plain_map(alloc: Global, last: u32, lines: &[Plain]) -> Result<RoadMap, E
 pub fn diamond(alloc: Global) -> Result<RoadMap, EditFault> {
     plain_map(alloc, 5, &DIAMOND)
 }
-
-/// A line from node 1 to itself, and two equally long ones to node 2. Node 3 has no lines.
-pub fn parallel(alloc: Global) -> Result<RoadMap, EditFault> {
-    let lines = [(1, 1, 1, 50), (3, 1, 2, 100), (2, 1, 2, 100)];
-    plain_map(alloc, 3, &lines)
-}

@@ -1,6 +1,6 @@
-//! Tests of the parts below the register: coordinates and degrees, numbers with path ids, the road map, coordinates along a
-//! line, sectors and bearings, distance bounds, labels and shortest paths, the encoding of paths, references as
-//! bytes and as text, their ambiguities, records, and the texts of replies and faults.
+//! Tests of the parts of the library, one for each public call: coordinates, degrees, the road map, bearings, labels and
+//! shortest paths, the encoding of paths, references as bytes and as text, their ambiguities, records, and the register;
+//! and of what no clause says, as how many searches an edit takes.
 #![tactic(auto)]
 
 #[cfg(test)]

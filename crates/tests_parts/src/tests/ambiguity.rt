@@ -51,13 +51,6 @@ fn expect_found(
 }
 
 #[test]
-fn nothing_stands_in_the_way_of_the_worked_path(rt: HostRuntime) -> Result<(), Fail> {
-    let map = map_of(rt.alloc(), WORKED)?;
-    expect_found(&rt, rt.alloc(), &map, &[])?;
-    Ok(())
-}
-
-#[test]
 fn a_twin_of_the_first_line_stands_in_the_way(rt: HostRuntime) -> Result<(), Fail> {
     let mut map = map_of(rt.alloc(), WORKED)?;
     let (_, from, to, frc, fow, len, bends) = FIRST;

@@ -85,24 +85,6 @@ fn three_points_are_read(rt: HostRuntime) -> Result<(), Fail> {
     Ok(())
 }
 
-#[test]
-fn two_points_are_read(rt: HostRuntime) -> Result<(), Fail> {
-    let reference = from_text(rt.alloc(), b"CwRbWyNG9RpsCQCb/jsaHA==")?;
-    same!(&rt; reference.first, FIRST);
-    assert!(rt; reference.middle.is_empty());
-    let last = Last {
-        dlon: 155,
-        dlat: -453,
-        frc: 3,
-        fow: 2,
-        bearing: 28,
-    };
-    same!(&rt; reference.last, last);
-    same!(&rt; reference.pos, None);
-    same!(&rt; reference.neg, None);
-    Ok(())
-}
-
 /// The fault of a text.
 fn fault_of(alloc: Global, text: &str) -> Option<TextFault> {
     from_text(alloc, text.as_bytes()).err()
@@ -131,77 +113,6 @@ fn other_texts_are_refused(rt: HostRuntime) {
     for (text, fault) in cases {
         same!(&rt; fault_of(rt.alloc(), text), Some(fault));
     }
-}
-
-#[test]
-fn bytes_cut_short(rt: HostRuntime) {
-    for len in 0..24 {
-        let fault = match len {
-            16 | 18 | 23 => V3Fault::Flags,
-            17 => V3Fault::Reserved,
-            _ => V3Fault::Length,
-        };
-        same!(&rt; read_v3(rt.alloc(), &THREE_POINTS[..len]).err(), Some(fault));
-    }
-}
-
-/// The fault of the bytes of the reference with three LRPs, with one bit changed.
-fn fault_with(alloc: Global, place: usize, bit: u8) -> Option<V3Fault>
-    requires { place < 24 }
-{
-    let mut bytes = THREE_POINTS;
-    bytes[place] ^= bit;
-    read_v3(alloc, &bytes).err()
-}
-
-#[test]
-fn single_bits_are_reported(rt: HostRuntime) {
-    for bit in [1, 2, 4, 8, 16, 32, 64, 128] {
-        same!(&rt; fault_with(rt.alloc(), 0, bit), Some(V3Fault::Status));
-    }
-    for bit in [32, 64] {
-        same!(&rt; fault_with(rt.alloc(), 22, bit), Some(V3Fault::Flags));
-    }
-    for bit in [64, 128] {
-        same!(&rt; fault_with(rt.alloc(), 7, bit), Some(V3Fault::Reserved));
-        same!(&rt; fault_with(rt.alloc(), 14, bit), Some(V3Fault::Reserved));
-        same!(&rt; fault_with(rt.alloc(), 21, bit), Some(V3Fault::Reserved));
-    }
-    same!(&rt; fault_with(rt.alloc(), 22, 128), Some(V3Fault::Reserved));
-    same!(&rt; fault_with(rt.alloc(), 8, 128), None);
-}
-
-#[test]
-fn offset_bytes_of_0_are_accepted(rt: HostRuntime) -> Result<(), Fail> {
-    let reference = from_text(rt.alloc(), b"CwRbWyNG9RpsCQCb/jsaXAA=")?;
-    same!(&rt; reference.pos, Some(0));
-    same!(&rt; reference.neg, None);
-    let text = to_text(rt.alloc(), &reference)?;
-    same!(&rt; text.as_str(), "CwRbWyNG9RpsCQCb/jsaXAA=");
-    Ok(())
-}
-
-#[test]
-fn fifty_points_and_both_offsets(rt: HostRuntime) -> Result<(), Fail> {
-    let mut bytes = Vec::new(rt.alloc());
-    bytes.extend_from_slice(&THREE_POINTS[..10])?;
-    for dlon in 0..48 {
-        bytes.extend_from_slice(&[0, dlon, 0xfe, 0x3b, 0x1b, 0xb4, 0x04])?;
-    }
-    bytes.extend_from_slice(&[0xff, 0xeb, 0xff, 0xa3, 0x2b, 0x79, 0xff, 0x01])?;
-    let reference = read_v3(rt.alloc(), &bytes)?;
-    same!(&rt; reference.first, FIRST);
-    same!(&rt; reference.middle.len(), 48);
-    same!(&rt; reference.middle.get(47).copied(), Some(Middle { dlon: 47, ..MIDDLE }));
-    same!(&rt; reference.last, LAST);
-    same!(&rt; reference.pos, Some(255));
-    same!(&rt; reference.neg, Some(1));
-    let written = write_v3(rt.alloc(), &reference)?;
-    same!(&rt; written.as_slice(), bytes.as_slice());
-    let text = to_text(rt.alloc(), &reference)?;
-    let again = from_text(rt.alloc(), text.as_bytes())?;
-    same!(&rt; again.middle.as_slice(), reference.middle.as_slice());
-    Ok(())
 }
 
 #[test]

@@ -1,4 +1,4 @@
-use made_maps::{Plain, line, lines, node, plain_map};
+use made_maps::{Plain, lines, node, plain_map};
 use olr_map::{Footprint, LineId};
 use olr_refs::{Path, PathFault, extend, passing, resolve};
 use std::alloc::{AllocError, Global};
@@ -118,31 +118,6 @@ fn paths(rt: HostRuntime) -> Result<(), Fail> {
     for numbers in [[].as_slice(), [10, 10].as_slice(), [10, 20, 10].as_slice()] {
         let fault = Path::new(alloc, lines(alloc, numbers)?, 0, 0).err();
         assert_eq!(rt; fault, Some(PathFault::BadPath));
-    }
-    let mut longest = Vec::new(alloc);
-    for number in 1..=10_000 {
-        longest.push(line(number))?;
-    }
-    let mut longer = Vec::from_slice(alloc, &longest)?;
-    longer.push(line(10_001))?;
-    assert!(rt; Path::new(alloc, longest, 0, 0).is_ok());
-    assert_eq!(rt;
-        Path::new(alloc, longer, 0, 0).err(),
-        Some(PathFault::BadPath)
-    );
-    Ok(())
-}
-
-#[test]
-fn unknown_lines(rt: HostRuntime) -> Result<(), Fail> {
-    let alloc = rt.alloc();
-    let map = plain_map(alloc, 2, &[(10, 1, 2, 1000), (20, 2, 1, 1000)])?;
-    let known = lines(alloc, &[10, 20])?;
-    assert!(rt; resolve(alloc, &map, &known)?.is_ok());
-    let unknown = lines(alloc, &[10, 40, 20, 30])?;
-    match resolve(alloc, &map, &unknown)? {
-        Ok(_) => panic!(rt; "lines 40 and 30 are not on the map"),
-        Err(first) => assert_eq!(rt; first, line(40)),
     }
     Ok(())
 }

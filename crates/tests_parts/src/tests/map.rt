@@ -3,13 +3,12 @@
 ghost use Rattle.std.specs.Prelude.{IsTrue};
 ghost use Rattle.olr_map.specs.RoadMaps.{CanUndoAll};
 
-use super::maps::edit;
 use crate::tests::same;
 use made_maps::{
-    Bend, FIRST, Road, STRAIGHT, WORKED, difference, line, map_of, new_node, node, place, shape,
+    Bend, Road, STRAIGHT, WORKED, difference, line, map_of, new_node, node, place,
 };
 use olr_map::{
-    Edit, EditFault, EditPlan, Footprint, Line, LineId, MapRead, NodeId, RoadMap, UndoLog, judge,
+    Edit, EditFault, Footprint, Line, LineId, MapRead, NodeId, RoadMap, UndoLog,
 };
 use std::alloc::{AllocError, Global};
 use std::process::Abort;
@@ -124,90 +123,6 @@ fn refuses_in_order(rt: HostRuntime) -> Result<(), Fail> {
 }
 
 #[test]
-fn refuses_new_lines_in_order(rt: HostRuntime) {
-    let bent: &[Bend] = &[(1500, 612_000, 4_960_000)];
-    for (road, fault) in [
-        ((99, 2, 3, 3, 2, 1500, STRAIGHT), EditFault::LineExists),
-        ((99, 9, 3, 3, 2, 0, STRAIGHT), EditFault::LineExists),
-        ((98, 9, 3, 3, 2, 0, STRAIGHT), EditFault::NoNode),
-        ((98, 3, 9, 3, 2, 1500, STRAIGHT), EditFault::NoNode),
-        ((98, 2, 3, 3, 2, 1500, bent), EditFault::BadShape),
-    ] {
-        let edit = new_line(&rt, rt.alloc(), road);
-        assert_refused(&rt, rt.alloc(), edit, fault);
-    }
-}
-
-#[test]
-fn refuses_other_lines_in_order(rt: HostRuntime) {
-    let twice: &[Bend] = &[(3, 612_000, 4_960_000), (3, 612_000, 4_960_000)];
-    let at_start: &[Bend] = &[(0, 612_000, 4_960_000)];
-    for (number, len, bends, fault) in [
-        (98, 0, STRAIGHT, EditFault::NoLine),
-        (99, 0, STRAIGHT, EditFault::BadShape),
-        (99, 9, twice, EditFault::BadShape),
-        (99, 9, at_start, EditFault::BadShape),
-    ] {
-        let edit = other_line(&rt, rt.alloc(), number, len, bends);
-        assert_refused(&rt, rt.alloc(), edit, fault);
-    }
-}
-
-#[test]
-fn lines_at_their_limits(rt: HostRuntime) -> Result<(), Fail> {
-    let alloc = rt.alloc();
-    for (frc, fow, len, points, good) in [
-        (7, 7, 1, 0, true),
-        (8, 7, 1, 0, false),
-        (7, 8, 1, 0, false),
-        (0, 0, 0, 0, false),
-        (0, 0, 1_000_000, 1000, true),
-        (0, 0, 1_000_000, 1001, false),
-        (0, 0, 1_000_001, 0, false),
-        (0, 0, 1001, 1000, true),
-        (0, 0, 1000, 1000, false),
-    ] {
-        let mut bends = Vec::new(alloc);
-        for at in 1..points + 1 {
-            bends.push((at, 0, 0))?;
-        }
-        let tried = Line {
-            from: node(1),
-            to: node(1),
-            frc,
-            fow,
-            len,
-            shape: shape(alloc, &bends)?,
-        };
-        assert_eq!(rt; tried.is_good(), good, "{frc} {fow} {len} {points}");
-    }
-    Ok(())
-}
-
-#[test]
-fn edits_are_made_and_undone(rt: HostRuntime) -> Result<(), Fail> {
-    let alloc = rt.alloc();
-    let mut map = base(&rt, alloc);
-    edit(&rt, &mut map, Edit::DropLine(line(10)));
-    edit(&rt, &mut map, Edit::DropNode(node(1)));
-    match map.apply(new_line(&rt, alloc, FIRST)) {
-        Ok(undo) => {
-            map.keep(undo);
-            panic!(rt; "node 1 is not there");
-        }
-        Err(fault) => same!(&rt; fault, EditFault::NoNode),
-    }
-    edit(
-        &rt,
-        &mut map,
-        Edit::AddNode(node(1), place(612_683, 4_960_852)),
-    );
-    edit(&rt, &mut map, new_line(&rt, alloc, FIRST));
-    assert_alike(&rt, &map, &base(&rt, alloc));
-    Ok(())
-}
-
-#[test]
 fn undo_takes_each_edit_back(rt: HostRuntime) -> Result<(), Fail> {
     let alloc = rt.alloc();
     let mut map = base(&rt, alloc);
@@ -303,33 +218,6 @@ fn a_log_keeps_all(rt: HostRuntime) -> Result<(), Fail> {
     map.undo_all(log);
     holds!(&rt; map.node(node(1)).is_some());
     holds!(&rt; map.node(node(2)).is_none());
-    Ok(())
-}
-
-/// Asserts that an edit of a line from node 2 to node 3 was judged correctly.
-fn assert_plan(rt: &impl Abort, map: &RoadMap, plan: &EditPlan, line: Option<LineId>, len: u32) {
-    same!(rt; plan.nodes, (node(2), node(3)));
-    same!(rt; Some(plan.slots.0), map.slot_of(node(2)));
-    same!(rt; Some(plan.slots.1), map.slot_of(node(3)));
-    same!(rt; plan.line, line);
-    same!(rt; plan.len, len);
-}
-
-#[test]
-fn judges_before_it_makes(rt: HostRuntime) -> Result<(), Fail> {
-    let alloc = rt.alloc();
-    let shorter = other_line(&rt, alloc, 20, 900, &[(100, 612_000, 4_960_000)]);
-    let longer = other_line(&rt, alloc, 20, 5000, STRAIGHT);
-    let mut map = base(&rt, alloc);
-    let mut log = UndoLog::new(alloc);
-    let plan = judge(&map, &shorter)?;
-    assert_plan(&rt, &map, &plan, Some(line(20)), 900);
-    map.make_into(shorter, &plan, &mut log)?;
-    // The length before the edit counts, since it is the shorter one.
-    let again = judge(&map, &longer)?;
-    assert_plan(&rt, &map, &again, Some(line(20)), 900);
-    map.undo_all(log);
-    assert_alike(&rt, &map, &base(&rt, alloc));
     Ok(())
 }
 

@@ -1,7 +1,7 @@
 //! Labels, shortest paths and unique shortest paths on small maps.
 ghost use Rattle.std.specs.Prelude.{◌≤◌};
 
-use made_maps::{STRAIGHT, WORKED, diamond, lines, make, map_of, node, other_line, parallel};
+use made_maps::{STRAIGHT, WORKED, diamond, lines, make, map_of, node, other_line};
 use olr_map::{Footprint, MapRead, NodeId, RoadMap};
 use olr_route::{GREATEST_LIMIT, Labels, Work, is_least, is_unique_shortest, search};
 use std::alloc::Global;
@@ -159,40 +159,5 @@ fn least_and_unique_routes(rt: HostRuntime) -> Result<(), Fail> {
         (&[6, 7, 9], (true, false)),
     ];
     assert_plan(&rt, rt.alloc(), &map, 1, &routes);
-    Ok(())
-}
-
-#[test]
-fn loops_and_parallel_lines(rt: HostRuntime) -> Result<(), Fail> {
-    let map = parallel(rt.alloc())?;
-    let start = (Some(0), None);
-    let second = (Some(100), Some(2));
-    same!(&rt; labels_within(&rt, rt.alloc(), &map, 1, GREATEST_LIMIT), [start, second, NONE, NONE]);
-    same!(&rt; labels_within(&rt, rt.alloc(), &map, 1, 0), [start, NONE, NONE, NONE]);
-    let routes = [
-        (&[1][..], (false, false)),
-        (&[2], (true, false)),
-        (&[3], (false, false)),
-    ];
-    assert_plan(&rt, rt.alloc(), &map, 1, &routes);
-    Ok(())
-}
-
-#[test]
-fn counts_end_at_the_greatest_number(rt: HostRuntime) -> Result<(), Fail> {
-    let map = map_of(rt.alloc(), WORKED)?;
-    let source = node(2);
-    assert!(rt; map.node(source).is_some());
-    let mut footprint = Footprint::new(rt.alloc());
-    let mut work = Work {
-        encodings: 7,
-        searches: u64::MAX,
-        settled: 0,
-    };
-    match search(rt.alloc(), &map, source, 150_000, &mut footprint, &mut work) {
-        Ok(labels) => same!(&rt; labels_of(&labels), FROM_SECOND),
-        Err(_) => panic!(rt; "no memory"),
-    }
-    same!(&rt; (work.encodings, work.searches, work.settled), (7, u64::MAX, 3));
     Ok(())
 }

@@ -32,18 +32,6 @@ pub(crate) fn add(
     Command::AddPath(name, lines, pos, 0)
 }
 
-/// The command that replaces the lines of a path, without offsets.
-pub(crate) fn change_path(rt: &impl Abort, alloc: Global, name: &str, numbers: &[u32]) -> Command {
-    let name = String::from_str(alloc, name).expect(rt, "memory");
-    let lines = lines(alloc, numbers).expect(rt, "memory");
-    Command::SetPath(name, lines, 0, 0)
-}
-
-/// The command that drops a path.
-pub(crate) fn drop_path(rt: &impl Abort, alloc: Global, name: &str) -> Command {
-    Command::DropPath(String::from_str(alloc, name).expect(rt, "memory"))
-}
-
 /// The command that adds the worked path.
 pub(crate) fn worked_path(rt: &impl Abort, alloc: Global) -> Command {
     add(rt, alloc, "a", &[10, 20, 30], 1500)

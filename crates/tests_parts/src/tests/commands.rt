@@ -1,13 +1,12 @@
 //! Commands over the worked map. The expected texts and counts do not come from the program.
 
 use super::worked::{
-    TEXT, WITH_TEXT, add, edits, ends, expect_encodings, expect_names, expect_reported,
-    expect_text, names, refuses, road, three_points,
+    TEXT, WITH_TEXT, add, ends, expect_names, expect_reported, expect_text, names, refuses, road,
+    three_points, with_finer_node,
 };
-use made_maps::{FIRST, SECOND, STRAIGHT, line, new_node, node, other_line, place, plain_line};
+use made_maps::{FIRST, new_node};
 use olr_commands::{Command, CommandFault, Reply};
-use olr_map::Edit;
-use olr_refs::{Answer, Refusal};
+use olr_refs::Answer;
 use olr_register::{Register, replay};
 use std::alloc::Global;
 use std::process::Abort;
@@ -24,6 +23,11 @@ fn expect_worked(rt: &impl Abort, register: &Register) {
     assert!(rt; matches!(register.answer("a"), Some(Answer::Points(_))));
     assert!(rt; register.answer("b").is_none());
     assert!(rt; !register.is_open());
+    let Some(published) = register.published_of("a") else {
+        panic!(rt; "no path");
+    };
+    assert_eq!(rt; published.text(), Some(TEXT));
+    assert!(rt; published.has_answer_of(published));
 }
 
 #[test]
@@ -37,54 +41,17 @@ fn three_points_are_published(rt: HostRuntime) {
     ends(&rt, register, 1);
 }
 
+/// A coordinate of one unit has no record, and neither has a name with a comma.
 #[test]
-fn a_line_of_the_path_is_dropped_and_added_again(rt: HostRuntime) {
+fn what_no_record_can_write(rt: HostRuntime) {
+    let mut register = with_finer_node(&rt, rt.alloc());
+    refuses(&rt, &mut register, Command::Dump, CommandFault::NotARecord);
+    ends(&rt, register, 1);
     let mut register = three_points(&rt, rt.alloc());
-    let dropped = Command::Edit(Edit::DropLine(line(20)));
-    let unknown = ("a", Err(Refusal::UnknownLine(line(20))));
-    expect_reported(&rt, &mut register, dropped, &[unknown]);
-    expect_text(&rt, &register, "a", None);
-    expect_encodings(&rt, &register, 2);
-    let back = road(&rt, rt.alloc(), SECOND);
-    expect_reported(&rt, &mut register, back, &[WITH_TEXT]);
-    ends(&rt, register, 3);
-}
-
-#[test]
-fn a_node_is_moved_to_its_own_coord(rt: HostRuntime) {
-    let mut register = three_points(&rt, rt.alloc());
-    let moved = Edit::MoveNode(node(4), place(612_817, 4_960_306));
-    edits(&rt, &mut register, moved);
+    let named = add(&rt, rt.alloc(), "a,b", &[10], 0);
+    names(&rt, &mut register, named, &["a,b"]);
+    refuses(&rt, &mut register, Command::Dump, CommandFault::NotARecord);
     ends(&rt, register, 2);
-}
-
-/// Adds a line far from the worked path, so that nothing is encoded.
-fn add_far(rt: &impl Abort, alloc: Global, register: &mut Register) {
-    edits(rt, register, new_node((5, 700_000, 5_000_000)));
-    expect_encodings(rt, register, 1);
-    edits(rt, register, new_node((6, 700_100, 5_000_000)));
-    expect_encodings(rt, register, 1);
-    edits(rt, register, plain_line(alloc, (50, 5, 6, 1000)));
-    expect_encodings(rt, register, 1);
-}
-
-/// Another length for line 50.
-fn longer(rt: &impl Abort, alloc: Global) -> Command {
-    Command::Edit(other_line(alloc, 50, 2000, STRAIGHT).expect(rt, "memory"))
-}
-
-#[test]
-fn each_edit_is_counted(rt: HostRuntime) {
-    let mut register = three_points(&rt, rt.alloc());
-    add_far(&rt, rt.alloc(), &mut register);
-    let added = add(&rt, rt.alloc(), "e", &[50], 0);
-    names(&rt, &mut register, added, &["e"]);
-    expect_encodings(&rt, &register, 2);
-    names(&rt, &mut register, longer(&rt, rt.alloc()), &["e"]);
-    expect_encodings(&rt, &register, 3);
-    let dropped = Command::Edit(Edit::DropLine(line(99)));
-    names(&rt, &mut register, dropped, &["a"]);
-    ends(&rt, register, 4);
 }
 
 /// Eight commands, of which the second and the last have a fault.
