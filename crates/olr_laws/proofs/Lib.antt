@@ -1,3 +1,4 @@
+pub mod LawOf
 pub mod ByteLemmas
 pub mod LabelLemmas
 pub mod ReceiverLemmas

@@ -13,8 +13,9 @@ use Rattle.olr_spec.specs.Margins.{Margin}
 use Rattle.olr_spec.specs.Receiver.{Lrp, Outgoing, Incoming, RecoversBy, RecoversFrom, attributes, last_lrp, last_number}
 use Rattle.olr_spec.specs.Receiver.{lrp_at}
 use Rattle.olr_spec.specs.Recovery.{IsStretchesWith, stretches}
-use Rattle.olr_laws.specs.ReceiverLaws.{TakesOwn, ReadElsewhere}
+use Rattle.olr_laws.specs.ReceiverLaws.{TakesOwn, ReceiverLaws}
 use Rattle.olr_laws.proofs.CommandLemmas.{path_in}
+use Rattle.olr_laws.proofs.LawOf.{LawOf}
 
 -- what is left of a list from an element on
 split_at : {X : Type 0} (k : ℕ) (xs : List X) (y : X) (ys : List X) → drop k xs ≡ y ∷ ys →
@@ -87,7 +88,7 @@ module _ (takes : Lrp → ℕ) {g : Margin} (M N : Map) (m : IsMap M) (P : Path)
         (λ p. (slice_index Lines f.h, sym first, by.1 (same_path M m P is none r e _ p))),
       )
 
-pub read_elsewhere : ReadElsewhere
+pub read_elsewhere : LawOf (λ (l : ReceiverLaws). l.read_elsewhere)
 read_elsewhere c i N n other a b within p at r e nearly classes takes own ws =
     let is = path_in c.paths p i.paths at in
     let x = by_answer c.map p.path r e in

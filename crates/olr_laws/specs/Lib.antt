@@ -1,3 +1,4 @@
+pub mod Laws
 pub mod ReceiverLaws
 pub mod Rows
 pub mod CommandLaws

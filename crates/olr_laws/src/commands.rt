@@ -1,66 +1,15 @@
-//! The laws of states, replies and counts, the claims about whole runs of commands, and worked rows of commands.
+//! Worked rows of commands.
 ghost use Rattle.std.specs.Prelude.{◌≡◌, ℕ, true, false, [], ◌∷◌, codes, None, Some, Ok, Err};
 ghost use Rattle.olr_spec.specs.Bytes.{Length, Flags, Reserved};
 ghost use Rattle.olr_spec.specs.Bytes as bytes;
 ghost use Rattle.olr_spec.specs.Map.{Move_node, Drop_node, no_coord};
-ghost use Rattle.olr_commands.specs.History;
-ghost use Rattle.olr_commands.specs.Dump;
 ghost use Rattle.olr_commands.specs.State.{On_map, Add_path, Not_a_reference, Not_v3, Not_base64, Path_exists, No_path};
 ghost use Rattle.olr_commands.specs.State.{Batch_open, No_batch, Count_differs, Drop_path, Make, Show, Report, Explain};
 ghost use Rattle.olr_commands.specs.State.{Begin, Commit, Abort, start_state, step, Show_node, Show_line, Show_margin};
 ghost use Rattle.olr_commands.specs.State.{Set_margin, Depends, Compact, Preview, Ambiguous};
 ghost use Rattle.olr_commands.specs.Reply.{Paths, Held, Records, Names, Obstacles, IsReply, takes_memory, may_lack};
-ghost use Rattle.olr_laws.specs.CommandLaws as Laws;
 ghost use Rattle.olr_laws.specs.CommandRows.{in_batch, path_a, with_a, with_fifty, with_node, text_of_lines};
 ghost use Rattle.olr_laws.specs.Rows.{Gives, AllGive, fifty, path_of};
-
-/// What commands preserve, and that a reply is determined.
-#[tactic(auto, using(crate::proofs::CommandLemmas::one_reply, crate::proofs::CommandLemmas::one_outcome, crate::proofs::CommandLemmas::some_reply, crate::proofs::CommandLemmas::previews_commit))]
-pub fn laws_of_states()
-    ensures kept { Laws.StepsKeep }
-    ensures one_reply { Laws.OneReply }
-    ensures empty { Laws.EmptyCommit }
-    ensures abort { Laws.AbortGivesBack }
-    ensures one_outcome { Laws.OneOutcome }
-    ensures some_reply { Laws.SomeReply }
-    ensures previews { Laws.PreviewsCommit }
-{}
-
-/// The rise of the count of encodings is determined; a path that is given raises it by one, and the margin by the number of
-/// paths.
-#[tactic(auto, using(crate::proofs::CommandLemmas::one_rise, crate::proofs::CommandLemmas::no_rise, crate::proofs::CommandLemmas::margin_raises))]
-pub fn laws_of_counts()
-    ensures one { Laws.OneRise }
-    ensures none { Laws.NoRise }
-    ensures paths { Laws.PathsRaiseOne }
-    ensures margin { Laws.MarginRaisesAll }
-{}
-
-/// The claims about whole runs of commands.
-#[tactic(auto, using(crate::proofs::CommandLemmas::headline_of_histories, olr_commands::proofs::HistoryLemmas::routes_of, olr_commands::proofs::HistoryLemmas::names_changed, crate::proofs::CommandLemmas::no_differences, olr_commands::proofs::HistoryLemmas::is_dumped))]
-pub fn claims()
-    ensures headline { History.HeadlineOfHistories }
-    ensures joined { History.RoutesOfReferences }
-    ensures named { History.RepliesName }
-    ensures no_differences { History.NoDifferences }
-    ensures refused { History.RefusedChangeNothing }
-    ensures dumped { History.DumpsBuild }
-{}
-
-/// The changes that a content is written as build it from an empty one; the records that show a part of a map are among
-/// their records.
-#[tactic(auto, using(olr_commands::proofs::DumpLemmas::dumps_run, crate::proofs::CommandLemmas::dumps_again))]
-pub fn laws_of_dumps()
-    ensures lead { Dump.DumpsLead }
-    ensures run { Dump.DumpsRun }
-    ensures again { Dump.DumpsAgain }
-    ensures shown { Laws.ShownAreDumped }
-{}
-
-/// Which paths an edit affects depends on the nodes that it touches.
-pub fn laws_of_dependents()
-    ensures affected { Laws.AffectedDepend }
-{}
 
 /// The steps of `explain`.
 #[tactic(auto, unfolding(base64::specs::GeneralPurpose::decoded_of, base64::specs::Decode::groups_error, base64::specs::Decode::groups_bytes, base64::specs::Decode::scan_steps))]
