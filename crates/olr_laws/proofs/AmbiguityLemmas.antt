@@ -7,7 +7,7 @@ use Rattle.olr_spec.proofs.Common.{IsMap, start, Points, nat_lt, filter, length,
 use Rattle.olr_spec.proofs.Common.{node_on, has_line, has_node, nat_abs, IsFalse, or_parts, list_any, option_map, cases_Bool}
 use Rattle.olr_spec.proofs.Common.{and_parts, path_fault, candidates, is_nearest, has_no_twin, slice_get, slice_index}
 use Rattle.olr_spec.proofs.Common.{list_any_at, extended_path, EncodingWith, kept_points, coordinate_on, cases_eq, or_cases}
-use Rattle.olr_spec.proofs.Common.{or_right, and_from, eqb-true, ltb-true, Reference, not-false, ltb-false}
+use Rattle.olr_spec.proofs.Common.{or_right, and_from, eqb-true, ltb-true, Reference, not-false, ltb-false, LawOf}
 use Rattle.olr_spec.specs.Margins.{Margin}
 use Rattle.olr_spec.specs.Receiver.{Outgoing, Incoming, sector_on, are_twins, decoded_coord, last_number}
 use Rattle.olr_spec.specs.Recovery.{line_by, IsLineAtWith, OwnLinesWith, own_lines, Weighted, DistinctWith, lon_apart}
@@ -24,7 +24,6 @@ use Rattle.olr_laws.specs.ReceiverLaws.{AtEachLrp, is_outdone, stands_out, Disti
 use Rattle.olr_laws.specs.ReceiverLaws.{StringLaws, ReceiverLaws}
 use Rattle.olr_laws.proofs.ReceiverLemmas.{got_index, every_candidate, outdone_of, same_place, IsOwn, own_lines_are, farther_by}
 use Rattle.std.proofs.Math.Nat.{div-le_of_le-mul, mul-le-mul_left}
-use Rattle.olr_laws.proofs.LawOf.{LawOf}
 
 -- ---- lists without elements
 

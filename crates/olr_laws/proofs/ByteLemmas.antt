@@ -5,11 +5,10 @@ use Rattle.olr_spec.proofs.Common.{nat_le, [], eqb-true, leb-false, get_or-appen
 use Rattle.olr_spec.proofs.Common.{and_from, or_parts, not-false, ints, within, fits16, First, Middle, Last, Reference}
 use Rattle.olr_spec.proofs.Common.{AreAttrs, IsFirst, IsMiddle, IsLast, IsReference, fits24, signed16, first_bytes}
 use Rattle.olr_spec.proofs.Common.{middle_bytes, last_bytes, flag, offset_bytes, ltb-false, recursion_from_All, Attrs, residue}
-use Rattle.olr_spec.proofs.Common.{signed24, attr_bytes, HasBytes, extra, bit, flags_of, attribute1_bytes, v3_fault}
+use Rattle.olr_spec.proofs.Common.{signed24, attr_bytes, HasBytes, extra, bit, flags_of, attribute1_bytes, v3_fault, LawOf}
 use Rattle.olr_spec.proofs.SectorLemmas.{le_test}
 use Rattle.olr_spec.proofs.ReadLemmas.{AreBytes, attributes_behind, reserved, no_fault, encoded_passes}
-use Rattle.olr_laws.specs.Laws.{FieldLaws}
-use Rattle.olr_laws.proofs.LawOf.{LawOf}
+use Rattle.olr_spec.specs.Laws.{FieldLaws}
 
 -- ---- decoded fields
 

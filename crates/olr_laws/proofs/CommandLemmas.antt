@@ -33,7 +33,7 @@ use Rattle.olr_commands.proofs.DumpLemmas.{dumps_lead}
 use Rattle.olr_commands.specs.History.{Run, AllHaveCoords, HeadlineOfHistories}
 use Rattle.olr_commands.proofs.HistoryLemmas.{start_sound, names_changed, SoundOutcome, headline_of_outcomes}
 use Rattle.std.proofs.Math.Decide.{map_dec, ℕ_discrete}
-use Rattle.olr_laws.proofs.LawOf.{LawOf}
+use Rattle.olr_spec.proofs.LawOf.{LawOf}
 
 -- ---- the ambiguities of one path
 

@@ -1,11 +1,11 @@
 -- Receivers that compare directions: the angle from the middle of a sector, for directions in the sector and beyond its margin;
 -- each of them recovers the legs between the remaining LRPs.
 use Rattle.olr_spec.proofs.Common.{◌≡◌, and_parts, cases_Bool, quarter_turn, lies_between, both_ways, candidates, coordinate_on}
-use Rattle.olr_spec.proofs.Common.{ℕ, ℤ, not, ◌∷◌, map, sym, ap, ◌∙◌, has, inl, inr, ◌≢◌, ◌⊎◌, ◌↔◌, Map, leg, Leg, zero, nat_lt}
-use Rattle.olr_spec.proofs.Common.{nat_abs, le-leb, Vector, vector, by_lt_z, IsFalse, has_line, line_at, eqb-true, suc, ◌+◌}
-use Rattle.olr_spec.proofs.Common.{◌*◌, ◌/◌, ◌%◌, ◌<◌, ◌≤◌, pos, Bool, true, List, ints, refl, ◌&&◌, ◌||◌, ◌==◌, Side, ◌-ℤ◌}
-use Rattle.olr_spec.proofs.Common.{◌*ℤ◌, ◌≤ℤ◌, ◌<ℤ◌, false, arith, subst, beyond, up_to, le-ltb, lt-ltb, nat_le, IsTrue, []}
-use Rattle.olr_spec.proofs.Common.{and_from, leb-true, boundary, not-true, IsSector, ltb-true, cases_lt, cases_eq, or_cases}
+use Rattle.olr_spec.proofs.Common.{ℕ, ℤ, inl, inr, ◌≢◌, ◌⊎◌, ◌↔◌, Map, leg, Leg, suc, ◌+◌, ◌*◌, ◌/◌, ◌%◌, ◌<◌, ◌≤◌, pos}
+use Rattle.olr_spec.proofs.Common.{not, ◌∷◌, map, sym, ◌∙◌, has, ints, refl, ◌&&◌, ◌||◌, ◌==◌, Side, ◌-ℤ◌, ◌*ℤ◌, ◌≤ℤ◌, ◌<ℤ◌, []}
+use Rattle.olr_spec.proofs.Common.{ap, has_line, eqb-true, and_from, leb-true, boundary, not-true, IsSector, ltb-true, cases_lt}
+use Rattle.olr_spec.proofs.Common.{zero, nat_lt, nat_abs, le-leb, Vector, vector, by_lt_z, IsFalse, line_at, cases_eq, or_cases}
+use Rattle.olr_spec.proofs.Common.{Bool, true, List, false, arith, subst, beyond, up_to, le-ltb, lt-ltb, nat_le, IsTrue, LawOf}
 use Rattle.olr_spec.proofs.SectorLemmas.{has_below, same_at, turned, turns_into, neg_right, neg_left, sector_is}
 use Rattle.std.proofs.Common.{neg_ℤ, int_lt}
 use Rattle.std.proofs.Math.Nat.{mul-le-mul_right, mul-le-mul_left, mul-lt-mul_of_pos_left, mul-add}
@@ -16,7 +16,6 @@ use Rattle.olr_laws.specs.ReceiverLaws.{TakesByDirection, is_outdone, stands_out
 use Rattle.olr_spec.specs.Margins.{Margin}
 use Rattle.olr_spec.proofs.ReceiverLemmas.{Describes, recovered_by, passes}
 use Rattle.olr_spec.specs.Receiver.{Lrp, Rating, NowhereWorse, SomewhereBetter, Outgoing, Incoming, sector_on}
-use Rattle.olr_laws.proofs.LawOf.{LawOf}
 
 -- Z is z, but for at most a 200th
 pub record Near (z Z : ℤ) : Type 0 where

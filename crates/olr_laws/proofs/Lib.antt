@@ -1,4 +1,3 @@
-pub mod LawOf
 pub mod ByteLemmas
 pub mod LabelLemmas
 pub mod ReceiverLemmas

@@ -19,7 +19,7 @@ use Rattle.olr_input.specs.Machine.{is_quoted, state_after}
 use Rattle.std.proofs.lemmas.Bool.{cases_Bool}
 use Rattle.olr_laws.specs.RunLaws.{IsRecordOf, LineLaws}
 use Rattle.csv.specs.declared.parser.State.TheVariants as st
-use Rattle.olr_laws.proofs.LawOf.{LawOf}
+use Rattle.olr_spec.proofs.LawOf.{LawOf}
 
 -- ---- one line
 

@@ -2,7 +2,7 @@
 use Rattle.olr_spec.proofs.Common.{◌≡◌, ℕ, zero, suc, ◌+◌, ◌-◌, List, [], ◌∷◌, length, drop, map, Some, None, slice_get}
 use Rattle.olr_spec.proofs.Common.{slice_index, refl, sym, ap, ◌∙◌, subst, arith, IsTrue, ◌↔◌, Map, IsMap, Path, is_path}
 use Rattle.olr_spec.proofs.Common.{path_fault, Reference, Points, EncodingWith, Middle, middle_points_with, attrs_with, legs}
-use Rattle.olr_spec.proofs.Common.{stretch, extended_path, RecoversTo, RecoversLast, Attrs}
+use Rattle.olr_spec.proofs.Common.{stretch, extended_path, RecoversTo, RecoversLast, Attrs, LawOf}
 use Rattle.olr_spec.proofs.DecodedLemmas.{Kept, form}
 use Rattle.olr_spec.proofs.Facts.{path_also, path_at}
 use Rattle.olr_spec.proofs.FitLemmas.{by_answer}
@@ -15,7 +15,6 @@ use Rattle.olr_spec.specs.Receiver.{lrp_at}
 use Rattle.olr_spec.specs.Recovery.{IsStretchesWith, stretches}
 use Rattle.olr_laws.specs.ReceiverLaws.{TakesOwn, ReceiverLaws}
 use Rattle.olr_laws.proofs.CommandLemmas.{path_in}
-use Rattle.olr_laws.proofs.LawOf.{LawOf}
 
 -- what is left of a list from an element on
 split_at : {X : Type 0} (k : ℕ) (xs : List X) (y : X) (ys : List X) → drop k xs ≡ y ∷ ys →

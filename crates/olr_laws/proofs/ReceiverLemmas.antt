@@ -1,16 +1,16 @@
 -- Where the LRPs of an answer are decoded, that receivers exist, and what the legs between the LRPs say.
 use Rattle.olr_spec.specs.Margins.{Margin}
-use Rattle.olr_spec.proofs.Common.{IsPointWith, slice_index, kept_points, lines_where, list_all-map, ◌≡◌, length, is_some}
-use Rattle.olr_spec.proofs.Common.{is_path, node_at, decoded, nat_abs, Measure, or_left, stretch, node_on, ℕ, ℤ, ◌<◌, ◌≤◌, ◌∙◌}
-use Rattle.olr_spec.proofs.Common.{Map, ◌-◌, ◌*◌, ◌/◌, map, sym, inl, inr, pos, end, Leg, leg, has, ◌⊎◌, zero, slice_get}
-use Rattle.olr_spec.proofs.Common.{coord_at, Reference, unwrap_or, AreJoined, last_kept, candidates, and_parts, suc, ◌+◌, ◌∷◌}
-use Rattle.olr_spec.proofs.Common.{None, Path, refl, ◌==◌, ◌-ℤ◌, ints, Bool, cond, last, legs, Side, ◌&&◌, ◌||◌, true, IsTrue}
-use Rattle.olr_spec.proofs.Common.{nat_le, Points, IsNear, nat_lt, lt-ltb, le-ltb, offset, Option, AllZip, get_or, List, Some}
-use Rattle.olr_spec.proofs.Common.{subst, arith, IsMap, Coord, start, first, Middle, dm_of, concat, up_to, le-leb, ap}
-use Rattle.olr_spec.proofs.Common.{AllPass-from_list_all, middle_points_with, reference_by_kept_with, list_all-from_AllPass, []}
-use Rattle.olr_spec.proofs.Common.{eqb-true, ltb-true, or_cases, cases_lt, or_right, last_two, has_line, list_all, and_from}
-use Rattle.olr_spec.proofs.Common.{option_map, leb-true, cases_Bool, path_fault, attrs_with, first_kept, is_nearest, cond-false}
-use Rattle.olr_spec.proofs.Common.{EncodingWith, slice_get-get_or, decoded_bound, extended_path, coordinate_on, get_or_default}
+use Rattle.olr_spec.proofs.Common.{IsPointWith, slice_index, kept_points, lines_where, candidates, [], option_map, EncodingWith}
+use Rattle.olr_spec.proofs.Common.{list_all-map, slice_get-get_or, decoded_bound, extended_path, coordinate_on, get_or_default}
+use Rattle.olr_spec.proofs.Common.{◌≡◌, ◌<◌, ◌≤◌, ◌∙◌, Map, ◌-◌, ◌*◌, ◌/◌, cond, last, legs, Side, ◌&&◌, ◌||◌, true, List, Some}
+use Rattle.olr_spec.proofs.Common.{length, decoded, nat_abs, Measure, or_left, stretch, node_on, IsTrue, nat_le, Points, IsNear}
+use Rattle.olr_spec.proofs.Common.{is_some, is_path, node_at, subst, or_right, last_two, has_line, list_all, and_from, leb-true}
+use Rattle.olr_spec.proofs.Common.{ℕ, zero, None, Path, refl, ◌==◌, ◌-ℤ◌, ints, Bool, Coord, start, first, dm_of, up_to, LawOf}
+use Rattle.olr_spec.proofs.Common.{ℤ, map, sym, inl, inr, pos, end, Leg, leg, has, ◌⊎◌, suc, ◌+◌, ◌∷◌}
+use Rattle.olr_spec.proofs.Common.{slice_get, Reference, cases_Bool, path_fault, attrs_with, first_kept, is_nearest, cond-false}
+use Rattle.olr_spec.proofs.Common.{coord_at, unwrap_or, AreJoined, last_kept, and_parts, eqb-true, ltb-true, or_cases, cases_lt}
+use Rattle.olr_spec.proofs.Common.{nat_lt, lt-ltb, le-ltb, offset, Option, AllZip, get_or, arith, IsMap, Middle, concat, le-leb}
+use Rattle.olr_spec.proofs.Common.{ap, AllPass-from_list_all, middle_points_with, reference_by_kept_with, list_all-from_AllPass}
 use Rattle.olr_spec.specs.Recovery.{IsWeighted, IsCut, IsClose, are_cosines, lon_apart, lat_apart, line_by, IsLineAtWith}
 use Rattle.olr_spec.specs.Recovery.{stretches, IsStretchesWith, IsStep, IsLeftWith, are_spaced, Weighted, is_cosine}
 use Rattle.olr_spec.proofs.Facts.{path_also, path_at, Each, has_index, at_index, has-lines_where, has_last, last_index, Known}
@@ -28,7 +28,6 @@ use Rattle.olr_laws.specs.ReceiverLaws.{AtEachLrp, is_spaced_by, is_outdone, is_
 use Rattle.olr_spec.proofs.QueryLemmas.{stretch_parts}
 use Rattle.olr_spec.proofs.ReceiverLemmas.{same_path, passes, size}
 use Rattle.std.proofs.Common.{lt_of_mul-lt-mul_right}
-use Rattle.olr_laws.proofs.LawOf.{LawOf}
 
 pub got_index : (f : ℕ → ℕ) (ks : List ℕ) (k v : ℕ) → option_map f (slice_get ks k) ≡ Some v → (k < length ks)
     × (f (slice_index ks k) ≡ v)

@@ -1,13 +1,12 @@
 -- The worked paths on their maps: a path to which nothing is added, its answer, and its lines at the LRPs.
-use Rattle.olr_spec.proofs.Common.{◌≡◌, LongestStart, extended_path, answer_by_points_with, MatchOption, kept_points}
-use Rattle.olr_spec.proofs.Common.{UniqueShortest, ℕ, IsTrue, EndRun, FollowWith, Points, Option, Refused, Measure, nat_le}
-use Rattle.olr_spec.proofs.Common.{To_end, IsRoute, nat_lt, no_margin, Bool, add-zero, StartRun, Reference, slice_get}
-use Rattle.olr_spec.proofs.Common.{cases_Bool, CandidateWith, reference, IsWeighted, true, List, ◌++◌, refl, subst, arith, Some}
-use Rattle.olr_spec.proofs.Common.{IsMap, start, first, dm_of, Tried, up_to, fit16, false, is_path, Encodes, EncodingWith}
-use Rattle.olr_spec.proofs.Common.{Refusal, leb-true, list_all, To_valid, not-true, has_line, [], ap, ◌+◌, ◌<◌, ◌≤◌, dm, not}
-use Rattle.olr_spec.proofs.Common.{has, ◌∷◌, sym, ◌∙◌, None, cond, Map, end, last, Path, Leg, leg, legs, Side, zero, suc, ◌&&◌}
-use Rattle.olr_spec.proofs.Common.{ints, append-nil, passing, LongestEnd, path_fault, candidates, option_map, is_nearest}
-use Rattle.olr_spec.proofs.Common.{has_no_twin}
+use Rattle.olr_spec.proofs.Common.{◌≡◌, MatchOption, kept_points, FollowWith, cases_Bool, IsWeighted, EncodingWith, has_no_twin}
+use Rattle.olr_spec.proofs.Common.{LongestStart, extended_path, answer_by_points_with, UniqueShortest, no_margin, CandidateWith}
+use Rattle.olr_spec.proofs.Common.{ℕ, ap, ◌≤◌, dm, not, has, ◌∷◌, sym, ◌∙◌, Map, end, Leg, leg, suc}
+use Rattle.olr_spec.proofs.Common.{IsTrue, EndRun, Points, Option, Measure, nat_le, IsRoute, is_path, Encodes, Refusal, passing}
+use Rattle.olr_spec.proofs.Common.{Refused, add-zero, StartRun, reference, leb-true, list_all, To_valid, not-true, has_line, []}
+use Rattle.olr_spec.proofs.Common.{To_end, nat_lt, Bool, subst, arith, IsMap, start, first, dm_of, Tried, up_to, fit16, false}
+use Rattle.olr_spec.proofs.Common.{Reference, slice_get, append-nil, LongestEnd, path_fault, candidates, option_map, is_nearest}
+use Rattle.olr_spec.proofs.Common.{true, List, ◌++◌, refl, Some, ◌+◌, ◌<◌, None, cond, last, Path, legs, Side, zero, ◌&&◌, ints}
 use Rattle.olr_spec.proofs.Facts.{path_at, empty_unique}
 use Rattle.olr_spec.specs.Receiver.{decoded_coord, Outgoing, Incoming, Lrp, lrp_at, Rating}
 use Rattle.olr_spec.specs.Recovery.{IsLineAtWith, line_by, DistinctAtWith, Distinct, are_cosines, is_cosine}

@@ -33,7 +33,7 @@ use Rattle.olr_input.specs.declared.buffered.Buffered.{Buffered}
 use Rattle.olr_laws.specs.LogLaws.{dropping, dropped, NextContinues, HasBegun, IsHonest, TwoRuns}
 use Rattle.olr_log.specs.declared.folder.Folder as folder
 use Rattle.sqlite_disk.specs.declared.Disk as disk
-use Rattle.olr_laws.proofs.LawOf.{LawOf}
+use Rattle.olr_spec.proofs.LawOf.{LawOf}
 
 command_keeps : (s t : State) (r : Read Command) (o : Outcome) → ((c : Command) → r ≡ Ok c → HasCoords c) → IsState s →
     CommandOutcome s r o t → IsState t

@@ -12,7 +12,7 @@ use Rattle.olr_commands.specs.State.{Content, Change}
 use Rattle.olr_commands.specs.Dump.{dump_changes, margin_changes, node_change, line_change, node_changes, end_changes}
 use Rattle.olr_commands.specs.Dump.{line_changes}
 use Rattle.olr_laws.specs.CommandLaws.{CommandLaws}
-use Rattle.olr_laws.proofs.LawOf.{LawOf}
+use Rattle.olr_spec.proofs.LawOf.{LawOf}
 
 found_in : {X : Type 0} (f : ℕ × X → Change) (es : List (ℕ × X)) (k : ℕ) (v : X) → find nat_cmp k es ≡ Some v →
     Contains (map f es) (f (k, v))

@@ -1,4 +1,3 @@
-pub mod Laws
 pub mod ReceiverLaws
 pub mod Rows
 pub mod CommandLaws

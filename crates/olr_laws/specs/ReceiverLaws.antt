@@ -27,16 +27,15 @@ use Rattle.olr_spec.specs.Decoded.{decoded_bound, decoded, IsNear}
 use Rattle.olr_spec.specs.Receiver.{Side, Outgoing, Incoming, node_on, coordinate_on, sector_on, Lrp, Measure, Rating}
 use Rattle.olr_spec.specs.Receiver.{NowhereWorse, SomewhereBetter, candidates, decoded_coord, last_number, RecoversBy}
 use Rattle.olr_spec.specs.Receiver.{attributes, is_nearest, last_lrp, lrp_at, Receiver}
-use Rattle.olr_spec.specs.Recovery.{IsLineAtWith, IsStretchesWith, IsKeptPartWith, IsLeftWith, IsCut, IsClose, IsStep}
-use Rattle.olr_spec.specs.Recovery.{IsWeighted, are_spaced, OwnLinesWith, Weighted, DistinctWith, are_cosines, lon_apart}
-use Rattle.olr_spec.specs.Recovery.{lat_apart}
+use Rattle.olr_spec.specs.Recovery.{IsLineAtWith, IsStretchesWith, IsKeptPartWith, OwnLinesWith, DistinctWith, are_cosines}
+use Rattle.olr_spec.specs.Recovery.{IsLeftWith, IsCut, IsClose, IsStep, IsWeighted, are_spaced, Weighted, lon_apart, lat_apart}
 use Rattle.olr_spec.specs.Routes.{dm_of}
 use Rattle.olr_spec.specs.Encoding.{EncodesWith, IsPointWith, Points}
 use Rattle.olr_spec.specs.Elsewhere.{HasNoOther, IsNearlyAlong, HasClasses, KeptLines, suffices}
 use Rattle.olr_spec.specs.Ambiguity.{least_cosine, is_farther, usual_slack, obstacles}
 use Rattle.olr_commands.specs.State.{Named, Content, IsContent}
 use Rattle.olr_commands.specs.Ambiguities.{NamedObstacle, AskedAmbiguities}
-use Rattle.olr_laws.specs.Laws.{OfReferences}
+use Rattle.olr_spec.specs.Laws.{OfReferences}
 
 -- ---- the angle from the middle of a sector
 

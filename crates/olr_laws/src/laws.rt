@@ -1,5 +1,5 @@
 //! The laws: what follows from the definitions, for all maps, paths, references, bytes, commands, records and logs.
-ghost use Rattle.olr_laws.specs.Laws;
+ghost use Rattle.olr_spec.specs.Laws;
 ghost use Rattle.olr_spec.specs.Margins.{Margin};
 ghost use Rattle.olr_coords.specs.Laws.{TextsRead, ReadHaveText};
 ghost use Rattle.olr_binary.specs.Text.{OneReference, OneText};

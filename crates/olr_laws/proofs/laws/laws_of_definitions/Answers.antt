@@ -1,7 +1,7 @@
-use Rattle.olr_spec.proofs.Common.{SameLine, FootWith, sym, ◌∙◌}
-use Rattle.olr_spec.proofs.Facts.{Each-from, lines_ascend, exactly_in, exactly_out, longer, one_least, prefix_of_least, empty_least}
-use Rattle.olr_spec.proofs.Facts.{empty_unique, unique_least, prefix_of_unique, one_start, one_end, one_next, one_follow}
-use Rattle.olr_spec.proofs.Facts.{one_answer_with, two_kept, routes_join, routes_same, clear_unique, near_same}
+use Rattle.olr_spec.proofs.Common.{SameLine, FootWith, sym, ◌∙◌, LawOf}
+use Rattle.olr_spec.proofs.Facts.{Each-from, lines_ascend, exactly_in, exactly_out, longer, one_least, prefix_of_least}
+use Rattle.olr_spec.proofs.Facts.{empty_least, empty_unique, unique_least, prefix_of_unique, one_start, one_end, one_next}
+use Rattle.olr_spec.proofs.Facts.{one_follow, one_answer_with, two_kept, routes_join, routes_same, clear_unique, near_same}
 use Rattle.olr_spec.proofs.BytesLemmas.{one_decoding}
 use Rattle.olr_spec.proofs.ChangeLemmas.{edit_differs, none_differs, differences_add}
 use Rattle.olr_spec.proofs.DecideLemmas.{one_unique, some_answer_with}
@@ -19,10 +19,9 @@ use Rattle.olr_spec.proofs.TestedLemmas.{one_last_tested_with, some_last_tested,
 use Rattle.olr_spec.proofs.TestedLemmas.{foot_queried_with, foot_affected_with}
 use Rattle.olr_spec.proofs.UndoLemmas.{edits_undo, empty_sound}
 use Rattle.olr_spec.specs.Margins.{Margin}
-use Rattle.olr_laws.specs.Laws.{QueryLaws}
+use Rattle.olr_spec.specs.Laws.{QueryLaws}
 use Rattle.olr_laws.proofs.ByteLemmas.{no_fault_where_encoded}
 use Rattle.olr_laws.proofs.LabelLemmas.{labelled, traced_least}
-use Rattle.olr_laws.proofs.LawOf.{LawOf}
 use Rattle.olr_laws.proofs.laws.laws_of_definitions.Goals as goal
 
 queries_stay : (g : Margin) → LawOf (λ (l : QueryLaws g). l.queries_stay)
