@@ -34,15 +34,7 @@ queries_stay g M N sound sound_there C there here ls same s t joined i k query c
     )
 
 pub returns-clause-maps : goal.returns-clause-maps
-returns-clause-maps c =
-    record {
-      lines_ascend = lines_ascend;
-      exactly_in = exactly_in;
-      exactly_out = exactly_out;
-      edits_keep = edits_keep;
-      edits_undo = edits_undo;
-      empty_is_sound = empty_sound;
-    }
+returns-clause-maps c = assumption (lines_ascend, exactly_in, exactly_out, edits_keep, edits_undo, empty_sound)
 
 pub returns-clause-routes : goal.returns-clause-routes
 returns-clause-routes c =
@@ -99,15 +91,7 @@ returns-clause-locality c g =
     }
 
 pub returns-clause-changes : goal.returns-clause-changes
-returns-clause-changes c =
-    record {
-      edits_differ = edit_differs;
-      no_difference = none_differs;
-      differences_add = differences_add;
-      all_routes_stay = routes_same;
-      soles_stay = clear_unique;
-      near_stays = near_same;
-    }
+returns-clause-changes c = assumption (edit_differs, none_differs, differences_add, routes_same, clear_unique, near_same)
 
 pub returns-clause-queries : goal.returns-clause-queries
 returns-clause-queries c g =
