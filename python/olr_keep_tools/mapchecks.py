@@ -16,7 +16,7 @@ LONGEST = 15_000  # metres between two location reference points (LRPs) of a str
 
 # The greatest difference on each axis, in degrees, between a node and its coordinate in a string. For the first LRP it is less
 # than a step of 360 / 2^24 degrees, since the format truncates the value and decoding adds half a step. Each further LRP adds
-# at most half a step of 10^-5 degree. The law `DecodedNear` of docs/THEOREMS.md has the same numbers.
+# at most half a step of 10^-5 degree. The law `decoded_near` of docs/THEOREMS.md has the same numbers.
 FIRST_ERROR = STEP_24
 FURTHER_ERROR = STEP_16 / 2
 
@@ -189,7 +189,7 @@ def lines_alone(roads: RoadMap) -> Iterator[Finding]:
 
 
 def nodes_near(roads: RoadMap, point: int) -> Iterator[Finding]:
-    """Nodes at one coordinate, and nodes too near to each other for the law `Nearest`: in latitude, and in longitude times
+    """Nodes at one coordinate, and nodes too near to each other for the law `own_is_nearest`: in latitude, and in longitude times
     the least cosine of the map, less than three times the decoding error apart. Then another node may be as near to a
     decoded coordinate as the right one."""
     width = 3 * decoding_error(point)

@@ -1,17 +1,17 @@
 -- A string in whose way nothing stands is distinct for both kinds of receivers; and where a node isn't farther by the test,
 -- there is a measure by which it isn't.
 use Rattle.olr_spec.proofs.Common.{◌≡◌, ◌≢◌, suc, ◌+◌, ◌*◌, ◌<◌, ◌||◌, ◌==◌, ◌≤◌, ◌⊎◌, not, ◌∷◌, map, sym, ◌∙◌, Map, ◌-ℤ◌, ints}
-use Rattle.olr_spec.proofs.Common.{[], ℕ, ℤ, ap, has, end, Leg, leg, ◌-◌, max, pos}
-use Rattle.olr_spec.proofs.Common.{cond, List, ◌++◌, Some, refl, None, Path, legs, Side, ◌&&◌, zero, Bool, true, false, Coord}
-use Rattle.olr_spec.proofs.Common.{arith, eq-eqb, ne_eqb, lt-ltb, le-ltb, IsMap, start, Points, nat_lt, filter, length, IsTrue}
-use Rattle.olr_spec.proofs.Common.{or_left, line_at, is_path, Measure, node_on, has_line, has_node, nat_abs, IsFalse, or_parts}
-use Rattle.olr_spec.proofs.Common.{list_any, option_map, cases_Bool, and_parts, path_fault, candidates, is_nearest, has_no_twin}
-use Rattle.olr_spec.proofs.Common.{slice_get, slice_index, list_any_at, extended_path, EncodingWith, kept_points, coordinate_on}
-use Rattle.olr_spec.proofs.Common.{cases_eq, or_cases, or_right, and_from, eqb-true, ltb-true, Reference, not-false, ltb-false}
+use Rattle.olr_spec.proofs.Common.{[], ℕ, ℤ, ap, has, end, Leg, leg, ◌-◌, max, pos, cond, List, ◌++◌, Some, refl, None, Path}
+use Rattle.olr_spec.proofs.Common.{legs, Side, ◌&&◌, zero, Bool, true, false, Coord, arith, eq-eqb, ne_eqb, lt-ltb, le-ltb}
+use Rattle.olr_spec.proofs.Common.{IsMap, start, Points, nat_lt, filter, length, IsTrue, or_left, line_at, is_path, Measure}
+use Rattle.olr_spec.proofs.Common.{node_on, has_line, has_node, nat_abs, IsFalse, or_parts, list_any, option_map, cases_Bool}
+use Rattle.olr_spec.proofs.Common.{and_parts, path_fault, candidates, is_nearest, has_no_twin, slice_get, slice_index}
+use Rattle.olr_spec.proofs.Common.{list_any_at, extended_path, EncodingWith, kept_points, coordinate_on, cases_eq, or_cases}
+use Rattle.olr_spec.proofs.Common.{or_right, and_from, eqb-true, ltb-true, Reference, not-false, ltb-false, LawOf}
 use Rattle.olr_spec.specs.Margins.{Margin}
 use Rattle.olr_spec.specs.Receiver.{Outgoing, Incoming, sector_on, are_twins, decoded_coord, last_number}
-use Rattle.olr_spec.specs.Recovery.{line_by}
-use Rattle.olr_spec.specs.Recovery.{IsLineAtWith, OwnLinesWith, own_lines, Weighted, DistinctWith, lon_apart, lat_apart}
+use Rattle.olr_spec.specs.Recovery.{line_by, IsLineAtWith, OwnLinesWith, own_lines, Weighted, DistinctWith, lon_apart}
+use Rattle.olr_spec.specs.Recovery.{lat_apart}
 use Rattle.olr_spec.specs.Directions.{direction_on, is_direction, is_beyond}
 use Rattle.olr_spec.specs.Ambiguity.{least_cosine, is_farther, is_outdone_for_all, obstacles_at, obstacles_from, thousandths_up}
 use Rattle.olr_spec.specs.Ambiguity.{usual_slack, lines_on, all_nodes, is_twin_of, is_unclear, side_at, obstacles, cosine_up_to}
@@ -20,8 +20,8 @@ use Rattle.olr_spec.proofs.Facts.{at_index, filter_has, exactly_in, exactly_out,
 use Rattle.olr_spec.proofs.FitLemmas.{by_answer}
 use Rattle.olr_spec.proofs.DecodedLemmas.{Kept}
 use Rattle.olr_spec.proofs.ReceiverLemmas.{same_path, size}
-use Rattle.olr_laws.specs.ReceiverLaws.{AtEachLrp, is_outdone, stands_out, DistinctByDirectionWith, IsWeightedByLatitude}
-use Rattle.olr_laws.specs.ReceiverLaws.{ClearIsDistinct, NoSharperTest}
+use Rattle.olr_laws.specs.ReceiverLaws.{AtEachLrp, is_outdone, stands_out, DistinctByDirection, IsWeightedByLatitude}
+use Rattle.olr_laws.specs.ReceiverLaws.{StringLaws, ReceiverLaws}
 use Rattle.olr_laws.proofs.ReceiverLemmas.{got_index, every_candidate, outdone_of, same_place, IsOwn, own_lines_are, farther_by}
 use Rattle.std.proofs.Math.Nat.{div-le_of_le-mul, mul-le-mul_left}
 
@@ -219,7 +219,7 @@ module _ {g : Margin} (M : Map) (m : IsMap M) (P : Path) (is : IsTrue (is_path P
             (own_in Lines Points_kept last (omega (arith, long))) at);
       }
 
-  distinct : DistinctWith g far M P r × DistinctByDirectionWith g far slack M P r
+  distinct : DistinctWith g far M P r × DistinctByDirection g far slack M P r
   distinct =
       let out = at_each.outgoing in
       let back = at_each.incoming in (
@@ -230,7 +230,7 @@ module _ {g : Margin} (M : Map) (m : IsMap M) (P : Path) (is : IsTrue (is_path P
         record { outgoing = λ k x lt at. (out k x lt at).2; incoming = λ x at. (back x at).2 },
       )
 
-pub clear_is_distinct : (g : Margin) → ClearIsDistinct g
+pub clear_is_distinct : (g : Margin) → LawOf (λ (l : StringLaws g). l.clear_is_distinct)
 clear_is_distinct g M m P is r enc xs own none scale far w slack few =
     let p = by_answer M P r enc in distinct M m P is p.0 r p.1 xs own none scale far w slack few
 
@@ -291,7 +291,7 @@ at_most e p c d h false isnt =
     let both = not_far e p c d h in
     omega (arith, far_is false c d p isnt, both.0, both.1, far_is true c c p (at_itself c))
 
-pub no_sharper_test : NoSharperTest
+pub no_sharper_test : LawOf (λ (l : ReceiverLaws). l.no_sharper_test)
 no_sharper_test e p c d h = (
   far_from c,
   (λ q v. weighted_by (least_cosine q v) (lon_apart q v) (lat_apart q v) (is_at c v) (cosine_most _) (far_from c) q v refl refl refl),

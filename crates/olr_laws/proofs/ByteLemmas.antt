@@ -5,9 +5,10 @@ use Rattle.olr_spec.proofs.Common.{nat_le, [], eqb-true, leb-false, get_or-appen
 use Rattle.olr_spec.proofs.Common.{and_from, or_parts, not-false, ints, within, fits16, First, Middle, Last, Reference}
 use Rattle.olr_spec.proofs.Common.{AreAttrs, IsFirst, IsMiddle, IsLast, IsReference, fits24, signed16, first_bytes}
 use Rattle.olr_spec.proofs.Common.{middle_bytes, last_bytes, flag, offset_bytes, ltb-false, recursion_from_All, Attrs, residue}
-use Rattle.olr_spec.proofs.Common.{signed24, attr_bytes, HasBytes, extra, bit, flags_of, attribute1_bytes, v3_fault, NoFault}
+use Rattle.olr_spec.proofs.Common.{signed24, attr_bytes, HasBytes, extra, bit, flags_of, attribute1_bytes, v3_fault, LawOf}
 use Rattle.olr_spec.proofs.SectorLemmas.{le_test}
 use Rattle.olr_spec.proofs.ReadLemmas.{AreBytes, attributes_behind, reserved, no_fault, encoded_passes}
+use Rattle.olr_spec.specs.Laws.{FieldLaws}
 
 -- ---- decoded fields
 
@@ -147,5 +148,5 @@ read_bytes _ w p = absurd (omega arith)
 
 -- ---- bytes of a reference
 
-pub no_fault_where_encoded : NoFault
+pub no_fault_where_encoded : LawOf (λ (l : FieldLaws). l.no_fault)
 no_fault_where_encoded b h = grind (arith, read_bytes, recursion_from_All, passes, encoded_passes)

@@ -3,8 +3,8 @@
 use Rattle.std.proofs.Common.{arith, ◌≡◌, false, List, ◌++◌, Some, None, Option, IsTrue, Contains, refl, subst, IsFalse, length}
 use Rattle.std.proofs.Common.{◌≢◌, inl, inr, ℕ, [], ◌∷◌, map, not, sym, ap, ◌∙◌, Ok, Err, suc}
 use Rattle.std.proofs.lemmas.List.Elements.{Contains-append_left, Contains-append_right, Contains-append_cases}
-use Rattle.olr_commands.proofs.Common.{Map, IsMap, Path, is_path, Margin, Answer, Refused, Reference, Refusal}
-use Rattle.olr_commands.proofs.Common.{EncodesWith, one_answer_with, some_answer_with, not-false, one_decoding, bytes_decides}
+use Rattle.olr_commands.proofs.Common.{Map, IsMap, Path, is_path, Margin, Answer, Refused, Reference, Refusal, EncodesWith}
+use Rattle.olr_commands.proofs.Common.{one_answer_with, some_answer_with, not-false, one_decoding, bytes_decides}
 use Rattle.olr_spec.specs.Encoding.{Points}
 use Rattle.olr_spec.specs.Recovery.{OwnLinesWith, OwnLinesOfWith}
 use Rattle.olr_spec.specs.Ambiguity.{Obstacle, obstacles}
@@ -12,11 +12,11 @@ use Rattle.olr_spec.proofs.AnswerLemmas.{path_also, path_at}
 use Rattle.olr_spec.proofs.FitLemmas.{by_answer, encoded_fits}
 use Rattle.olr_spec.proofs.ListLemmas.{Contains-here, Contains-later, Contains-cases, dec_same}
 use Rattle.olr_commands.proofs.NameLemmas.{named_path}
-use Rattle.olr_commands.specs.State.{Named, State, Make, Show, Report, Commit, Fault, step}
-use Rattle.olr_commands.specs.State.{Content, Change, Command, Explain, IsState, Depends, Preview, has_path, No_path, with_held}
-use Rattle.olr_commands.specs.State.{ArePaths, IsContent, path_named, has_asked, HasCoords, Set_margin, Ambiguous, changes_made}
+use Rattle.olr_commands.specs.State.{Named, State, Make, Show, Report, Commit, Fault, step, Content, Change, Command, Explain}
+use Rattle.olr_commands.specs.State.{IsState, Depends, Preview, has_path, No_path, with_held, ArePaths, IsContent, path_named}
+use Rattle.olr_commands.specs.State.{has_asked, HasCoords, Set_margin, Ambiguous, changes_made}
 use Rattle.olr_commands.specs.Ambiguities.{NamedObstacle, named, obstacles_of, Ambiguity, Ambiguities, AskedAmbiguities}
-use Rattle.olr_laws.specs.ReceiverLaws.{UnnamedIsDistinct, NamedStands, StandsFor}
+use Rattle.olr_laws.specs.ReceiverLaws.{StandsFor, ReceiverLaws}
 use Rattle.olr_laws.proofs.AmbiguityLemmas.{clear_is_distinct}
 use Rattle.olr_spec.proofs.OptionLemmas.{some_of}
 use Rattle.olr_commands.specs.Reply.{Entry, entry, Reply, AllOf, Shown, IsPaths, ByState, Outcome, IsOutcome, Obstacles, Fields}
@@ -26,13 +26,14 @@ use Rattle.olr_laws.proofs.DependLemmas.{one_dependents, some_dependents}
 use Rattle.olr_commands.proofs.StateLemmas.{steps_keep, when_ok}
 use Rattle.olr_spec.specs.Bytes.{IsReference, reference_bytes}
 use Rattle.olr_commands.specs.Dump.{dump_changes, DumpsAgain}
-use Rattle.olr_laws.specs.CommandLaws.{PreviewsCommit, MarginRaisesAll, OneReply, OneOutcome, SomeReply}
+use Rattle.olr_laws.specs.CommandLaws.{CommandLaws}
 use Rattle.olr_commands.specs.Counts.{Affects, By_name, CountIs, Raises}
 use Rattle.olr_commands.proofs.CountLemmas.{unconcerned}
 use Rattle.olr_commands.proofs.DumpLemmas.{dumps_lead}
 use Rattle.olr_commands.specs.History.{Run, AllHaveCoords, HeadlineOfHistories}
 use Rattle.olr_commands.proofs.HistoryLemmas.{start_sound, names_changed, SoundOutcome, headline_of_outcomes}
 use Rattle.std.proofs.Math.Decide.{map_dec, ℕ_discrete}
+use Rattle.olr_spec.proofs.LawOf.{LawOf}
 
 -- ---- the ambiguities of one path
 
@@ -121,7 +122,7 @@ pub path_in : (ps : List Named) (p : Named) → ArePaths ps → Contains ps p �
 path_in [] p a c = absurd (let lt = c.1 in omega arith)
 path_in (q ∷ ps) p a c = grind (arith, Contains-cases q p ps c, path_in ps p a.1)
 
-pub unnamed_is_distinct : UnnamedIsDistinct
+pub unnamed_is_distinct : LawOf (λ (l : ReceiverLaws). l.unnamed_is_distinct)
 unnamed_is_distinct c i es a p at unnamed r e scale far w slack few =
     let own = in_answer c.margin c.map c.paths es a p at in
     let q = own.1 in
@@ -155,7 +156,7 @@ stands g M p own (Points r, xs, encodes, lines, all) e c =
 stands g M p own (Refused f, xs, encodes, lines, all) e c =
     absurd (let at = subst (λ (ys : List NamedObstacle). Contains ys e) all c in let lt = at.1 in omega arith)
 
-pub named_stands : NamedStands
+pub named_stands : LawOf (λ (l : ReceiverLaws). l.named_stands)
 named_stands c es a e at =
     let r = of_path c.margin c.map c.paths es a e at in (r.0, r.1, stands c.margin c.map r.0 r.2 r.3 e r.4)
 
@@ -194,7 +195,7 @@ one_held (Some xs) s t j r q p g = p ∙ sym g
 held_sound : (s : State) → IsState s → IsContent (with_held s.content s.batch)
 held_sound s i = grind arith
 
-pub one_reply : OneReply
+pub one_reply : LawOf (λ (l : CommandLaws). l.one_reply)
 one_reply s t (Make x) r q i j p g = one_held s.batch s.content t.content j.content r q p g
 one_reply s t (Show name) (Paths es) (Paths fs) i j p g = grind (arith, one_has s.content i.content name p.0 g.0 p.1 g.1)
 one_reply s t (Show name) r q i j p g = grind arith
@@ -216,7 +217,7 @@ pub reported_by : (s : State) (c : Command) (fault : Fault) → IsFalse (lacks_m
 reported_by s c fault n (ByState e) = e
 reported_by s c fault n (Lacks is may) = grind arith
 
-pub one_outcome : OneOutcome
+pub one_outcome : LawOf (λ (l : CommandLaws). l.one_outcome)
 one_outcome s t u c (Ok r) (Ok w) i h n m p g = grind (arith, one_reply s t c r w i (steps_keep s t c i h p.0) p.1)
 one_outcome s t u c o q i h n m p g = grind (arith, reported_by)
 
@@ -295,7 +296,7 @@ when_asked : (s t : State) (name : Option (List ℕ)) → step s (Ambiguous name
 when_asked s t name is =
     grind (arith, when_ok (not (has_asked s.content name)) No_path (Ok (record { content = s.content; batch = None })) t)
 
-pub some_reply : SomeReply
+pub some_reply : LawOf (λ (l : CommandLaws). l.some_reply)
 some_reply s t (Make x) i h is n =
     some_held s.batch s.content t.content i.content (steps_keep s t (Make x) i h is).content
 some_reply s t (Show name) i h is n = let es =
@@ -316,7 +317,7 @@ some_reply s t (Commit count) i h is n = let es =
 some_reply s t c i h is n = (_, refl)
 
 -- a preview has the replies of the commit that may follow
-pub previews_commit : PreviewsCommit
+pub previews_commit : LawOf (λ (l : CommandLaws). l.previews_commit)
 previews_commit s t count r is = grind (arith, when_ok)
 
 -- ---- counts
@@ -341,7 +342,7 @@ all_counted : {A : Type 0} (P : A → Type 0) → ((x : A) → P x) → (xs : Li
 all_counted P all [] = refl
 all_counted P all (x ∷ xs) = inl (all x, (length xs, all_counted P all xs, refl))
 
-pub margin_raises : MarginRaisesAll
+pub margin_raises : LawOf (λ (l : CommandLaws). l.margin_raises_all)
 margin_raises s t g closed is =
     grind (arith, all_counted (Affects s.content (Set_margin g ∷ [])) (λ p. By_name refl) s.content.paths)
 

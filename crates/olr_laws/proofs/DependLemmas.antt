@@ -2,9 +2,9 @@
 -- paths, and those that name a line which it adds.
 use Rattle.olr_spec.proofs.Common.{arith, ◌≢◌, ◌⊎◌, zero, true, List, refl, subst, ◌||◌, IsMap, Edit, start, Path, Sees, dec_le}
 use Rattle.olr_spec.proofs.Common.{◌≡◌, length, IsTrue, or_left, Set_line, has_line, edited, Reaches, is_path, NodeOf, FootWith}
-use Rattle.olr_spec.proofs.Common.{inl, inr, ℕ, suc, ◌+◌, ◌-◌, ◌<◌, ◌≤◌, ◌∷◌, sym, ◌∙◌, Ok, Map, has, end, dm}
-use Rattle.olr_spec.proofs.Common.{[], touched_nodes, touched_lines, extended_path, CoverageQuery, query_to_with, Bool-discrete}
-use Rattle.olr_spec.proofs.Common.{append-nil, MatchOption, cases_Bool, Add_line, Drop_line, lines_out, IsQueryWith}
+use Rattle.olr_spec.proofs.Common.{inl, inr, ℕ, suc, ◌+◌, ◌-◌, ◌<◌, ◌≤◌, ◌∷◌, sym, ◌∙◌, Ok, Map, has, end, dm, []}
+use Rattle.olr_spec.proofs.Common.{touched_nodes, touched_lines, extended_path, CoverageQuery, query_to_with, Bool-discrete}
+use Rattle.olr_spec.proofs.Common.{append-nil, MatchOption, cases_Bool, Add_line, Drop_line, lines_out, IsQueryWith, LawOf}
 use Rattle.std.proofs.Math.Decide.{dec_lt, map_dec, ℕ_discrete}
 use Rattle.olr_spec.specs.Margins.{Margin}
 use Rattle.olr_spec.specs.Footprint.{FootOfWith, TouchedWith, On_path, On_start_run, On_end_run, Within_reach}
@@ -17,7 +17,7 @@ use Rattle.olr_spec.proofs.TestedLemmas.{some_last_tested, one_query}
 use Rattle.olr_commands.specs.State.{Named, Content, ArePaths, On_map}
 use Rattle.olr_commands.specs.Counts.{Picks, Affects, By_name, By_node, By_line}
 use Rattle.olr_commands.specs.Dependents.{DependsOn, Dependents, On_node, On_line}
-use Rattle.olr_laws.specs.CommandLaws.{NamesAdded, AffectedDepend}
+use Rattle.olr_laws.specs.CommandLaws.{NamesAdded, CommandLaws}
 
 -- ---- one answer
 
@@ -167,5 +167,5 @@ module _ (c : Content) (N : Map) (e : Edit) (nodes : List ℕ) (p : Named) (made
         | inr off ↦ inr (x, touched, off, own)
       ]
 
-pub affected_depend : AffectedDepend
+pub affected_depend : LawOf (λ (l : CommandLaws). l.affected_depend)
 affected_depend c N e nodes p made given a = by_affected c N e nodes p made given a

@@ -1,19 +1,18 @@
 -- Receivers that compare directions: the angle from the middle of a sector, for directions in the sector and beyond its margin;
 -- each of them recovers the legs between the remaining LRPs.
 use Rattle.olr_spec.proofs.Common.{◌≡◌, and_parts, cases_Bool, quarter_turn, lies_between, both_ways, candidates, coordinate_on}
-use Rattle.olr_spec.proofs.Common.{ℕ, ℤ, not, ◌∷◌, map, sym, ap, ◌∙◌, has, inl, inr, ◌≢◌, ◌⊎◌, ◌↔◌, Map, leg, Leg}
-use Rattle.olr_spec.proofs.Common.{zero, nat_lt, nat_abs, le-leb, Vector, vector, by_lt_z, IsFalse, has_line, line_at, eqb-true}
-use Rattle.olr_spec.proofs.Common.{suc, ◌+◌, ◌*◌, ◌/◌, ◌%◌, ◌<◌, ◌≤◌, pos, Bool, true, List, ints, refl, ◌&&◌, ◌||◌, ◌==◌, Side}
-use Rattle.olr_spec.proofs.Common.{◌-ℤ◌, ◌*ℤ◌, ◌≤ℤ◌, ◌<ℤ◌, false, arith, subst, beyond, up_to, le-ltb, lt-ltb, nat_le, IsTrue}
-use Rattle.olr_spec.proofs.Common.{[], and_from, leb-true, boundary, not-true, IsSector, ltb-true, cases_lt, cases_eq, or_cases}
+use Rattle.olr_spec.proofs.Common.{ℕ, ℤ, inl, inr, ◌≢◌, ◌⊎◌, ◌↔◌, Map, leg, Leg, suc, ◌+◌, ◌*◌, ◌/◌, ◌%◌, ◌<◌, ◌≤◌, pos}
+use Rattle.olr_spec.proofs.Common.{not, ◌∷◌, map, sym, ◌∙◌, has, ints, refl, ◌&&◌, ◌||◌, ◌==◌, Side, ◌-ℤ◌, ◌*ℤ◌, ◌≤ℤ◌, ◌<ℤ◌, []}
+use Rattle.olr_spec.proofs.Common.{ap, has_line, eqb-true, and_from, leb-true, boundary, not-true, IsSector, ltb-true, cases_lt}
+use Rattle.olr_spec.proofs.Common.{zero, nat_lt, nat_abs, le-leb, Vector, vector, by_lt_z, IsFalse, line_at, cases_eq, or_cases}
+use Rattle.olr_spec.proofs.Common.{Bool, true, List, false, arith, subst, beyond, up_to, le-ltb, lt-ltb, nat_le, IsTrue, LawOf}
 use Rattle.olr_spec.proofs.SectorLemmas.{has_below, same_at, turned, turns_into, neg_right, neg_left, sector_is}
 use Rattle.std.proofs.Common.{neg_ℤ, int_lt}
 use Rattle.std.proofs.Math.Nat.{mul-le-mul_right, mul-le-mul_left, mul-lt-mul_of_pos_left, mul-add}
 use Rattle.olr_spec.proofs.Facts.{has_cases}
 use Rattle.olr_spec.specs.Directions.{margin_start, margin_end, is_direction, is_beyond, direction_on}
 use Rattle.olr_laws.specs.ReceiverLaws.{middle, along, is_within, IsNearly, rating_by, weighted, count_where, DirectionReceiver}
-use Rattle.olr_laws.specs.ReceiverLaws.{TakesByDirection, is_outdone, stands_out, Differences, SeesByLimits}
-use Rattle.olr_laws.specs.ReceiverLaws.{RecoveredByDirection, SomeByWeights}
+use Rattle.olr_laws.specs.ReceiverLaws.{TakesByDirection, is_outdone, stands_out, Differences, ReceiverLaws, StringLaws}
 use Rattle.olr_spec.specs.Margins.{Margin}
 use Rattle.olr_spec.proofs.ReceiverLemmas.{Describes, recovered_by, passes}
 use Rattle.olr_spec.specs.Receiver.{Lrp, Rating, NowhereWorse, SomewhereBetter, Outgoing, Incoming, sector_on}
@@ -208,7 +207,7 @@ count_less p q h [] t i n y = absurd cc
 count_less p q h (u ∷ ts) t i n y =
     grind (arith, has_cases u ts t i, cases_Bool, h u, count_more p q h ts, count_less p q h ts t)
 
-pub sees_by_limits : SeesByLimits
+pub sees_by_limits : LawOf (λ (l : ReceiverLaws). l.sees_by_limits)
 sees_by_limits ts t among least most seen near =
     record {
       inside = λ k v s. count_more (λ u. not (is_within u (middle k) (seen v))) (λ u. nat_lt u 104000)
@@ -277,7 +276,7 @@ module _ (D : DirectionReceiver) (M : Map) (t : Lrp) (x : ℕ) (d : Describes M 
     (λ e. subst (TakesByDirection D M t) (sym e) (record { known = d.known; best = own_best })),
   )
 
-pub recovered_by_direction : (g : Margin) → RecoveredByDirection g
+pub recovered_by_direction : (g : Margin) → LawOf (λ (l : StringLaws g). l.recovered_by_direction)
 recovered_by_direction g D M m P is r e d =
     recovered_by g (TakesByDirection D M) (StandsOut D M) M (takes_own D M) m P is r e (λ k lt x at. d.outgoing k x lt at) d.incoming
 
@@ -318,5 +317,5 @@ by_weights d w p h =
       strict = λ x y l. le-ltb (weighted w y) (weighted w x) (omega (arith, ltb-true (weighted w x) (weighted w y) l));
     }
 
-pub some_by_weights : SomeByWeights
+pub some_by_weights : LawOf (λ (l : ReceiverLaws). l.some_by_weights)
 some_by_weights d w p q r s h = (by_weights d w (p, q, r, s) h, refl, (λ x y. refl))

@@ -17,8 +17,9 @@ use Rattle.olr_input.specs.LineRecords.{HasNoEnd, EachIs, if_any, is_rejected, l
 use Rattle.olr_input.specs.Lines.{BetweenRecords, is_line_end}
 use Rattle.olr_input.specs.Machine.{is_quoted, state_after}
 use Rattle.std.proofs.lemmas.Bool.{cases_Bool}
-use Rattle.olr_laws.specs.RunLaws.{LineGivesOne, SingleStay, FirstLine, IsRecordOf, LinesGiveRecords, FormlessRejected}
+use Rattle.olr_laws.specs.RunLaws.{IsRecordOf, LineLaws}
 use Rattle.csv.specs.declared.parser.State.TheVariants as st
+use Rattle.olr_spec.proofs.LawOf.{LawOf}
 
 -- ---- one line
 
@@ -49,7 +50,7 @@ is_record b line none = (all_alone b line none, λ h. ap read (rejected_record (
 end_byte : (e : ℕ) → IsEnd e → is_line_end e ≡ true
 end_byte e h = grind arith
 
-pub one_record : LineGivesOne
+pub one_record : LawOf (λ (l : LineLaws). l.line_gives_one)
 one_record b line e rest none end =
     (ap (map line_record) (lines_ended (b ∷ line) e rest none (end_byte e end)), is_record b line none)
 
@@ -73,7 +74,7 @@ each_line (b ∷ bytes) line none = elim (cases_Bool (is_line_end b)) [
   | inr e ↦ rw e (each_line bytes (line ++ b ∷ []) (no_end_more line b none e))
 ]
 
-pub records_of_lines : LinesGiveRecords
+pub records_of_lines : LawOf (λ (l : LineLaws). l.lines_give_records)
 records_of_lines bytes = each_line (strip_bom bytes) [] refl
 
 unmarked : (b : ℕ) (bytes : List ℕ) → (b == 0xEF) ≡ false → strip_bom (b ∷ bytes) ≡ b ∷ bytes
@@ -82,7 +83,7 @@ unmarked b [] h = refl
 unmarked b (c ∷ []) h = refl
 unmarked b (c ∷ d ∷ bytes) h = rw h refl
 
-pub first_line : FirstLine
+pub first_line : LawOf (λ (l : LineLaws). l.first_line)
 first_line b bytes h = ap (λ (x : List ℕ). map line_record (lines_of x)) (unmarked b bytes h)
 
 -- ---- inputs of which no line is rejected
@@ -148,13 +149,13 @@ plain_from (b ∷ bytes) line s at none whole = elim (cases_Bool (is_line_end b)
       (append_assoc line (b ∷ []) bytes) (plain_from bytes (line ++ b ∷ []) s at (no_end_more line b none e) w))
 ]
 
-pub single_stay : SingleStay
+pub single_stay : LawOf (λ (l : LineLaws). l.single_stay)
 single_stay bytes whole =
     sym (only_records bytes (line_records bytes) (plain_from (strip_bom bytes) [] st.StartRecord (inl refl) refl whole))
 
 -- ---- records that no command has
 
-pub formless_rejected : FormlessRejected
+pub formless_rejected : LawOf (λ (l : LineLaws). l.formless_rejected)
 formless_rejected fields bad s t o (inl h) =
     let now : CommandOutcome s (Err Bad_form) o t = rw bad at h in (ap outcome_text now.0, now.1)
 formless_rejected fields bad s t o (inr h) = absurd (let never : IsOkAnd (Err Bad_form) HoldsList = rw bad at h.0 in never)

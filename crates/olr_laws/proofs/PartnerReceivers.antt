@@ -2,7 +2,7 @@
 use Rattle.olr_spec.proofs.Common.{◌≡◌, ℕ, zero, suc, ◌+◌, ◌-◌, List, [], ◌∷◌, length, drop, map, Some, None, slice_get}
 use Rattle.olr_spec.proofs.Common.{slice_index, refl, sym, ap, ◌∙◌, subst, arith, IsTrue, ◌↔◌, Map, IsMap, Path, is_path}
 use Rattle.olr_spec.proofs.Common.{path_fault, Reference, Points, EncodingWith, Middle, middle_points_with, attrs_with, legs}
-use Rattle.olr_spec.proofs.Common.{stretch, extended_path, RecoversTo, RecoversLast, Attrs}
+use Rattle.olr_spec.proofs.Common.{stretch, extended_path, RecoversTo, RecoversLast, Attrs, LawOf}
 use Rattle.olr_spec.proofs.DecodedLemmas.{Kept, form}
 use Rattle.olr_spec.proofs.Facts.{path_also, path_at}
 use Rattle.olr_spec.proofs.FitLemmas.{by_answer}
@@ -13,7 +13,7 @@ use Rattle.olr_spec.specs.Margins.{Margin}
 use Rattle.olr_spec.specs.Receiver.{Lrp, Outgoing, Incoming, RecoversBy, RecoversFrom, attributes, last_lrp, last_number}
 use Rattle.olr_spec.specs.Receiver.{lrp_at}
 use Rattle.olr_spec.specs.Recovery.{IsStretchesWith, stretches}
-use Rattle.olr_laws.specs.ReceiverLaws.{TakesOwn, ReadElsewhere}
+use Rattle.olr_laws.specs.ReceiverLaws.{TakesOwn, ReceiverLaws}
 use Rattle.olr_laws.proofs.CommandLemmas.{path_in}
 
 -- what is left of a list from an element on
@@ -87,7 +87,7 @@ module _ (takes : Lrp → ℕ) {g : Margin} (M N : Map) (m : IsMap M) (P : Path)
         (λ p. (slice_index Lines f.h, sym first, by.1 (same_path M m P is none r e _ p))),
       )
 
-pub read_elsewhere : ReadElsewhere
+pub read_elsewhere : LawOf (λ (l : ReceiverLaws). l.read_elsewhere)
 read_elsewhere c i N n other a b within p at r e nearly classes takes own ws =
     let is = path_in c.paths p i.paths at in
     let x = by_answer c.map p.path r e in

@@ -1,23 +1,22 @@
 -- Where the LRPs of an answer are decoded, that receivers exist, and what the legs between the LRPs say.
 use Rattle.olr_spec.specs.Margins.{Margin}
-use Rattle.olr_spec.proofs.Common.{IsPointWith, slice_index, SomeReceiver, SomeWeighted, kept_points, lines_where, list_all-map}
-use Rattle.olr_spec.proofs.Common.{◌≡◌, length, is_some, is_path, node_at, decoded, nat_abs, Measure, or_left, stretch, node_on}
-use Rattle.olr_spec.proofs.Common.{ℕ, ℤ, ◌<◌, ◌≤◌, ◌∙◌, Map, ◌-◌, ◌*◌, ◌/◌, map, sym, inl, inr, pos, end, Leg, leg, has, ◌⊎◌}
-use Rattle.olr_spec.proofs.Common.{zero, slice_get, coord_at, Reference, unwrap_or, AreJoined, last_kept, candidates, and_parts}
-use Rattle.olr_spec.proofs.Common.{suc, ◌+◌, ◌∷◌, None, Path, refl, ◌==◌, ◌-ℤ◌, ints, Bool, cond, last, legs, Side, ◌&&◌, ◌||◌}
-use Rattle.olr_spec.proofs.Common.{true, IsTrue, nat_le, Points, IsNear, nat_lt, lt-ltb, le-ltb, offset, Option, AllZip, get_or}
-use Rattle.olr_spec.proofs.Common.{List, Some, subst, arith, IsMap, Coord, start, first, Middle, dm_of, concat, up_to, le-leb}
+use Rattle.olr_spec.proofs.Common.{IsPointWith, slice_index, kept_points, lines_where, candidates, [], option_map, EncodingWith}
+use Rattle.olr_spec.proofs.Common.{list_all-map, slice_get-get_or, decoded_bound, extended_path, coordinate_on, get_or_default}
+use Rattle.olr_spec.proofs.Common.{◌≡◌, ◌<◌, ◌≤◌, ◌∙◌, Map, ◌-◌, ◌*◌, ◌/◌, cond, last, legs, Side, ◌&&◌, ◌||◌, true, List, Some}
+use Rattle.olr_spec.proofs.Common.{length, decoded, nat_abs, Measure, or_left, stretch, node_on, IsTrue, nat_le, Points, IsNear}
+use Rattle.olr_spec.proofs.Common.{is_some, is_path, node_at, subst, or_right, last_two, has_line, list_all, and_from, leb-true}
+use Rattle.olr_spec.proofs.Common.{ℕ, zero, None, Path, refl, ◌==◌, ◌-ℤ◌, ints, Bool, Coord, start, first, dm_of, up_to, LawOf}
+use Rattle.olr_spec.proofs.Common.{ℤ, map, sym, inl, inr, pos, end, Leg, leg, has, ◌⊎◌, suc, ◌+◌, ◌∷◌}
+use Rattle.olr_spec.proofs.Common.{slice_get, Reference, cases_Bool, path_fault, attrs_with, first_kept, is_nearest, cond-false}
+use Rattle.olr_spec.proofs.Common.{coord_at, unwrap_or, AreJoined, last_kept, and_parts, eqb-true, ltb-true, or_cases, cases_lt}
+use Rattle.olr_spec.proofs.Common.{nat_lt, lt-ltb, le-ltb, offset, Option, AllZip, get_or, arith, IsMap, Middle, concat, le-leb}
 use Rattle.olr_spec.proofs.Common.{ap, AllPass-from_list_all, middle_points_with, reference_by_kept_with, list_all-from_AllPass}
-use Rattle.olr_spec.proofs.Common.{[], eqb-true, ltb-true, or_cases, cases_lt, or_right, last_two, has_line, list_all, and_from}
-use Rattle.olr_spec.proofs.Common.{option_map, leb-true, cases_Bool, path_fault, attrs_with, first_kept, is_nearest, cond-false}
-use Rattle.olr_spec.proofs.Common.{EncodingWith, slice_get-get_or, decoded_bound, extended_path, coordinate_on, get_or_default}
 use Rattle.olr_spec.specs.Recovery.{IsWeighted, IsCut, IsClose, are_cosines, lon_apart, lat_apart, line_by, IsLineAtWith}
 use Rattle.olr_spec.specs.Recovery.{stretches, IsStretchesWith, IsStep, IsLeftWith, are_spaced, Weighted, is_cosine}
 use Rattle.olr_spec.proofs.Facts.{path_also, path_at, Each, has_index, at_index, has-lines_where, has_last, last_index, Known}
 use Rattle.olr_spec.proofs.Facts.{LinkedWith, follow_linked_with, kept_linked_with, empty_stretch, stretch_first, positive}
 use Rattle.olr_spec.proofs.Facts.{next_start}
-use Rattle.olr_spec.proofs.FitLemmas.{position_is, linked_above, dm_same, last_two_linked}
-use Rattle.olr_spec.proofs.FitLemmas.{extended_sound, by_answer}
+use Rattle.olr_spec.proofs.FitLemmas.{position_is, linked_above, dm_same, last_two_linked, extended_sound, by_answer}
 use Rattle.olr_spec.proofs.DecodedLemmas.{Kept, answer_decodes, Back, Form, Front, form}
 use Rattle.std.proofs.Math.Nat.{le_of_mul-le-mul_left, mul_comm, mul-le-mul_left, mul-le-mul_right, mul-lt-mul_of_pos_left}
 use Rattle.std.proofs.Math.Nat.{div-mul-le_self, lt-div-mul-add}
@@ -25,8 +24,7 @@ use Rattle.olr_spec.specs.Receiver.{Rating, IsDifference, Outgoing, Incoming, la
 use Rattle.olr_spec.proofs.SectorLemmas.{has_below}
 use Rattle.olr_spec.proofs.JoinedLemmas.{extended_joined}
 use Rattle.olr_spec.specs.Directions.{is_direction, is_beyond, direction_on}
-use Rattle.olr_laws.specs.ReceiverLaws.{AtEachLrp, is_spaced_by, is_outdone, is_clear, stands_out, ClearStandsOut, DecodedNear}
-use Rattle.olr_laws.specs.ReceiverLaws.{DecodedPoints, StretchesJoin, OffsetsWith, DistancesWith, Nearest}
+use Rattle.olr_laws.specs.ReceiverLaws.{AtEachLrp, is_spaced_by, is_outdone, is_clear, stands_out, ReceiverLaws, StringLaws}
 use Rattle.olr_spec.proofs.QueryLemmas.{stretch_parts}
 use Rattle.olr_spec.proofs.ReceiverLemmas.{same_path, passes, size}
 use Rattle.std.proofs.Common.{lt_of_mul-lt-mul_right}
@@ -49,7 +47,7 @@ abbrev total : Rating → ℕ
 total a = a.far + a.frc + a.fow + a.bearing
 
 -- it prefers the smaller sum of the measure and the differences
-pub some_receiver : SomeReceiver
+pub some_receiver : LawOf (λ (l : ReceiverLaws). l.some_receiver)
 some_receiver far = (
   record {
     far = far;
@@ -160,7 +158,7 @@ module _ (n d scale : ℕ) (cosine : Measure) (M : Map) (r : Reference)
   weighted_at Incoming k x up known =
       of_cosine n d scale cosine _ _ (and_parts (is_cosine n d scale (cosine (decoded_coord r k) (leg M x).begin)) _ (cosines_at k x up known)).1
 
-pub some_weighted : SomeWeighted
+pub some_weighted : LawOf (λ (l : ReceiverLaws). l.some_weighted)
 some_weighted n d scale cosine M r some unit h =
     record { some = some; unit = unit; all = weighted_at n d scale cosine M r h }
 
@@ -348,10 +346,10 @@ module _ {g : Margin} (M : Map) (m : IsMap M) (P : Path) (is : IsTrue (is_path P
             own_line Incoming (last_number r) x (omega arith) (omega (arith, b.0), omega (arith, b.1));
       }
 
-pub decoded_near : (g : Margin) → DecodedNear g
+pub decoded_near : (g : Margin) → LawOf (λ (l : StringLaws g). l.decoded_near)
 decoded_near g M m P is r e = let p = by_answer M P r e in near_point M m P is p.0 r p.1
 
-pub decoded_points : (g : Margin) → DecodedPoints g
+pub decoded_points : (g : Margin) → LawOf (λ (l : StringLaws g). l.decoded_points)
 decoded_points g M m P is r e = let p = by_answer M P r e in point_at M m P is p.0 r p.1
 
 -- ---- the legs together
@@ -363,7 +361,7 @@ joined g M ls (p ∷ q ∷ ks) l =
     let here = linked_above g M ls q ks l.1 (last (q ∷ ks)) in
     grind (arith, has_last (q ∷ ks), joined g M ls (q ∷ ks) l.1, stretch_parts ls p q (last (q ∷ ks)))
 
-pub stretches_join : (g : Margin) → StretchesJoin g
+pub stretches_join : (g : Margin) → LawOf (λ (l : StringLaws g). l.stretches_join)
 stretches_join g M P ws p =
     let E = extended_path M P p.before p.after in
     let gs = legs M E.lines in
@@ -372,10 +370,10 @@ stretches_join g M P ws p =
     (follow_linked_with g M E.lines 0 p.points p.follow) in
     path_also p (ap concat p.holds ∙ joined g M E.lines ks linked)
 
-pub offsets_close : (g : Margin) → OffsetsWith g
+pub offsets_close : (g : Margin) → LawOf (λ (l : StringLaws g). l.offsets_close)
 offsets_close g M m P is r e = let p = by_answer M P r e in cuts M m P is p.0 r p.1
 
-pub steps_close : (g : Margin) → DistancesWith g
+pub steps_close : (g : Margin) → LawOf (λ (l : StringLaws g). l.distances_close)
 steps_close g M m P is r e ws s = let p = by_answer M P r e in all_steps M m P is p.0 r p.1 ws s
 
 -- ---- the nearest node, and without the decoded coordinate
@@ -431,7 +429,7 @@ module _ (n d scale : ℕ) (far : Measure) (M : Map) (r : Reference) (w : IsWeig
       let p = and_parts (is_direction (direction_on s (leg M x))) _ h in
       and_from _ _ p.0 (all_candidates M _ _ (other_outdone e) p.1)
 
-pub nearest_own : (g : Margin) → Nearest g
+pub nearest_own : (g : Margin) → LawOf (λ (l : StringLaws g). l.own_is_nearest)
 nearest_own g M m P is r e n d scale far w =
     let p = by_answer M P r e in
     let lines = own_lines_are M m P is p.0 r p.1 in
@@ -440,7 +438,7 @@ nearest_own g M m P is r e n d scale far w =
       incoming = λ x at. spaced_nearest n d scale far M r w Incoming (last_number r) x (lines.incoming x at);
     }
 
-pub clear_stands_out : (g : Margin) → ClearStandsOut g
+pub clear_stands_out : (g : Margin) → LawOf (λ (l : StringLaws g). l.clear_stands_out)
 clear_stands_out g M m P is r enc n d scale e far w clear =
     let p = by_answer M P r enc in
     let lines = own_lines_are M m P is p.0 r p.1 in

@@ -1,15 +1,15 @@
 -- The worked paths on their maps: a path to which nothing is added, its answer, and its lines at the LRPs.
-use Rattle.olr_spec.proofs.Common.{◌≡◌, LongestStart, extended_path, answer_by_points, MatchOption, kept_points, UniqueShortest}
-use Rattle.olr_spec.proofs.Common.{ℕ, IsTrue, EndRun, Follow, Points, Option, Refused, Measure, nat_le, To_end, IsRoute, nat_lt}
-use Rattle.olr_spec.proofs.Common.{Bool, add-zero, StartRun, Reference, slice_get, cases_Bool, Candidate, reference, IsWeighted}
-use Rattle.olr_spec.proofs.Common.{true, List, ◌++◌, refl, subst, arith, Some, IsMap, start, first, dm_of, Tried, up_to, fit16}
-use Rattle.olr_spec.proofs.Common.{false, is_path, Encodes, Encoding, Refusal, leb-true, list_all, To_valid, not-true, has_line}
-use Rattle.olr_spec.proofs.Common.{[], ap, ◌+◌, ◌<◌, ◌≤◌, dm, not, has}
-use Rattle.olr_spec.proofs.Common.{◌∷◌, sym, ◌∙◌, None, cond, Map, end, last, Path, Leg, leg, legs, Side, zero, suc, ◌&&◌, ints}
-use Rattle.olr_spec.proofs.Common.{append-nil, passing, LongestEnd, path_fault, candidates, option_map, is_nearest, has_no_twin}
+use Rattle.olr_spec.proofs.Common.{◌≡◌, MatchOption, kept_points, FollowWith, cases_Bool, IsWeighted, EncodingWith, has_no_twin}
+use Rattle.olr_spec.proofs.Common.{LongestStart, extended_path, answer_by_points_with, UniqueShortest, no_margin, CandidateWith}
+use Rattle.olr_spec.proofs.Common.{ℕ, ap, ◌≤◌, dm, not, has, ◌∷◌, sym, ◌∙◌, Map, end, Leg, leg, suc}
+use Rattle.olr_spec.proofs.Common.{IsTrue, EndRun, Points, Option, Measure, nat_le, IsRoute, is_path, Encodes, Refusal, passing}
+use Rattle.olr_spec.proofs.Common.{Refused, add-zero, StartRun, reference, leb-true, list_all, To_valid, not-true, has_line, []}
+use Rattle.olr_spec.proofs.Common.{To_end, nat_lt, Bool, subst, arith, IsMap, start, first, dm_of, Tried, up_to, fit16, false}
+use Rattle.olr_spec.proofs.Common.{Reference, slice_get, append-nil, LongestEnd, path_fault, candidates, option_map, is_nearest}
+use Rattle.olr_spec.proofs.Common.{true, List, ◌++◌, refl, Some, ◌+◌, ◌<◌, None, cond, last, Path, legs, Side, zero, ◌&&◌, ints}
 use Rattle.olr_spec.proofs.Facts.{path_at, empty_unique}
 use Rattle.olr_spec.specs.Receiver.{decoded_coord, Outgoing, Incoming, Lrp, lrp_at, Rating}
-use Rattle.olr_spec.specs.Recovery.{IsLineAt, line_by, DistinctAt, Distinct, are_cosines, is_cosine}
+use Rattle.olr_spec.specs.Recovery.{IsLineAtWith, line_by, DistinctAtWith, Distinct, are_cosines, is_cosine}
 use Rattle.olr_laws.specs.ReceiverLaws.{stands_out, exceeded, rating_by, weighted, Differences, DistinctByDirection}
 use Rattle.olr_laws.specs.ReceiverLaws.{DirectionReceiver, TakesByDirection, SeesDirections, count_where}
 use Rattle.olr_laws.specs.Rows.{leg10, leg20, leg30, leg99, reference1, legs1, morning_lines, axes_sum, cosine, by_cosine}
@@ -54,10 +54,10 @@ pub record IsRow (M : Map) (P : Path) (js : List ℕ) (gs : List Leg) (cs : List
   pub none : path_fault M P ≡ None
   pub starts : passing M (start M (first P.lines)) ≡ false
   pub ends : passing M (end M (last P.lines)) ≡ false
-  pub follow : Follow M P.lines 0 js
+  pub follow : FollowWith no_margin M P.lines 0 js
   pub along : legs M P.lines ≡ gs
   pub all : candidates M ≡ cs
-  pub answer : answer_by_points M P js ≡ Points r
+  pub answer : answer_by_points_with no_margin M P js ≡ Points r
 
 module _ (M : Map) (P : Path) (js : List ℕ) (gs : List Leg) (cs : List (ℕ × Leg)) (r : Reference) (w : IsRow M P js gs cs r) where
   tried : Tried M P [] []
@@ -69,24 +69,24 @@ module _ (M : Map) (P : Path) (js : List ℕ) (gs : List Leg) (cs : List (ℕ ×
             (longest_end M P.lines w.ends);
       }
 
-  encoding : Encoding M P (Points r)
+  encoding : EncodingWith no_margin M P (Points r)
   encoding =
       record {
         before = [];
         after = [];
         points = js;
         tried = tried;
-        follow = subst (λ (E : Path). Follow M E.lines 0 js) (sym (not_extended M P)) w.follow;
-        holds = sym (ap (λ (E : Path). answer_by_points M E js) (not_extended M P) ∙ w.answer);
+        follow = subst (λ (E : Path). FollowWith no_margin M E.lines 0 js) (sym (not_extended M P)) w.follow;
+        holds = sym (ap (λ (E : Path). answer_by_points_with no_margin M E js) (not_extended M P) ∙ w.answer);
       }
 
   pub encodes : Encodes M P (Points r)
   encodes =
-      subst (λ (o : Option Refusal). MatchOption o (Encoding M P (Points r)) (λ f. Points r ≡ Refused f)) (sym w.none)
-      encoding
+      subst (λ (o : Option Refusal). MatchOption o (EncodingWith no_margin M P (Points r)) (λ f. Points r ≡ Refused f))
+      (sym w.none) encoding
 
   -- the path's line at an LRP
-  line_found : (s : Side) (k x : ℕ) → IsLineAt M P s k x →
+  line_found : (s : Side) (k x : ℕ) → IsLineAtWith no_margin M P s k x →
       option_map (line_by s P.lines) (slice_get (kept_points gs P.pos P.neg js) k) ≡ Some x
   unfolding encoding
   line_found s k x at =
@@ -97,24 +97,24 @@ module _ (M : Map) (P : Path) (js : List ℕ) (gs : List Leg) (cs : List (ℕ ×
 
   module _ (s : Side) (k y : ℕ) (g : Leg) (on : option_map (line_by s P.lines) (slice_get (kept_points gs P.pos P.neg js) k) ≡ Some y)
       (is_g : leg M y ≡ g) (far : Measure) where
-    pub own_is : (x : ℕ) → IsLineAt M P s k x → y ≡ x
+    pub own_is : (x : ℕ) → IsLineAtWith no_margin M P s k x → y ≡ x
     own_is x at = let there = line_found s k x at in cc (there, on)
 
     -- a test of line y by the lines of the map
-    holds : (Q : ℕ → Leg → List (ℕ × Leg) → Bool) → Q y g cs ≡ true → (x : ℕ) → IsLineAt M P s k x →
+    holds : (Q : ℕ → Leg → List (ℕ × Leg) → Bool) → Q y g cs ≡ true → (x : ℕ) → IsLineAtWith no_margin M P s k x →
         IsTrue (Q x (leg M x) (candidates M))
     holds Q h x at =
         subst (λ (x : ℕ). IsTrue (Q x (leg M x) (candidates M))) (own_is x at) ((λ i. Q y (is_g i) (w.all i)) ∙ h)
 
     -- it is distinct at LRP k
     pub distinct_at : is_nearest far s (decoded_coord r k) g cs ≡ true → has_no_twin s y g cs ≡ true →
-        DistinctAt far M P s k (decoded_coord r k)
+        DistinctAtWith no_margin far M P s k (decoded_coord r k)
     distinct_at near none =
         record { nearest = holds (λ _. is_nearest far s (decoded_coord r k)) near; alone = holds (has_no_twin s) none }
 
     -- it stands out
-    pub stands_at : (slack : ℕ) → stands_out far slack s (decoded_coord r k) y g cs ≡ true → (x : ℕ) → IsLineAt M P s k x →
-        IsTrue (stands_out far slack s (decoded_coord r k) x (leg M x) (candidates M))
+    pub stands_at : (slack : ℕ) → stands_out far slack s (decoded_coord r k) y g cs ≡ true → (x : ℕ) →
+        IsLineAtWith no_margin M P s k x → IsTrue (stands_out far slack s (decoded_coord r k) x (leg M x) (candidates M))
     stands_at slack = holds (stands_out far slack s (decoded_coord r k))
 
 -- ---- the first worked path: the lines 10, 20 and 30 with three LRPs; line 99, between the ends of line 20, is shorter
@@ -156,7 +156,7 @@ by_side = (road99.known, road99.from ∙ sym road10.to, road99.to ∙ sym road30
 not_over : ¬ UniqueShortest M (end M 10) (start M 30) (20 ∷ [])
 not_over u = omega (arith, u.others (99 ∷ []) by_side (λ e. absurd cc), lengths.1, lengths.3)
 
-at_most_one : (k : ℕ) → Candidate M Lines 0 k → k ≤ 1
+at_most_one : (k : ℕ) → CandidateWith no_margin M Lines 0 k → k ≤ 1
 at_most_one zero c = omega arith
 at_most_one (suc zero) c = omega arith
 at_most_one (suc (suc zero)) c = absurd (not_over (c.covered (omega arith)))
@@ -166,7 +166,7 @@ at_most_one (suc (suc (suc (suc k)))) c = absurd (omega (arith, c.upto))
 none_between : (v w u : ℕ) → w ≡ u → v ≡ u → UniqueShortest M v w []
 none_between v w u to from = subst (λ (v : ℕ). UniqueShortest M v w []) (to ∙ sym from) (empty_unique M morning_sound w)
 
-first_leg : Candidate M Lines 0 1
+first_leg : CandidateWith no_margin M Lines 0 1
 first_leg =
     let covered = none_between (end M 10) (start M 20) 2 road20.from road10.to in
     record {
@@ -177,7 +177,7 @@ first_leg =
       fits = λ i. fit16 (road10.is i).begin (road20.is i).begin;
     }
 
-last_leg : Candidate M Lines 1 3
+last_leg : CandidateWith no_margin M Lines 1 3
 last_leg =
     let covered = none_between (end M 20) (start M 30) 3 road30.from road20.to in
     record {
@@ -188,7 +188,7 @@ last_leg =
       fits = λ i. fit16 (road20.is i).begin (road30.is i).finish;
     }
 
-follows : Follow M Lines 0 (1 ∷ 3 ∷ [])
+follows : FollowWith no_margin M Lines 0 (1 ∷ 3 ∷ [])
 follows = (
   To_valid (λ c. let few : 3 ≤ 1 = at_most_one 3 c in omega arith) (record {
     holds = (first_leg, ap (passing M) road20.from ∙ passing_is morning_nodes morning_records tt tt 2);
@@ -229,16 +229,16 @@ pub morning_distinct : Distinct axes_sum morning_map morning_path reference1
 morning_distinct =
     record { outgoing = out; incoming = distinct_at M _ _ _ _ _ row1 Incoming 2 30 leg30 refl road30.is axes_sum refl refl }
   where
-    out : (k : ℕ) → k < 2 → DistinctAt axes_sum morning_map morning_path Outgoing k (decoded_coord reference1 k)
+    out : (k : ℕ) → k < 2 → DistinctAtWith no_margin axes_sum morning_map morning_path Outgoing k (decoded_coord reference1 k)
     out zero lt = distinct_at M _ _ _ _ _ row1 Outgoing 0 10 leg10 refl road10.is axes_sum refl refl
     out (suc zero) lt = distinct_at M _ _ _ _ _ row1 Outgoing 1 20 leg20 refl road20.is axes_sum refl refl
     out (suc (suc k)) lt = absurd (omega arith)
 
-pub morning_by_direction : DistinctByDirection axes_sum 10000000 morning_map morning_path reference1
+pub morning_by_direction : DistinctByDirection no_margin axes_sum 10000000 morning_map morning_path reference1
 morning_by_direction =
     record { outgoing = out; incoming = stands_at M _ _ _ _ _ row1 Incoming 2 30 leg30 refl road30.is axes_sum 10000000 refl }
   where
-    out : (k x : ℕ) → k < 2 → IsLineAt M morning_path Outgoing k x →
+    out : (k x : ℕ) → k < 2 → IsLineAtWith no_margin M morning_path Outgoing k x →
         IsTrue (stands_out axes_sum 10000000 Outgoing (decoded_coord reference1 k) x (leg M x) (candidates M))
     out zero x lt = stands_at M _ _ _ _ _ row1 Outgoing 0 10 leg10 refl road10.is axes_sum 10000000 refl x
     out (suc zero) x lt = stands_at M _ _ _ _ _ row1 Outgoing 1 20 leg20 refl road20.is axes_sum 10000000 refl x
@@ -258,7 +258,7 @@ morning_weighted = some_weighted 64 100 1000000 cosine morning_map reference1 (o
 line10 : IsRoad fork_map 10 fork10 1 2
 line10 = road fork_nodes fork_records tt tt 10 1 2 (refl, refl, refl)
 
-leg_fits : Candidate fork_map (10 ∷ []) 0 1
+leg_fits : CandidateWith no_margin fork_map (10 ∷ []) 0 1
 leg_fits =
     record {
       after = omega arith;
@@ -292,8 +292,8 @@ pub fork_distinct : Distinct axes_sum fork_map fork_path fork_reference
 fork_distinct =
     record {
       outgoing = λ k lt. let first : 0 ≡ k = omega arith in
-          subst (λ (k : ℕ). DistinctAt axes_sum fork_map fork_path Outgoing k (decoded_coord fork_reference k)) first
-          (distinct_at fork_map _ _ _ _ _ fork_row Outgoing 0 10 fork10 refl line10.is axes_sum refl refl);
+          subst (λ (k : ℕ). DistinctAtWith no_margin axes_sum fork_map fork_path Outgoing k (decoded_coord fork_reference k))
+          first (distinct_at fork_map _ _ _ _ _ fork_row Outgoing 0 10 fork10 refl line10.is axes_sum refl refl);
       incoming = distinct_at fork_map _ _ _ _ _ fork_row Incoming 1 10 fork10 refl line10.is axes_sum refl refl;
     }
 

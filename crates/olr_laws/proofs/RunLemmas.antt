@@ -1,11 +1,11 @@
 -- A run is determined by what it reads, reports out of memory only where that may be, and rebuilds a dumped content; a run
 -- that is cut off, and the next one from what is left of its log.
 use Rattle.olr_run.proofs.Common.{◌&&◌, cases_Bool, AreAnswered, append-nil, SoundOutcome, records_of, outcome_text, Registered}
-use Rattle.olr_run.proofs.Common.{is_err, IsFalse, ByState, read, Appends, Claims, texts, In_last, EndedOn, Known}
-use Rattle.olr_run.proofs.Common.{or_parts, Outcome, Outcomes, IsRefusal, may_lack, both_ways, run_join, Represents, RunFault}
-use Rattle.olr_run.proofs.Common.{Field, lacks_memory, CommandOutcome, RecordOutcome, AllHadMemory, append_assoc, SoundOutcomes}
-use Rattle.std.proofs.Common.{◌≡◌, [], ◌∷◌, Ok, Err, sym, ◌∙◌, inl, inr, ◌⊎◌, map, ℕ, take, Some, None, ap, suc, ◌+◌}
-use Rattle.std.proofs.Common.{Bool, false, List, refl, subst, arith, IsTrue, length, Result, true, ◌++◌, Option, length-append}
+use Rattle.olr_run.proofs.Common.{is_err, IsFalse, ByState, read, Appends, Claims, texts, In_last, EndedOn, Known, or_parts}
+use Rattle.olr_run.proofs.Common.{Outcome, Outcomes, IsRefusal, may_lack, both_ways, run_join, Represents, RunFault, Field}
+use Rattle.olr_run.proofs.Common.{lacks_memory, CommandOutcome, RecordOutcome, AllHadMemory, append_assoc, SoundOutcomes}
+use Rattle.std.proofs.Common.{◌≡◌, [], ◌∷◌, Ok, Err, sym, ◌∙◌, inl, inr, ◌⊎◌, map, ℕ, take, Some, None, ap, suc, ◌+◌, Bool}
+use Rattle.std.proofs.Common.{false, List, refl, subst, arith, IsTrue, length, Result, true, ◌++◌, Option, length-append}
 use Rattle.olr_commands.specs.State.{State, Command, HasCoords, IsState, Memory, Fault, step, Change, Content, IsContent, Abort}
 use Rattle.olr_records.specs.Records.{Read, HoldsList}
 use Rattle.olr_run.specs.Output.{StopsAtFault, any_refused, CutOff, Before_next, No_text, Not_sent}
@@ -15,7 +15,7 @@ use Rattle.olr_commands.specs.Reply.{Lacks}
 use Rattle.std.specs.Prelude.{IsOkAnd}
 use Rattle.olr_run.proofs.Dumping.{step_own}
 use Rattle.olr_commands.specs.Dump.{steps_then, steps}
-use Rattle.olr_laws.specs.RunLaws.{OutcomesKeep, OneRun, MemoryLacks, DumpsReload}
+use Rattle.olr_laws.specs.RunLaws.{RunLaws}
 use Rattle.olr_commands.proofs.HistoryLemmas.{start_sound}
 use Rattle.olr_commands.proofs.StateLemmas.{steps_keep}
 use Rattle.olr_log.specs.Logs.{stored_of, left_of, is_own_of}
@@ -33,6 +33,7 @@ use Rattle.olr_input.specs.declared.buffered.Buffered.{Buffered}
 use Rattle.olr_laws.specs.LogLaws.{dropping, dropped, NextContinues, HasBegun, IsHonest, TwoRuns}
 use Rattle.olr_log.specs.declared.folder.Folder as folder
 use Rattle.sqlite_disk.specs.declared.Disk as disk
+use Rattle.olr_spec.proofs.LawOf.{LawOf}
 
 command_keeps : (s t : State) (r : Read Command) (o : Outcome) → ((c : Command) → r ≡ Ok c → HasCoords c) → IsState s →
     CommandOutcome s r o t → IsState t
@@ -42,7 +43,7 @@ command_keeps s t (Err f) o h i p = subst IsState (sym p.1) i
 record_keeps : (s t : State) (fields : List Field) (o : Outcome) → IsState s → RecordOutcome s fields o t → IsState t
 record_keeps s t fields o i h = grind (arith, command_keeps, coords_read)
 
-pub outcomes_keep : OutcomesKeep
+pub outcomes_keep : LawOf (λ (l : RunLaws). l.outcomes_keep)
 outcomes_keep s t rs [] i p = subst IsState p i
 outcomes_keep s t [] (o ∷ os) i p = absurd p
 outcomes_keep s t (r ∷ rs) (o ∷ os) i p = outcomes_keep p.0 t rs os (record_keeps s p.0 r o i p.1) p.2
@@ -87,7 +88,7 @@ one_list stop s t u (r ∷ rs) (o ∷ os) (k ∷ qs) i n m a b c d p q =
       one_list stop p.0 t u rs os qs (record_keeps s p.0 r o i p.1),
     )
 
-pub one_run : OneRun
+pub one_run : LawOf (λ (l : RunLaws). l.one_run)
 one_run stop s t u rs w v end stand i p q n m = grind (arith, one_list)
 
 -- ---- of a record
@@ -105,7 +106,7 @@ of_reading : (s : State) (r : Read Command) → IsOkAnd r HoldsList → IsOkAnd 
 of_reading s (Ok c) h = inl h
 of_reading s (Err f) h = h
 
-pub memory_lacks : MemoryLacks
+pub memory_lacks : LawOf (λ (l : RunLaws). l.memory_lacks)
 memory_lacks s t fields h = grind (arith, of_command, of_reading)
 
 -- ---- a run over the text of a dump
@@ -146,7 +147,7 @@ ended : (stop : Bool) (rs : List (List Field)) (os : List Outcome) → IsFalse (
     AreAnswered stop rs os → length os ≡ length rs
 ended stop rs os none h = grind arith
 
-pub dumps_reload : DumpsReload
+pub dumps_reload : LawOf (λ (l : RunLaws). l.dumps_reload)
 dumps_reload text n c stop t w end b p had = grind (arith, all_go, ended)
 
 -- ---- runs with a log

@@ -11,7 +11,8 @@ use Rattle.olr_spec.proofs.ListLemmas.{Contains-here, Contains-later, Contains-o
 use Rattle.olr_commands.specs.State.{Content, Change}
 use Rattle.olr_commands.specs.Dump.{dump_changes, margin_changes, node_change, line_change, node_changes, end_changes}
 use Rattle.olr_commands.specs.Dump.{line_changes}
-use Rattle.olr_laws.specs.CommandLaws.{ShownAreDumped}
+use Rattle.olr_laws.specs.CommandLaws.{CommandLaws}
+use Rattle.olr_spec.proofs.LawOf.{LawOf}
 
 found_in : {X : Type 0} (f : ℕ × X → Change) (es : List (ℕ × X)) (k : ℕ) (v : X) → find nat_cmp k es ≡ Some v →
     Contains (map f es) (f (k, v))
@@ -62,5 +63,5 @@ module _ (c : Content) where
         line_dumped x there,
       )
 
-pub shown_dumped : ShownAreDumped
+pub shown_dumped : LawOf (λ (l : CommandLaws). l.shown_are_dumped)
 shown_dumped c n x m = ((λ there on. nodes_dumped c n x there on), (λ there on. lines_dumped c m n x there on))

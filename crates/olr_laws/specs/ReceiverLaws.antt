@@ -7,8 +7,7 @@
 --     stands_out far slack s p x g cs      every other candidate is farther by more than the slack, or no nearer and
 --         beyond the margin
 --     AtEachLrp g M P r Q      Q holds of the path's own line at each LRP, with a margin of routes and classes
---     DistinctByDirection far slack M P r, DistinctByDirectionWith g      the path's own line at each LRP has a direction,
---         and stands out; with a margin
+--     DistinctByDirection g far slack M P r      the path's own line at each LRP has a direction, and stands out
 --     is_clear n d e k s x g cs      the same by the map alone, without the decoded coordinate
 --     IsWeightedByLatitude scale far M r      a measure that, from each LRP of r to each node with candidates, is between
 --         the axes' maximum and their sum, with cosines of at least the least one
@@ -19,23 +18,24 @@ use Rattle.std.specs.Prelude.{is_some, ◌↔◌, ◌≢◌, None, Contains, sli
 use Rattle.std.specs.List.{list_all, AllZip, concat}
 use Rattle.olr_spec.specs.Coordinates.{Coord}
 use Rattle.olr_spec.specs.Map.{Map, has_line, IsMap, coord_at, has}
-use Rattle.olr_spec.specs.Extension.{Path, is_path, first, last}
-use Rattle.olr_spec.specs.Margins.{Margin, no_margin}
+use Rattle.olr_spec.specs.Extension.{Path, first, last}
+use Rattle.olr_spec.specs.Margins.{Margin}
 use Rattle.olr_spec.specs.Bearings.{Leg, Vector, vector, beyond, quarters, IsSector}
 use Rattle.olr_spec.specs.Directions.{direction_on, is_direction, is_beyond}
 use Rattle.olr_spec.specs.Reference.{Reference, leg, Attrs}
 use Rattle.olr_spec.specs.Decoded.{decoded_bound, decoded, IsNear}
 use Rattle.olr_spec.specs.Receiver.{Side, Outgoing, Incoming, node_on, coordinate_on, sector_on, Lrp, Measure, Rating}
 use Rattle.olr_spec.specs.Receiver.{NowhereWorse, SomewhereBetter, candidates, decoded_coord, last_number, RecoversBy}
-use Rattle.olr_spec.specs.Receiver.{attributes, is_nearest, last_lrp, lrp_at}
-use Rattle.olr_spec.specs.Recovery.{IsLineAtWith, IsStretchesWith, IsKeptPartWith, IsLeftWith, IsCut, IsClose, IsStep}
-use Rattle.olr_spec.specs.Recovery.{IsWeighted, are_spaced, OwnLinesWith, Weighted, DistinctWith}
+use Rattle.olr_spec.specs.Receiver.{attributes, is_nearest, last_lrp, lrp_at, Receiver}
+use Rattle.olr_spec.specs.Recovery.{IsLineAtWith, IsStretchesWith, IsKeptPartWith, OwnLinesWith, DistinctWith, are_cosines}
+use Rattle.olr_spec.specs.Recovery.{IsLeftWith, IsCut, IsClose, IsStep, IsWeighted, are_spaced, Weighted, lon_apart, lat_apart}
 use Rattle.olr_spec.specs.Routes.{dm_of}
 use Rattle.olr_spec.specs.Encoding.{EncodesWith, IsPointWith, Points}
 use Rattle.olr_spec.specs.Elsewhere.{HasNoOther, IsNearlyAlong, HasClasses, KeptLines, suffices}
 use Rattle.olr_spec.specs.Ambiguity.{least_cosine, is_farther, usual_slack, obstacles}
 use Rattle.olr_commands.specs.State.{Named, Content, IsContent}
 use Rattle.olr_commands.specs.Ambiguities.{NamedObstacle, AskedAmbiguities}
+use Rattle.olr_spec.specs.Laws.{OfReferences}
 
 -- ---- the angle from the middle of a sector
 
@@ -134,13 +134,9 @@ pub record AtEachLrp (g : Margin) (M : Map) (P : Path) (r : Reference) (Q : Side
   pub outgoing : (k x : ℕ) → k < last_number r → IsLineAtWith g M P Outgoing k x → Q Outgoing k x
   pub incoming : (x : ℕ) → IsLineAtWith g M P Incoming (last_number r) x → Q Incoming (last_number r) x
 
-abbrev pub DistinctByDirectionWith : Margin → Measure → ℕ → Map → Path → Reference → Type 0
-DistinctByDirectionWith g far slack M P r =
+abbrev pub DistinctByDirection : Margin → Measure → ℕ → Map → Path → Reference → Type 0
+DistinctByDirection g far slack M P r =
     AtEachLrp g M P r (λ s k x. IsTrue (stands_out far slack s (decoded_coord r k) x (leg M x) (candidates M)))
-
--- without a margin
-abbrev pub DistinctByDirection : Measure → ℕ → Map → Path → Reference → Type 0
-DistinctByDirection = DistinctByDirectionWith no_margin
 
 -- ---- where the map alone shows it
 
@@ -158,97 +154,7 @@ is_clear n d e k s x g cs =
     && list_all (λ c. c.0 == x || is_spaced_by n d e k (coordinate_on s g) (coordinate_on s c.1)
     || node_on s c.1 == node_on s g && is_beyond (sector_on s g) (direction_on s c.1)) cs
 
--- ---- laws
-
--- each LRP of an answer is decoded near its coordinate on the map, and nothing but these LRPs
-abbrev pub DecodedNear : Margin → Type 0
-DecodedNear g =
-    (M : Map) → IsMap M → (P : Path) → IsTrue (is_path P.lines) → (r : Reference) → EncodesWith g M P (Points r)
-    → (k v : ℕ) → IsPointWith g M P k v → (p : ℤ × ℤ) × (decoded r k ≡ Some p) × IsNear k p (coord_at M v)
-
-abbrev pub DecodedPoints : Margin → Type 0
-DecodedPoints g =
-    (M : Map) → IsMap M → (P : Path) → IsTrue (is_path P.lines) → (r : Reference) → EncodesWith g M P (Points r)
-    → (k : ℕ) → IsTrue (is_some (decoded r k)) → (v : ℕ) × IsPointWith g M P k v
-
--- together the legs are the lines from the first remaining LRP to the last
-abbrev pub StretchesJoin : Margin → Type 0
-StretchesJoin g =
-    (M : Map) (P : Path) (ws : List (List ℕ)) → IsStretchesWith g M P ws → IsKeptPartWith g M P (concat ws)
-
--- an offset byte is off by less than a 256th of the first leg, or of the last
-abbrev pub OffsetsWith : Margin → Type 0
-OffsetsWith g =
-    (M : Map) → IsMap M → (P : Path) → IsTrue (is_path P.lines) → (r : Reference) → EncodesWith g M P (Points r)
-    → (ws : List (List ℕ)) → IsStretchesWith g M P ws → (front back : ℕ) → IsLeftWith g M P front back → (q : ℕ) → 0 < q
-    → ((c : ℕ) → IsCut q (first (map (dm_of M) ws)) r.pos c → IsClose q (first (map (dm_of M) ws)) front c)
-    × ((c : ℕ) → IsCut q (last (map (dm_of M) ws)) r.neg c → IsClose q (last (map (dm_of M) ws)) back c)
-
--- the length of each leg is in the interval of its distance to the next point
-abbrev pub DistancesWith : Margin → Type 0
-DistancesWith g =
-    (M : Map) → IsMap M → (P : Path) → IsTrue (is_path P.lines) → (r : Reference) → EncodesWith g M P (Points r)
-    → (ws : List (List ℕ)) → IsStretchesWith g M P ws → AllZip (λ a w. IsStep a (dm_of M w)) (attributes r) ws
-
--- an LRP's node is the nearest if the other nodes with candidates are three times the bound of decoding away
-abbrev pub Nearest : Margin → Type 0
-Nearest g =
-    (M : Map) → IsMap M → (P : Path) → IsTrue (is_path P.lines) → (r : Reference) → EncodesWith g M P (Points r)
-    → (n d scale : ℕ) (far : Measure) → IsWeighted n d scale far M r
-    → AtEachLrp g M P r (λ s k x. IsTrue (are_spaced n d k s (leg M x) (candidates M)) →
-    IsTrue (is_nearest far s (decoded_coord r k) (leg M x) (candidates M)))
-
--- if at each LRP the path's own line stands out, every receiver that compares directions recovers the legs between the
--- LRPs, and nothing else
-abbrev pub RecoveredByDirection : Margin → Type 0
-RecoveredByDirection g =
-    (D : DirectionReceiver) (M : Map) → IsMap M → (P : Path) → IsTrue (is_path P.lines) → (r : Reference)
-    → EncodesWith g M P (Points r) → DistinctByDirectionWith g D.by.far D.by.slack M P r
-    → (ws : List (List ℕ)) → RecoversBy (TakesByDirection D M) M r ws ↔ IsStretchesWith g M P ws
-
--- that the path's own line stands out can be tested without the decoded coordinates: the nodes of the other candidates are
--- e units farther away than for Nearest, and no other line at its node has a direction in its sector or the margin
-abbrev pub ClearStandsOut : Margin → Type 0
-ClearStandsOut g =
-    (M : Map) → IsMap M → (P : Path) → IsTrue (is_path P.lines) → (r : Reference) → EncodesWith g M P (Points r)
-    → (n d scale e : ℕ) (far : Measure) → IsWeighted n d scale far M r
-    → AtEachLrp g M P r (λ s k x. IsTrue (is_clear n d e k s x (leg M x) (candidates M)))
-    → DistinctByDirectionWith g far (scale * e) M P r
-
--- a difference that counts which limits the angle from the middle of the sector exceeds, one of them between 5.94 and 8.08
--- degrees, by any direction that is nearly that of the candidate
-abbrev pub SeesByLimits : Type 0
-SeesByLimits =
-    (ts : List ℕ) (t : ℕ) → IsTrue (has ts t) → 104000 ≤ t → t ≤ 142000 → (seen : Vector → Vector)
-    → ((v : Vector) → IsNearly v (seen v))
-    → SeesDirections (λ k v. exceeded ts k (seen v)) (count_where (λ u. nat_lt u 104000) ts)
-
--- any positive weights of the differences, by whose sum a candidate is preferred, are those of some receiver, if the
--- weight of the slack is at least that of the reach
-abbrev pub SomeByWeights : Type 0
-SomeByWeights =
-    (d : Differences) (w : Rating) → 0 < w.far → 0 < w.frc → 0 < w.fow → 0 < w.bearing
-    → w.bearing * d.reach ≤ w.far * d.slack → (D : DirectionReceiver) × (D.by ≡ d)
-    × ((a b : Rating) → D.prefers a b ≡ nat_lt (weighted w a) (weighted w b))
-
--- the line that a receiver takes at each LRP of the reference r is the path's own
-pub record TakesOwn (takes : Lrp → ℕ) (g : Margin) (M : Map) (P : Path) (r : Reference) : Type 0 where
-  pub outgoing : (k x : ℕ) (a : Attrs) → slice_get (attributes r) k ≡ Some a → IsLineAtWith g M P Outgoing k x →
-      takes (lrp_at r k a) ≡ x
-  pub incoming : (x : ℕ) → IsLineAtWith g M P Incoming (last_number r) x → takes (last_lrp r) ≡ x
-
--- a partner's map has no road that ours lacks, and its lengths and classes along the path differ from ours within the margin:
--- there a receiver that takes the right line at each LRP of the path's string recovers the legs between them, and nothing else
-abbrev pub ReadElsewhere : Type 0
-ReadElsewhere =
-    (c : Content) → IsContent c → (N : Map) → IsMap N → HasNoOther c.map N → (a b : ℕ) → IsTrue (suffices c.margin a b)
-    → (p : Named) → Contains c.paths p → (r : Reference) → EncodesWith c.margin c.map p.path (Points r)
-    → KeptLines c.margin c.map p.path (IsNearlyAlong a b c.map N)
-    → KeptLines c.margin c.map p.path (HasClasses c.margin c.map N)
-    → (takes : Lrp → ℕ) → TakesOwn takes c.margin c.map p.path r
-    → (ws : List (List ℕ)) → RecoversBy (λ t y. y ≡ takes t) N r ws ↔ IsStretchesWith c.margin c.map p.path ws
-
--- ---- ambiguities
+-- ---- laws of a string, with a margin
 
 pub record IsWeightedByLatitude (scale : ℕ) (far : Measure) (M : Map) (r : Reference) : Type 0 where
   pub unit : 0 < scale
@@ -256,31 +162,54 @@ pub record IsWeightedByLatitude (scale : ℕ) (far : Measure) (M : Map) (r : Ref
       Weighted (least_cosine (decoded_coord r k) (coordinate_on s (leg M x))) 1000000 scale far (decoded_coord r k)
       (coordinate_on s (leg M x))
 
--- if the path's own lines have no ambiguity, its string is distinct for both kinds of receivers, whatever their
--- differences and preferences are: for each such measure, and each slack of at most the usual one
-abbrev pub ClearIsDistinct : Margin → Type 0
-ClearIsDistinct g =
-    (M : Map) → IsMap M → (P : Path) → IsTrue (is_path P.lines) → (r : Reference) → EncodesWith g M P (Points r)
-    → (xs : List ℕ) → OwnLinesWith g M P xs → obstacles M r xs ≡ []
-    → (scale : ℕ) (far : Measure) → IsWeightedByLatitude scale far M r → (slack : ℕ) → slack ≤ scale * usual_slack
-    → DistinctWith g far M P r × DistinctByDirectionWith g far slack M P r
+-- the string is distinct for both kinds of receivers, whatever their differences and preferences are: for each such
+-- measure, and each slack of at most the usual one
+abbrev pub IsDistinctForAll : Margin → Map → Path → Reference → Type 0
+IsDistinctForAll g M P r =
+    (scale : ℕ) (far : Measure) → IsWeightedByLatitude scale far M r → (slack : ℕ) → slack ≤ scale * usual_slack →
+    DistinctWith g far M P r × DistinctByDirection g far slack M P r
 
--- a path with a string that the answer to the question about all paths doesn't name is distinct for both kinds of receivers
-abbrev pub UnnamedIsDistinct : Type 0
-UnnamedIsDistinct =
-    (c : Content) → IsContent c → (es : List NamedObstacle) → AskedAmbiguities c None es
-    → (p : Named) → Contains c.paths p → ((e : NamedObstacle) → Contains es e → e.name ≢ p.name)
-    → (r : Reference) → EncodesWith c.margin c.map p.path (Points r)
-    → (scale : ℕ) (far : Measure) → IsWeightedByLatitude scale far c.map r → (slack : ℕ) → slack ≤ scale * usual_slack
-    → DistinctWith c.margin far c.map p.path r × DistinctByDirectionWith c.margin far slack c.map p.path r
+pub record StringLaws (g : Margin) : Type 0 where
+  -- each LRP of an answer is decoded near its coordinate on the map, and nothing but these LRPs
+  pub decoded_near : OfReferences g (λ M P r. (k v : ℕ) → IsPointWith g M P k v →
+      (p : ℤ × ℤ) × (decoded r k ≡ Some p) × IsNear k p (coord_at M v))
+  pub decoded_points : OfReferences g (λ M P r. (k : ℕ) → IsTrue (is_some (decoded r k)) → (v : ℕ) × IsPointWith g M P k v)
+  -- together the legs are the lines from the first remaining LRP to the last
+  pub stretches_join : (M : Map) (P : Path) (ws : List (List ℕ)) → IsStretchesWith g M P ws → IsKeptPartWith g M P (concat ws)
+  -- an offset byte is off by less than a 256th of the first leg, or of the last
+  pub offsets_close : OfReferences g (λ M P r. (ws : List (List ℕ)) → IsStretchesWith g M P ws → (front back : ℕ) →
+      IsLeftWith g M P front back → (q : ℕ) → 0 < q →
+      ((c : ℕ) → IsCut q (first (map (dm_of M) ws)) r.pos c → IsClose q (first (map (dm_of M) ws)) front c)
+      × ((c : ℕ) → IsCut q (last (map (dm_of M) ws)) r.neg c → IsClose q (last (map (dm_of M) ws)) back c))
+  -- the length of each leg is in the interval of its distance to the next point
+  pub distances_close : OfReferences g (λ M P r. (ws : List (List ℕ)) → IsStretchesWith g M P ws →
+      AllZip (λ a w. IsStep a (dm_of M w)) (attributes r) ws)
+  -- an LRP's node is the nearest if the other nodes with candidates are three times the bound of decoding away
+  pub own_is_nearest : OfReferences g (λ M P r. (n d scale : ℕ) (far : Measure) → IsWeighted n d scale far M r →
+      AtEachLrp g M P r (λ s k x. IsTrue (are_spaced n d k s (leg M x) (candidates M)) →
+      IsTrue (is_nearest far s (decoded_coord r k) (leg M x) (candidates M))))
+  -- if at each LRP the path's own line stands out, every receiver that compares directions recovers the legs between the
+  -- LRPs, and nothing else
+  pub recovered_by_direction : (D : DirectionReceiver) → OfReferences g (λ M P r.
+      DistinctByDirection g D.by.far D.by.slack M P r → (ws : List (List ℕ)) →
+      RecoversBy (TakesByDirection D M) M r ws ↔ IsStretchesWith g M P ws)
+  -- that the path's own line stands out can be tested without the decoded coordinates: the nodes of the other candidates
+  -- are e units farther away than for own_is_nearest, and no other line at its node has a direction in its sector or the
+  -- margin
+  pub clear_stands_out : OfReferences g (λ M P r. (n d scale e : ℕ) (far : Measure) → IsWeighted n d scale far M r →
+      AtEachLrp g M P r (λ s k x. IsTrue (is_clear n d e k s x (leg M x) (candidates M))) →
+      DistinctByDirection g far (scale * e) M P r)
+  -- if the path's own lines have no ambiguity, its string is distinct for both kinds of receivers
+  pub clear_is_distinct : OfReferences g (λ M P r. (xs : List ℕ) → OwnLinesWith g M P xs → obstacles M r xs ≡ [] →
+      IsDistinctForAll g M P r)
 
--- no test of nodes names fewer for all these receivers: where a node isn't farther by more than e units, there is such a
--- measure, for each map and each LRP, by which it isn't
-abbrev pub NoSharperTest : Type 0
-NoSharperTest =
-    (e : ℕ) (p : ℤ × ℤ) (c d : Coord) → IsFalse (is_farther e p c d) →
-    (far : Measure) × ((q : ℤ × ℤ) (v : Coord) → Weighted (least_cosine q v) 1000000 1000000 far q v)
-    × (far p d ≤ far p c + 1000000 * e)
+-- ---- laws of receivers, and of a content
+
+-- the line that a receiver takes at each LRP of the reference r is the path's own
+pub record TakesOwn (takes : Lrp → ℕ) (g : Margin) (M : Map) (P : Path) (r : Reference) : Type 0 where
+  pub outgoing : (k x : ℕ) (a : Attrs) → slice_get (attributes r) k ≡ Some a → IsLineAtWith g M P Outgoing k x →
+      takes (lrp_at r k a) ≡ x
+  pub incoming : (x : ℕ) → IsLineAtWith g M P Incoming (last_number r) x → takes (last_lrp r) ≡ x
 
 pub record StandsFor (g : Margin) (M : Map) (p : Named) (e : NamedObstacle) : Type 0 where
   pub reference : Reference
@@ -290,8 +219,42 @@ pub record StandsFor (g : Margin) (M : Map) (p : Named) (e : NamedObstacle) : Ty
   pub name : e.name ≡ p.name
   pub stands : Contains (obstacles M reference lines) (e.lrp, e.obstacle)
 
--- each thing in the answer is an ambiguity of the string of one of the paths
-abbrev pub NamedStands : Type 0
-NamedStands =
-    (c : Content) (es : List NamedObstacle) → AskedAmbiguities c None es → (e : NamedObstacle) → Contains es e →
-    (p : Named) × Contains c.paths p × StandsFor c.margin c.map p e
+pub record ReceiverLaws : Type 0 where
+  -- each measure is that of some receiver
+  pub some_receiver : (far : Measure) → (R : Receiver) × (R.far ≡ far)
+  -- the weighted sum of both axes is such a measure, with any cosines that at these coordinates are in range
+  pub some_weighted : (n d scale : ℕ) (cosine : Measure) (M : Map) (r : Reference) → 0 < d → 0 < scale →
+      IsTrue (are_cosines n d scale cosine M r) →
+      IsWeighted n d scale (λ p c. cosine p c * lon_apart p c + scale * lat_apart p c) M r
+  -- a difference that counts which limits the angle from the middle of the sector exceeds, one of them between 5.94 and
+  -- 8.08 degrees, by any direction that is nearly that of the candidate
+  pub sees_by_limits : (ts : List ℕ) (t : ℕ) → IsTrue (has ts t) → 104000 ≤ t → t ≤ 142000 → (seen : Vector → Vector) →
+      ((v : Vector) → IsNearly v (seen v)) →
+      SeesDirections (λ k v. exceeded ts k (seen v)) (count_where (λ u. nat_lt u 104000) ts)
+  -- any positive weights of the differences, by whose sum a candidate is preferred, are those of some receiver, if the
+  -- weight of the slack is at least that of the reach
+  pub some_by_weights : (d : Differences) (w : Rating) → 0 < w.far → 0 < w.frc → 0 < w.fow → 0 < w.bearing →
+      w.bearing * d.reach ≤ w.far * d.slack → (D : DirectionReceiver) × (D.by ≡ d)
+      × ((a b : Rating) → D.prefers a b ≡ nat_lt (weighted w a) (weighted w b))
+  -- a partner's map has no road that ours lacks, and its lengths and classes along the path differ from ours within the
+  -- margin: there a receiver that takes the right line at each LRP of the path's string recovers the legs between them, and
+  -- nothing else
+  pub read_elsewhere : (c : Content) → IsContent c → (N : Map) → IsMap N → HasNoOther c.map N → (a b : ℕ) →
+      IsTrue (suffices c.margin a b) → (p : Named) → Contains c.paths p → (r : Reference) →
+      EncodesWith c.margin c.map p.path (Points r) → KeptLines c.margin c.map p.path (IsNearlyAlong a b c.map N) →
+      KeptLines c.margin c.map p.path (HasClasses c.margin c.map N) → (takes : Lrp → ℕ) →
+      TakesOwn takes c.margin c.map p.path r → (ws : List (List ℕ)) →
+      RecoversBy (λ t y. y ≡ takes t) N r ws ↔ IsStretchesWith c.margin c.map p.path ws
+  -- a path with a string that the answer to the question about all paths doesn't name is distinct for both kinds of
+  -- receivers
+  pub unnamed_is_distinct : (c : Content) → IsContent c → (es : List NamedObstacle) → AskedAmbiguities c None es →
+      (p : Named) → Contains c.paths p → ((e : NamedObstacle) → Contains es e → e.name ≢ p.name) → (r : Reference) →
+      EncodesWith c.margin c.map p.path (Points r) → IsDistinctForAll c.margin c.map p.path r
+  -- and each thing in the answer is an ambiguity of the string of one of the paths
+  pub named_stands : (c : Content) (es : List NamedObstacle) → AskedAmbiguities c None es → (e : NamedObstacle) →
+      Contains es e → (p : Named) × Contains c.paths p × StandsFor c.margin c.map p e
+  -- no test of nodes names fewer for all these receivers: where a node isn't farther by more than e units, there is such a
+  -- measure, for each map and each LRP, by which it isn't
+  pub no_sharper_test : (e : ℕ) (p : ℤ × ℤ) (c d : Coord) → IsFalse (is_farther e p c d) →
+      (far : Measure) × ((q : ℤ × ℤ) (v : Coord) → Weighted (least_cosine q v) 1000000 1000000 far q v)
+      × (far p d ≤ far p c + 1000000 * e)

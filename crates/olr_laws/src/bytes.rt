@@ -1,26 +1,10 @@
-//! The laws of bytes and texts of references, and worked rows of both.
+//! Worked rows of bytes and texts of references.
 ghost use Rattle.std.specs.Prelude.{◌≡◌, ℕ, [], ◌∷◌, map, replicate, take, codes, Some, None};
-ghost use Rattle.olr_spec.specs.Laws;
 ghost use Rattle.olr_spec.specs.Bearings.{up_to};
 ghost use Rattle.olr_spec.specs.Bytes.{v3_fault, Length, Status, Flags, Reserved};
 ghost use Rattle.olr_spec.specs.Reference.{reference};
-ghost use Rattle.olr_binary.specs.Text.{OneReference, OneText, text_of};
+ghost use Rattle.olr_binary.specs.Text.{text_of};
 ghost use Rattle.olr_laws.specs.Rows.{Gives, legs1, reference1, reference2, bytes1, offset_bytes_of, bytes2};
-
-/// A reference encodes as one sequence of bytes, no bytes decode to two references, and bytes have
-/// no fault exactly if some reference encodes as them.
-pub fn laws_of_bytes()
-    ensures one_byte_form { Laws.OneByteForm }
-    ensures one_decoding { Laws.OneDecoding }
-    ensures no_fault { Laws.NoFault }
-{}
-
-/// Each reference encodes as one text, and no text decodes to two references. So `from_text` decodes what `to_text`
-/// returns to the same reference, and `to_text` encodes what `from_text` returns as the same text.
-pub fn laws_of_text()
-    ensures one_text { OneText }
-    ensures one_reference { OneReference }
-{}
 
 /// Faults of bytes: of the first worked bytes truncated at every length, and of others.
 pub fn rows_bytes()

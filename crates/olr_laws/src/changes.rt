@@ -1,45 +1,17 @@
-//! The laws of footprints, changes and coverage queries, and worked rows of changed lines and queries.
-ghost use Rattle.std.specs.Prelude.{◌≡◌, ℕ, List, [], ◌∷◌};
-ghost use Rattle.olr_spec.specs.Laws;
-ghost use Rattle.olr_spec.specs.Margins.{Margin};
+//! Worked rows of degree-two nodes, coverage queries and changed lines.
+ghost use Rattle.std.specs.Prelude.{◌≡◌, ℕ, true, false, List, [], ◌∷◌};
+ghost use Rattle.olr_spec.specs.Extension.{passes_between};
 ghost use Rattle.olr_spec.specs.Queries.{querying};
 ghost use Rattle.olr_spec.specs.Map.{Map, ShapePoint, empty_map, no_coord, dm, Add_node, Add_line, Set_line};
 ghost use Rattle.olr_spec.specs.Detours.{changes_of};
-ghost use Rattle.olr_laws.specs.Rows.{leg10};
+ghost use Rattle.olr_laws.specs.Rows.{AllGive, leg10};
 
-/// An answer and its footprint depend only on the footprint and on the path's own lines.
-pub fn laws_of_footprints()
-    ensures answer { (g : Margin) → Laws.LocalAnswer g }
-    ensures foot { (g : Margin) → Laws.LocalFoot g }
-    ensures edits { (g : Margin) → Laws.EditsAreLocal g }
-{}
-
-/// An edit makes no other difference than what it touches and changes, and the differences of
-/// consecutive edits add up. If no changed line offers a detour that is as short, routes are the
-/// same before and after.
-pub fn laws_of_changes()
-    ensures edits { Laws.EditsDiffer }
-    ensures none { Laws.NoDifference }
-    ensures more { Laws.DifferencesAdd }
-    ensures routes { Laws.AllRoutesStay }
-    ensures soles { Laws.SolesStay }
-    ensures near { Laws.NearStays }
-{}
-
-/// A path has exactly one list of coverage queries, and they determine its footprint; if edits
-/// affect neither these nor its traversed nodes, its answer is retained.
-pub fn laws_of_queries()
-    ensures one_last_tested { (g : Margin) → Laws.OneLastTested g }
-    ensures some_last_tested { (g : Margin) → Laws.SomeLastTested g }
-    ensures one { (g : Margin) → Laws.OneQueries g }
-    ensures some { (g : Margin) → Laws.SomeQueries g }
-    ensures foot { (g : Margin) → Laws.FootIsQueried g }
-    ensures affected { (g : Margin) → Laws.FootAffected g }
-    ensures queries { (g : Margin) → Laws.QueriesStay g }
-    ensures known { (g : Margin) → Laws.KnownStays g }
-    ensures kept { (g : Margin) → Laws.AnswersRetained g }
-    ensures untouched { (g : Margin) → Laws.UntouchedRetained g }
-    ensures known_kept { (g : Margin) → Laws.KnownRetained g }
+/// Degree-two nodes, by the other ends of the lines that enter node 9 and of those that leave it.
+pub fn rows_passing()
+    ensures passing { AllGive (λ (e : List ℕ × List ℕ). passes_between 9 e.0 e.1)
+        ((1 ∷ [], 2 ∷ []) ∷ (1 ∷ 2 ∷ [], 2 ∷ 1 ∷ []) ∷ []) true }
+    ensures others { AllGive (λ (e : List ℕ × List ℕ). passes_between 9 e.0 e.1) ((1 ∷ [], 1 ∷ []) ∷ (1 ∷ 2 ∷ [], 2 ∷ [])
+        ∷ (1 ∷ 1 ∷ [], 2 ∷ 2 ∷ []) ∷ (1 ∷ 2 ∷ [], 1 ∷ 3 ∷ []) ∷ (9 ∷ [], 9 ∷ []) ∷ ([], 2 ∷ []) ∷ []) false }
 {}
 
 /// The LRPs with a coverage query: those whose line is followed by two or more lines.

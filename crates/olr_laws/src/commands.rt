@@ -1,66 +1,15 @@
-//! The laws of states, replies and counts, the claims about whole runs of commands, and worked rows of commands.
+//! Worked rows of commands.
 ghost use Rattle.std.specs.Prelude.{◌≡◌, ℕ, true, false, [], ◌∷◌, codes, None, Some, Ok, Err};
 ghost use Rattle.olr_spec.specs.Bytes.{Length, Flags, Reserved};
 ghost use Rattle.olr_spec.specs.Bytes as bytes;
 ghost use Rattle.olr_spec.specs.Map.{Move_node, Drop_node, no_coord};
-ghost use Rattle.olr_commands.specs.History;
-ghost use Rattle.olr_commands.specs.Dump;
 ghost use Rattle.olr_commands.specs.State.{On_map, Add_path, Not_a_reference, Not_v3, Not_base64, Path_exists, No_path};
 ghost use Rattle.olr_commands.specs.State.{Batch_open, No_batch, Count_differs, Drop_path, Make, Show, Report, Explain};
 ghost use Rattle.olr_commands.specs.State.{Begin, Commit, Abort, start_state, step, Show_node, Show_line, Show_margin};
 ghost use Rattle.olr_commands.specs.State.{Set_margin, Depends, Compact, Preview, Ambiguous};
 ghost use Rattle.olr_commands.specs.Reply.{Paths, Held, Records, Names, Obstacles, IsReply, takes_memory, may_lack};
-ghost use Rattle.olr_laws.specs.CommandLaws as Laws;
 ghost use Rattle.olr_laws.specs.CommandRows.{in_batch, path_a, with_a, with_fifty, with_node, text_of_lines};
 ghost use Rattle.olr_laws.specs.Rows.{Gives, AllGive, fifty, path_of};
-
-/// What commands preserve, and that a reply is determined.
-#[tactic(auto, using(crate::proofs::CommandLemmas::one_reply, crate::proofs::CommandLemmas::one_outcome, crate::proofs::CommandLemmas::some_reply, crate::proofs::CommandLemmas::previews_commit))]
-pub fn laws_of_states()
-    ensures kept { Laws.StepsKeep }
-    ensures one_reply { Laws.OneReply }
-    ensures empty { Laws.EmptyCommit }
-    ensures abort { Laws.AbortGivesBack }
-    ensures one_outcome { Laws.OneOutcome }
-    ensures some_reply { Laws.SomeReply }
-    ensures previews { Laws.PreviewsCommit }
-{}
-
-/// The rise of the count of encodings is determined; a path that is given raises it by one, and the margin by the number of
-/// paths.
-#[tactic(auto, using(crate::proofs::CommandLemmas::one_rise, crate::proofs::CommandLemmas::no_rise, crate::proofs::CommandLemmas::margin_raises))]
-pub fn laws_of_counts()
-    ensures one { Laws.OneRise }
-    ensures none { Laws.NoRise }
-    ensures paths { Laws.PathsRaiseOne }
-    ensures margin { Laws.MarginRaisesAll }
-{}
-
-/// The claims about whole runs of commands.
-#[tactic(auto, using(crate::proofs::CommandLemmas::headline_of_histories, olr_commands::proofs::HistoryLemmas::routes_of, olr_commands::proofs::HistoryLemmas::names_changed, crate::proofs::CommandLemmas::no_differences, olr_commands::proofs::HistoryLemmas::is_dumped))]
-pub fn claims()
-    ensures headline { History.HeadlineOfHistories }
-    ensures joined { History.RoutesOfReferences }
-    ensures named { History.RepliesName }
-    ensures no_differences { History.NoDifferences }
-    ensures refused { History.RefusedChangeNothing }
-    ensures dumped { History.DumpsBuild }
-{}
-
-/// The changes that a content is written as build it from an empty one; the records that show a part of a map are among
-/// their records.
-#[tactic(auto, using(olr_commands::proofs::DumpLemmas::dumps_run, crate::proofs::CommandLemmas::dumps_again))]
-pub fn laws_of_dumps()
-    ensures lead { Dump.DumpsLead }
-    ensures run { Dump.DumpsRun }
-    ensures again { Dump.DumpsAgain }
-    ensures shown { Laws.ShownAreDumped }
-{}
-
-/// Which paths an edit affects depends on the nodes that it touches.
-pub fn laws_of_dependents()
-    ensures affected { Laws.AffectedDepend }
-{}
 
 /// The steps of `explain`.
 #[tactic(auto, unfolding(base64::specs::GeneralPurpose::decoded_of, base64::specs::Decode::groups_error, base64::specs::Decode::groups_bytes, base64::specs::Decode::scan_steps))]
@@ -74,44 +23,40 @@ pub fn rows_explain()
         ∷ ([], Err (Not_a_reference (Not_v3 Length))) ∷ (codes "*", Err (Not_a_reference Not_base64)) ∷ []) }
 {}
 
-/// Batches, in a register without paths.
-pub fn rows_batches()
-    ensures outside { Gives (step start_state) ((Begin, Ok (in_batch [])) ∷ (Commit 0, Err No_batch) ∷ (Abort, Err No_batch) ∷ []) }
+/// Steps, by the state: outside of batches, in a batch that holds nothing, in one that holds a path or a margin, and with a
+/// path. The margin is set at once outside of batches, and held in one.
+pub fn rows_steps()
+    ensures outside { Gives (step start_state) ((Begin, Ok (in_batch [])) ∷ (Commit 0, Err No_batch) ∷ (Abort, Err No_batch)
+        ∷ (Depends [], Ok start_state) ∷ (Compact, Ok start_state) ∷ (Preview, Err No_batch) ∷ (Ambiguous None, Ok start_state)
+        ∷ (Ambiguous (Some (codes "a")), Err No_path) ∷ (Show_margin, Ok start_state)
+        ∷ (Make (Set_margin fifty), Ok with_fifty) ∷ []) }
     ensures empty { Gives (step (in_batch [])) ((Begin, Err Batch_open) ∷ (Commit 0, Ok start_state)
-        ∷ (Commit 2, Err Count_differs) ∷ (Make path_a, Ok (in_batch (path_a ∷ []))) ∷ []) }
+        ∷ (Commit 2, Err Count_differs) ∷ (Preview, Ok (in_batch [])) ∷ (Make path_a, Ok (in_batch (path_a ∷ [])))
+        ∷ (Make (Set_margin fifty), Ok (in_batch (Set_margin fifty ∷ []))) ∷ []) }
+    ensures refused { AllGive (step (in_batch [])) (Show_node 1 ∷ Show_line 1 ∷ Depends (1 ∷ []) ∷ Compact
+        ∷ Ambiguous (Some (codes "a")) ∷ []) (Err Batch_open) }
     ensures holding { Gives (step (in_batch (path_a ∷ []))) ((Abort, Ok start_state) ∷ (Make path_a, Err Path_exists)
         ∷ (Show (codes "a"), Err No_path)
         ∷ (Make (Drop_path (codes "a")), Ok (in_batch (path_a ∷ Drop_path (codes "a") ∷ []))) ∷ []) }
-    ensures report { IsReply start_state Report start_state (Paths []) }
-    ensures one_held { IsReply (in_batch []) (Make path_a) (in_batch (path_a ∷ [])) (Held 1) }
+    ensures margin { Gives (step (in_batch (Set_margin fifty ∷ []))) ((Show_margin, Ok (in_batch (Set_margin fifty ∷ [])))
+        ∷ (Commit 1, Ok with_fifty) ∷ (Abort, Ok start_state) ∷ []) }
+    ensures with_path { step (with_a None) (Ambiguous (Some (codes "a"))) ≡ Ok (with_a None) }
 {}
 
-/// Questions, previews, and a log that is to be replaced: without paths, and in a batch that holds nothing.
-pub fn rows_questions()
-    ensures outside { Gives (step start_state) ((Depends [], Ok start_state) ∷ (Compact, Ok start_state) ∷ (Preview, Err No_batch)
-        ∷ (Ambiguous None, Ok start_state) ∷ (Ambiguous (Some (codes "a")), Err No_path) ∷ []) }
-    ensures of_batch { AllGive (step (in_batch [])) (Show_node 1 ∷ Show_line 1 ∷ Depends (1 ∷ []) ∷ Compact
-        ∷ Ambiguous (Some (codes "a")) ∷ []) (Err Batch_open) }
-    ensures preview { step (in_batch []) Preview ≡ Ok (in_batch []) }
-    ensures ambiguous_one { step (with_a None) (Ambiguous (Some (codes "a"))) ≡ Ok (with_a None) }
+/// Replies where no answer changed, and of the margin, which is shown without the open batch's.
+#[tactic(auto, unfolding(olr_records::proofs::OnLiterals::on_literals))]
+pub fn rows_of_replies()
+    ensures report { IsReply start_state Report start_state (Paths []) }
+    ensures held { IsReply (in_batch []) (Make path_a) (in_batch (path_a ∷ [])) (Held 1) }
     ensures no_dependents { IsReply with_node (Depends (1 ∷ [])) with_node (Names []) }
     ensures compacted { IsReply start_state Compact start_state (Paths []) }
     ensures no_difference { IsReply (in_batch []) Preview (in_batch []) (Paths []) }
     ensures no_obstacles { IsReply start_state (Ambiguous None) start_state (Obstacles []) }
-{}
-
-/// The margin: it is shown without the open batch's, set at once outside of batches, and held in one.
-#[tactic(auto, unfolding(olr_records::proofs::OnLiterals::on_literals))]
-pub fn rows_margin_commands()
-    ensures outside { Gives (step start_state) ((Show_margin, Ok start_state) ∷ (Make (Set_margin fifty), Ok with_fifty) ∷ []) }
-    ensures held { step (in_batch []) (Make (Set_margin fifty)) ≡ Ok (in_batch (Set_margin fifty ∷ [])) }
-    ensures holding { Gives (step (in_batch (Set_margin fifty ∷ []))) ((Show_margin, Ok (in_batch (Set_margin fifty ∷ [])))
-        ∷ (Commit 1, Ok with_fifty) ∷ (Abort, Ok start_state) ∷ []) }
-    ensures reply { IsReply start_state Show_margin start_state (Records 1 (text_of_lines (codes "margin,0,0" ∷ []))) }
-    ensures reply_in_batch { IsReply (in_batch (Set_margin fifty ∷ [])) Show_margin (in_batch (Set_margin fifty ∷ []))
+    ensures margin { IsReply start_state Show_margin start_state (Records 1 (text_of_lines (codes "margin,0,0" ∷ []))) }
+    ensures margin_in_batch { IsReply (in_batch (Set_margin fifty ∷ [])) Show_margin (in_batch (Set_margin fifty ∷ []))
         (Records 1 (text_of_lines (codes "margin,0,0" ∷ []))) }
-    ensures set_reply { IsReply start_state (Make (Set_margin fifty)) with_fifty (Paths []) }
-    ensures shown_again { IsReply with_fifty Show_margin with_fifty (Records 1 (text_of_lines (codes "margin,50,1" ∷ []))) }
+    ensures margin_set { IsReply start_state (Make (Set_margin fifty)) with_fifty (Paths []) }
+    ensures margin_again { IsReply with_fifty Show_margin with_fifty (Records 1 (text_of_lines (codes "margin,50,1" ∷ []))) }
 {}
 
 /// Which commands may run out of memory.

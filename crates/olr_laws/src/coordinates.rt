@@ -1,25 +1,10 @@
-//! The laws of degrees as text and of sectors, and worked rows of coordinates and bearings.
+//! Worked rows of coordinates and bearings.
 ghost use Rattle.std.specs.Prelude.{◌≡◌, ℕ, ℤ, pos, negsuc, neg_ℤ, [], ◌∷◌, codes, Some, None, Ok, Err};
-ghost use Rattle.olr_spec.specs.Laws;
 ghost use Rattle.olr_spec.specs.Coordinates.{abs24, from_abs24, rel16};
 ghost use Rattle.olr_spec.specs.Degrees;
 ghost use Rattle.olr_spec.specs.Degrees.{read_degrees};
 ghost use Rattle.olr_spec.specs.Bearings.{sector, thousandths, scaled_coord, bearing_out, bearing_back};
-ghost use Rattle.olr_coords.specs.Laws.{TextsRead, ReadHaveText};
 ghost use Rattle.olr_laws.specs.Rows.{Gives, AllGive, leg10, straight_leg, slanted_leg};
-
-/// A coordinate that is written is read as the same number of units, and a coordinate that is read can be written.
-pub fn laws_of_degrees()
-    ensures read { TextsRead }
-    ensures written { ReadHaveText }
-{}
-
-/// Each direction but (0, 0) is in exactly one sector.
-#[tactic(auto, using(olr_spec::proofs::SectorLemmas::one_sector, olr_spec::proofs::SectorLemmas::sector_is))]
-pub fn laws_of_sectors()
-    ensures one { Laws.OneSector }
-    ensures some { Laws.SomeSector }
-{}
 
 /// 24-bit steps, and back: halves are rounded away from zero.
 pub fn rows_abs24()

@@ -1,23 +1,10 @@
-//! The laws of margins, and worked rows.
+//! Worked rows of margins.
 ghost use Rattle.std.specs.Prelude.{◌≡◌, ℕ, true, false, [], ◌∷◌};
-ghost use Rattle.olr_spec.specs.Laws;
 ghost use Rattle.olr_spec.specs.Margins.{allowed, counted_dm};
 ghost use Rattle.olr_spec.specs.Elsewhere.{suffices};
 ghost use Rattle.olr_spec.specs.Routes.{UniqueShortest};
 ghost use Rattle.olr_spec.specs.Points.{CoveredWith};
-ghost use Rattle.olr_laws.specs.ReceiverLaws;
 ghost use Rattle.olr_laws.specs.Rows.{Gives, fifty, roads, roads_path, loop_map, loop_path};
-
-/// Where the lines of a route count longer and the route is the unique shortest path, each front of it is such a route;
-/// it is the unique shortest path of the map, and of another map, if this has no road that the first one lacks and the
-/// lengths differ by no more than the margin allows. So a receiver on such a map that takes the right
-/// line at each location reference point (LRP) of a path's string recovers the path's legs.
-pub fn laws_of_margins()
-    ensures fronts { Laws.PrefixOfCounted }
-    ensures here { Laws.CountedIsUnique }
-    ensures elsewhere { Laws.UniqueElsewhere }
-    ensures read { ReceiverLaws.ReadElsewhere }
-{}
 
 /// What lines count is rounded up to a decimetre, and is at most twice their length. With 50 thousandths lengths may
 /// differ by 24, with 100 by 47, and with 0 not at all. A class is allowed to be one less important, but not beyond 7.

@@ -1,7 +1,6 @@
-//! The laws of receivers, and worked rows of candidates.
+//! Worked rows of candidates and receivers.
 ghost use Rattle.std.specs.Prelude.{◌≡◌, ℕ, pos, negsuc, [], ◌∷◌, true, false};
-ghost use Rattle.olr_spec.specs.Laws;
-ghost use Rattle.olr_spec.specs.Margins.{Margin};
+ghost use Rattle.olr_spec.specs.Margins.{no_margin};
 ghost use Rattle.olr_spec.specs.Map.{IsMap};
 ghost use Rattle.olr_spec.specs.Bearings.{vector};
 ghost use Rattle.olr_spec.specs.Encoding.{Encodes, Points};
@@ -10,44 +9,8 @@ ghost use Rattle.olr_spec.specs.Recovery.{Distinct, IsWeighted, are_cosines, are
 ghost use Rattle.olr_laws.specs.Rows.{Gives, leg10, leg20, leg30, reference1, morning_lines, twin_lines, axes_sum, cosine};
 ghost use Rattle.olr_laws.specs.Rows.{by_cosine, morning_map, morning_path, fork_map, fork_path, fork_reference, fork_lines};
 ghost use Rattle.olr_laws.specs.Rows.{fork10, degrees10, TakesOther};
-ghost use Rattle.olr_laws.specs.ReceiverLaws;
 ghost use Rattle.olr_spec.specs.Directions.{is_beyond};
 ghost use Rattle.olr_laws.specs.ReceiverLaws.{DistinctByDirection, SeesDirections, exceeded, is_within, middle, stands_out};
-
-/// If the path's own line is distinct at each LRP, every receiver recovers the legs between the
-/// remaining LRPs; on another map without other roads whose lengths and classes are within the margin each leg is recovered
-/// from the path's own lines at its LRPs; offsets are exact within a 256th of a leg. A node is the nearest if the others are
-/// at least three times the bound of decoding away.
-pub fn laws_of_receivers()
-    ensures recovered { (g : Margin) → Laws.Recovered g }
-    ensures elsewhere { (g : Margin) → Laws.RecoveredElsewhere g }
-    ensures stretches_join { (g : Margin) → ReceiverLaws.StretchesJoin g }
-    ensures offsets { (g : Margin) → ReceiverLaws.OffsetsWith g }
-    ensures distances { (g : Margin) → ReceiverLaws.DistancesWith g }
-    ensures nearest { (g : Margin) → ReceiverLaws.Nearest g }
-    ensures some { Laws.SomeReceiver }
-    ensures weighted { Laws.SomeWeighted }
-{}
-
-/// Receivers that compare directions, as by degrees, recover the legs too, if at each LRP the path's own line stands out.
-/// The map alone shows where it does. A count of limits that the angle from the middle of the sector exceeds is such a
-/// difference of bearing, and a weighted sum of differences such a preference.
-pub fn laws_of_directions()
-    ensures recovered { (g : Margin) → ReceiverLaws.RecoveredByDirection g }
-    ensures clear { (g : Margin) → ReceiverLaws.ClearStandsOut g }
-    ensures limits { ReceiverLaws.SeesByLimits }
-    ensures weights { ReceiverLaws.SomeByWeights }
-{}
-
-/// A string in whose way nothing stands is distinct for both kinds of receivers. So is that of each path which the answer
-/// to the question about all paths doesn't name, and what this names is an ambiguity. No test of nodes names
-/// fewer for all these receivers.
-pub fn laws_of_ambiguity()
-    ensures clear { (g : Margin) → ReceiverLaws.ClearIsDistinct g }
-    ensures unnamed { ReceiverLaws.UnnamedIsDistinct }
-    ensures named { ReceiverLaws.NamedStands }
-    ensures sharpest { ReceiverLaws.NoSharperTest }
-{}
 
 /// The first worked path on its map: the answer is its reference, which is distinct for both kinds of receivers; the
 /// slack is 10,000,000 units, 3.4 m of latitude. By the cosine of the latitude,
@@ -58,7 +21,7 @@ pub fn rows_morning()
     ensures lines { candidates morning_map ≡ morning_lines }
     ensures answer { Encodes morning_map morning_path (Points reference1) }
     ensures distinct { Distinct axes_sum morning_map morning_path reference1 }
-    ensures by_direction { DistinctByDirection axes_sum 10000000 morning_map morning_path reference1 }
+    ensures by_direction { DistinctByDirection no_margin axes_sum 10000000 morning_map morning_path reference1 }
     ensures cosines { are_cosines 64 100 1000000 cosine morning_map reference1 ≡ true }
     ensures weighted { IsWeighted 64 100 1000000 by_cosine morning_map reference1 }
 {}

@@ -1,4 +1,4 @@
-//! The laws of records, and worked rows of records, replies and faults as text.
+//! Worked rows of records, replies and faults as text.
 ghost use Rattle.std.specs.Prelude.{◌≡◌, ℕ, pos, neg_ℤ, [], ◌∷◌, map, codes, None, Some, Ok, Err};
 ghost use Rattle.std.specs.List.{concat};
 ghost use Rattle.olr_spec.specs.Coordinates.{coord};
@@ -14,23 +14,8 @@ ghost use Rattle.olr_commands.specs.Reply as reply;
 ghost use Rattle.olr_commands.specs.State as state;
 ghost use Rattle.olr_records.specs.Records.{line_between, read, Bad_form, Out_of_range};
 ghost use Rattle.olr_records.specs.ReplyText.{reply_text};
-ghost use Rattle.olr_laws.specs.RunLaws as Laws;
 ghost use Rattle.olr_laws.specs.Rows.{Gives, AllGive, leg10, leg99, fifty, path_of, reference1, reference2};
 ghost use Rattle.olr_laws.specs.CommandRows.{read_text, text_of_lines, AreFaultTexts, changes1};
-
-/// The coordinates in records are in range. The record of a change is read as this change, and only changes that have a
-/// record are read. The text of records is split into their fields. From the empty register, commands that are read lead
-/// to contents that can be dumped.
-#[tactic(auto, using(olr_records::proofs::ReadLemmas::coords_read, olr_records::proofs::ReadLemmas::read_recorded, olr_records::proofs::RecordLines::records_split, olr_records::proofs::RecordedLemmas::step_stays, olr_records::proofs::RecordedLemmas::start_recorded, olr_records::proofs::RecordedLemmas::recorded_dumps, olr_records::proofs::WrittenLemmas::record_back))]
-pub fn laws_of_records()
-    ensures places { Laws.CoordsRead }
-    ensures read { Laws.RecordsRead }
-    ensures recorded { Laws.ReadRecorded }
-    ensures split { Laws.LinesSplit }
-    ensures start { Laws.StartRecorded }
-    ensures steps { Laws.StepsRecorded }
-    ensures dumped { Laws.RecordedDumps }
-{}
 
 /// Records of a node.
 pub fn rows_nodes()

@@ -1,4 +1,4 @@
-//! The laws of whole runs, and worked rows of command lines, records of bytes and runs.
+//! Worked rows of command lines, records of bytes and runs.
 ghost use Rattle.std.specs.Prelude.{◌≡◌, ℕ, [], ◌∷◌, ◌++◌, codes, Some, false, true};
 ghost use Rattle.clap.specs.Faults.{fault_of};
 ghost use Rattle.clap.specs.Takes.{takes};
@@ -6,25 +6,11 @@ ghost use Rattle.clap.specs.declared.error.kind.ErrorKind.TheVariants as kind;
 ghost use Rattle.olr_commands.specs.State.{start_state};
 ghost use Rattle.olr_run.specs.Options.{keep_app, options};
 ghost use Rattle.olr_run.specs.Sizes.{IsSize, NoSize};
-ghost use Rattle.olr_run.specs.Output.{records_of, greater, Outcomes, Ran, Faulted, Some_refused, Stopped};
-ghost use Rattle.olr_run.specs.Output.{All_accepted};
+ghost use Rattle.olr_run.specs.Output.{records_of, greater, Outcomes, Ran, Faulted, Some_refused, Stopped, All_accepted};
 ghost use Rattle.olr_input.specs.declared.ends.RunFault.TheVariants as fault;
+ghost use Rattle.olr_input.specs.LineRecords.{formless, line_records};
 ghost use Rattle.olr_laws.specs.Rows.{AllGive};
-ghost use Rattle.olr_laws.specs.RunLaws as Laws;
 ghost use Rattle.olr_laws.specs.CommandRows.{text_of_lines, with_fifty, no_options, input20, output20, with_node};
-
-/// Outcomes keep the register's state sound. Apart from out of memory, the state at the start and the bytes that are
-/// read determine what is written, the status and the state at the end. Records that are taken one after another are
-/// the first ones. Out of memory is reported only for a command that holds a list, or may run out of memory when it is
-/// carried out. A run over the text of a dump leads to what was dumped.
-#[tactic(auto, using(crate::proofs::RunLemmas::outcomes_keep, olr_input::proofs::CsvRecords::first_records, crate::proofs::RunLemmas::memory_lacks))]
-pub fn laws_of_runs()
-    ensures kept { Laws.OutcomesKeep }
-    ensures one { Laws.OneRun }
-    ensures first { Laws.FirstRecords }
-    ensures lacks { Laws.MemoryLacks }
-    ensures reload { Laws.DumpsReload }
-{}
 
 /// Command lines.
 #[tactic(auto, unfolding(clap::proofs::OnLiterals::clap_on_literals))]
@@ -71,6 +57,18 @@ pub fn rows_input()
     ensures empty_lines { records_of (10 ∷ codes "report" ++ 13 ∷ 10 ∷ 10 ∷ codes "a,")
         ≡ (codes "report" ∷ []) ∷ (codes "a" ∷ [] ∷ []) ∷ [] }
     ensures mark { records_of (239 ∷ 187 ∷ 191 ∷ codes "report") ≡ (codes "report" ∷ []) ∷ [] }
+{}
+
+/// Inputs that are read one record a line, and their records.
+#[tactic(auto, unfolding(olr_input::specs::LineRecords::lines_from, olr_input::specs::LineRecords::line_record, csv::specs::Machine::next_record, csv::specs::Reading::strip_bom))]
+pub fn rows_of_lines()
+    ensures whole { line_records (codes "node,1,0,0\nreport\n")
+        ≡ (codes "node" ∷ codes "1" ∷ codes "0" ∷ codes "0" ∷ []) ∷ (codes "report" ∷ []) ∷ [] }
+    ensures quoted { line_records (codes "show,\"a\"\n") ≡ (codes "show" ∷ codes "a" ∷ []) ∷ [] }
+    ensures open { line_records (codes "drop-line,\"5\nreport\n") ≡ formless ∷ (codes "report" ∷ []) ∷ [] }
+    ensures last { line_records (codes "report\nshow,\"a") ≡ (codes "report" ∷ []) ∷ formless ∷ [] }
+    ensures returns { line_records (codes "\"a\r\nreport") ≡ formless ∷ (codes "report" ∷ []) ∷ [] }
+    ensures mid { line_records (codes "a\"b,\"c\"d\n\n\rreport") ≡ (codes "a\"b" ∷ codes "cd" ∷ []) ∷ (codes "report" ∷ []) ∷ [] }
 {}
 
 /// Whole runs.

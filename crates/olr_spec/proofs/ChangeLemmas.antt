@@ -2,8 +2,8 @@
 use Rattle.olr_spec.proofs.Common.{inl, ◌≡◌, ◌≢◌, ℕ, false, List, ◌∷◌, ◌++◌, ◌≤◌, Ok, IsTrue, refl, sym, ◌∙◌, arith, ◌==◌, Some}
 use Rattle.olr_spec.proofs.Common.{T, nat_cmp, [], both_ways, or_parts, list_any-append, get, FinMap, Map, Line, has_line}
 use Rattle.olr_spec.proofs.Common.{start, end, dm, Edit, edited, touched_nodes, SameRound, has, ChangedLine, AccountsFor, Coord}
-use Rattle.olr_spec.proofs.Common.{Contains-append_left, Contains-append_right, changes_of, IsChangedLine, EditsDiffer}
-use Rattle.olr_spec.proofs.Common.{NoDifference, DifferencesAdd, cases_eq}
+use Rattle.olr_spec.proofs.Common.{Contains-append_left, Contains-append_right, changes_of, IsChangedLine, cases_eq, ChangeLaws}
+use Rattle.olr_spec.proofs.Common.{LawOf}
 use Rattle.olr_spec.proofs.Facts.{known_record, Contains-here, same_way, same_way_on}
 use Rattle.olr_spec.proofs.EditLemmas.{edits_are_local, other_lines, edit_laws}
 
@@ -29,7 +29,7 @@ lines_accounted M N y lines c is other before after = grind (arith, known_record
 edit_accounted : (M N : Map) (e : Edit) → edited M e ≡ Ok N → BothAccount (changes_of M e) M N
 edit_accounted M N e p = grind (arith, edit_laws, nodes_accounted, lines_accounted, accounted_alone, both_ways, cases_eq, same_way)
 
-pub edit_differs : EditsDiffer
+pub edit_differs : LawOf (λ (l : ChangeLaws). l.edits_differ)
 edit_differs M N e p =
     let accounted = edit_accounted M N e p in
     let local = edits_are_local M N e [] (λ u. has (touched_nodes M e) u ≡ false) p (λ u on off. both_ways (has (touched_nodes M e) u) off on) (λ x on. refl) in
@@ -37,7 +37,7 @@ edit_differs M N e p =
 
 -- ---- no difference
 
-pub none_differs : NoDifference
+pub none_differs : LawOf (λ (l : ChangeLaws). l.no_difference)
 none_differs M = search (inl, same_way)
 
 -- ---- consecutive changes
@@ -52,6 +52,6 @@ round_on L M N v r s = record {
 not_either : (xs ys : List ℕ) (v : ℕ) → has (xs ++ ys) v ≡ false → (has xs v ≡ false) × (has ys v ≡ false)
 not_either xs ys v h = or_parts (has xs v) (has ys v) (sym (list_any-append (λ y. y == v) xs ys) ∙ h)
 
-pub differences_add : DifferencesAdd
+pub differences_add : LawOf (λ (l : ChangeLaws). l.differences_add)
 differences_add L M N T U X Y C D p q =
     grind (arith, Contains-append_left C D, Contains-append_right C D, not_either T U, round_on L M N, not_either X Y, same_way_on)

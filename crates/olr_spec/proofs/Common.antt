@@ -9,30 +9,23 @@ pub use Rattle.olr_spec.specs.Coordinates.{Coord, abs24, fits16, is_coord, relat
 pub use Rattle.olr_spec.specs.Decoded.{IsNear, decoded_bound, decoded, steps_sum}
 pub use Rattle.olr_spec.specs.Degrees.{before_point, digits_value}
 pub use Rattle.olr_spec.specs.Detours.{AccountsFor, ChangedLine, Detour, Near, IsChangedLine, SameWay, changes_of}
-pub use Rattle.olr_spec.specs.Encoding.{Answer, Encodes, EncodesWith, Encoding, EncodingWith, Points, Refusal, Refused}
-pub use Rattle.olr_spec.specs.Encoding.{IsPointWith, No_next_point, Unknown_line, answer_by_points, answer_by_points_with}
-pub use Rattle.olr_spec.specs.Encoding.{first_break, first_unknown, path_fault}
+pub use Rattle.olr_spec.specs.Encoding.{Answer, EncodingWith, No_next_point, Unknown_line, answer_by_points_with, first_unknown}
+pub use Rattle.olr_spec.specs.Encoding.{Encodes, EncodesWith, Points, Refusal, Refused, IsPointWith, first_break, path_fault}
 pub use Rattle.olr_spec.specs.Extension.{AreJoined, EndRun, LongestEnd, LongestStart, MayFollow, MayPrecede, Path, StartRun}
 pub use Rattle.olr_spec.specs.Extension.{Tried, extended_path, first, from_start, is_path, last, limit, none_twice}
 pub use Rattle.olr_spec.specs.Extension.{passes_between, passing, taken_end, taken_start}
 pub use Rattle.olr_spec.specs.Footprint.{FootWith, Sees}
-pub use Rattle.olr_spec.specs.Joins.{JoinsLast, JoinsTo, Joined, JoinedWith, Joins}
-pub use Rattle.olr_spec.specs.Laws.{AnswerFits, AnswersRetained, DifferencesAdd, EditsDiffer, EditsKeep, EditsUndo}
-pub use Rattle.olr_spec.specs.Laws.{EmptyIsLeast, EmptyIsSound, EmptyIsUnique, FootAffected, FootIsQueried, KnownRetained}
-pub use Rattle.olr_spec.specs.Laws.{LinesAscend, LinesIn, LinesOut, NearStays, NoDifference, NoFault, NoLongerSuffix, OneAnswer}
-pub use Rattle.olr_spec.specs.Laws.{OneEndRun, OneLastTested, OneLeast, OneNext, OnePoints, OneQueries, OneSector, OneStartRun}
-pub use Rattle.olr_spec.specs.Laws.{OneUnique, PrefixOfLeast, PrefixOfUnique, Recovered, RoutesJoin, SomeAnswer, SomeLastTested}
-pub use Rattle.olr_spec.specs.Laws.{SomeQueries, SomeReceiver, SomeSector, SomeWeighted, TwoKept, UniqueIsLeast}
-pub use Rattle.olr_spec.specs.Laws.{UntouchedRetained, CountedIsUnique, RecoveredElsewhere, RoutesJoinElsewhere}
+pub use Rattle.olr_spec.specs.Joins.{JoinsLast, JoinsTo, JoinedWith, Joins}
+pub use Rattle.olr_spec.proofs.LawOf.{LawOf}
+pub use Rattle.olr_spec.specs.Laws.{AnswerLaws, ChangeLaws, FieldLaws, MapLaws, MarginLaws, QueryLaws, RouteLaws}
 pub use Rattle.olr_spec.specs.Map.{Add_line, Add_node, Agree, Drop_line, Drop_node, Edit, IsMap, Line, Map, Move_node, SameLine}
 pub use Rattle.olr_spec.specs.Map.{SameRound, Set_line, coord_at, dm, edited, end, has, has_line, has_node, in_use, is_good}
 pub use Rattle.olr_spec.specs.Map.{ascends_between, no_coord, no_line, touched_lines, unless, line_at, lines_in, lines_out}
 pub use Rattle.olr_spec.specs.Map.{lines_where, start, touched_nodes, ShapePoint, are_coords}
 pub use Rattle.olr_spec.specs.Margins.{CountedRoute, IsSoundFor, Margin, allowed, counted, counted_dm, counted_dm_of}
 pub use Rattle.olr_spec.specs.Margins.{counted_lines, no_margin}
-pub use Rattle.olr_spec.specs.Points.{Candidate, CandidateWith, CoveredWith, Follow, FollowWith, Greatest, NextWith, OfPathWith}
-pub use Rattle.olr_spec.specs.Points.{NoNextWith, To_end, To_passing, To_valid, ValidCandidateWith, fit16, last_position}
-pub use Rattle.olr_spec.specs.Points.{node_at, stretch}
+pub use Rattle.olr_spec.specs.Points.{CandidateWith, CoveredWith, FollowWith, OfPathWith, ValidCandidateWith, last_position}
+pub use Rattle.olr_spec.specs.Points.{Greatest, NextWith, NoNextWith, To_end, To_passing, To_valid, fit16, node_at, stretch}
 pub use Rattle.olr_spec.specs.Queries.{CoverageQuery, IsClear, IsLastTestedWith, IsQueryWith, KnownQuery, Needed, NodeOf}
 pub use Rattle.olr_spec.specs.Queries.{QueriesOfWith, QueriesOfExtendedWith, Traversed, TraversedOf, TraversedOfExtended}
 pub use Rattle.olr_spec.specs.Queries.{query_to_with, querying, IsKnownWith, QueriesFromWith}
@@ -43,8 +36,7 @@ pub use Rattle.olr_spec.specs.Reference.{First, Last, Middle, Reference, attrs_w
 pub use Rattle.olr_spec.specs.Reference.{first_where, from_front, kept_points, last_kept, last_point, last_two, last_where, leg}
 pub use Rattle.olr_spec.specs.Reference.{leg_at, legs, middle_points_with, no_leg, offset, position, reference, reference_with}
 pub use Rattle.olr_spec.specs.Reference.{reference_by_with, reference_by_kept_with, to_back, Attrs, middle_point_with}
-pub use Rattle.olr_spec.specs.Routes.{FirstSmaller, IsRoute, LrpRoute, PrecedesInTieOrder, Reaches, UniqueShortest, dm_of}
-pub use Rattle.olr_spec.specs.Routes.{Least}
+pub use Rattle.olr_spec.specs.Routes.{FirstSmaller, IsRoute, UniqueShortest, PrecedesInTieOrder, Reaches, dm_of, Least}
 pub use Rattle.std.proofs.Common.{All, Bool, Contains, IfSome, IsTrue, List, MatchOption, None, Ok, Option, Result, Some, T, []}
 pub use Rattle.std.proofs.Common.{IsFalse, IsOk, IsPermutation, IsSome, Less, MatchResult, add-zero, is_ok, ltb-false, ap}
 pub use Rattle.std.proofs.Common.{append-nil, append_assoc, arith, cond, drop, drop-drop, eq-eqb, eqb-true, false, filter, find}

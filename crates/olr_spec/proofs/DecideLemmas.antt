@@ -1,12 +1,12 @@
 -- Each definition is decidable, so each path has an answer.
-use Rattle.olr_spec.proofs.Common.{Margin, from_start, FollowWith, path_fault, NoNextWith, SomeAnswer, lines_where, taken_start}
-use Rattle.olr_spec.proofs.Common.{LongestEnd, CoveredWith, slice_index, MatchOption, LongestStart, EncodingWith, Bool-discrete}
-use Rattle.olr_spec.proofs.Common.{counted, IsRoute, is_path, passing, node_at, stretch, cases_lt, cases_eq, has_line, To_valid}
-use Rattle.olr_spec.proofs.Common.{coord_at, Greatest, NextWith, true, MayFollow, OneUnique, ℕ_discrete, MayPrecede, To_passing}
-use Rattle.olr_spec.proofs.Common.{◌⊎◌, UniqueShortest, extended_path, CandidateWith, ValidCandidateWith, answer_by_points_with}
-use Rattle.olr_spec.proofs.Common.{inl, ◌++◌, None, refl, Path, last, limit, fit16, start, ap, zero, false, arith, IsMap, dm_of}
-use Rattle.olr_spec.proofs.Common.{inr, ◌≡◌, ℕ, suc, ◌+◌, ◌∷◌, ◌<◌, ◌≤◌, [], ◌≢◌, Map, end, dm, has, min, ◌-◌, sym, ◌∙◌, List}
-use Rattle.olr_spec.proofs.Common.{first, Tried, length, IsTrue, dec_le, Answer, Refused, dec_lt, map_dec, To_end}
+use Rattle.olr_spec.proofs.Common.{Margin, FollowWith, path_fault, NoNextWith, LongestEnd, slice_index, MatchOption, ℕ_discrete}
+use Rattle.olr_spec.proofs.Common.{from_start, lines_where, taken_start, CoveredWith, LongestStart, EncodingWith, CandidateWith}
+use Rattle.olr_spec.proofs.Common.{Bool-discrete, ◌⊎◌, UniqueShortest, extended_path, ValidCandidateWith, answer_by_points_with}
+use Rattle.olr_spec.proofs.Common.{counted, IsRoute, is_path, passing, node_at, stretch, To_valid, coord_at, Greatest, NextWith}
+use Rattle.olr_spec.proofs.Common.{cases_lt, cases_eq, has_line, true, MayFollow, MayPrecede, To_passing, AnswerLaws, RouteLaws}
+use Rattle.olr_spec.proofs.Common.{inl, ◌++◌, None, refl, Path, last, zero, arith, IsMap, dm_of, inr, List, first, Tried, LawOf}
+use Rattle.olr_spec.proofs.Common.{limit, fit16, start, false, length, IsTrue, dec_le, Answer, Refused, dec_lt, map_dec, To_end}
+use Rattle.olr_spec.proofs.Common.{ap, ◌≡◌, ℕ, suc, ◌+◌, ◌∷◌, ◌<◌, ◌≤◌, [], ◌≢◌, Map, end, dm, has, min, ◌-◌, sym, ◌∙◌}
 use Rattle.olr_spec.proofs.Facts.{dec_same, positive, Each, Each-nil, AreRuns, end_runs, all_first, all_last, by_fault}
 use Rattle.olr_spec.proofs.Facts.{counted_known, counted_least, dm_of-append, Known, sound_lines, path_nonempty, Next-candidate}
 use Rattle.olr_spec.proofs.Facts.{Each-cons, Each-head, Each-tail, no_longer, start_runs, last_known, EndRun-push, has_number}
@@ -68,7 +68,7 @@ route_length : (M : Map) → AllPositive M → (s t : ℕ) (xs : List ℕ) → I
 route_length M m s t [] w = omega arith
 route_length M m s t (x ∷ xs) w = omega (arith, m x w.0, route_length M m (end M x) t xs w.2)
 
-pub one_unique : OneUnique
+pub one_unique : LawOf (λ (l : RouteLaws). l.one_unique)
 one_unique M s t xs ys p q =
     let cases = dec_same xs ys in grind (arith, cases)
 
@@ -194,7 +194,7 @@ some_encoding g M m P is e =
     let p : EncodingWith g M P (answer_by_points_with g M E js.0) = grind (arith) in
     (answer_by_points_with g M E js.0, p)
 
-pub some_answer_with : (g : Margin) → SomeAnswer g
+pub some_answer_with : (g : Margin) → LawOf (λ (l : AnswerLaws g). l.some_answer)
 some_answer_with g M m P is =
     by_fault M P (λ o. (A : Answer) × MatchOption o (EncodingWith g M P A) (λ r. A ≡ Refused r)) (some_encoding g M m P is)
     (λ r. (Refused r, refl))

@@ -1,10 +1,10 @@
 -- What an edit changes, and what it leaves unchanged.
 use Rattle.olr_spec.proofs.Common.{◌⊎◌, ◌↔◌, ◌≡◌, ◌≢◌, Some, None, ◌==◌, get, Map, Line, end, Edit, has, ℕ, or_right, cases_eq}
-use Rattle.olr_spec.proofs.Common.{or_parts, is_coord, has_node, has_line, Add_node, Add_line, EditsKeep, Bool, IsTrue, nat_cmp}
-use Rattle.olr_spec.proofs.Common.{eq-eqb, ne_eqb, or_left, FinMap, entries, is_good, Set_line, SameLine, true, false, ◌||◌}
-use Rattle.olr_spec.proofs.Common.{List, arith, insert, remove, Coord, IsMap, start, edited, in_use, Agree, Ok, both_ways}
-use Rattle.olr_spec.proofs.Common.{and_parts, not-false, Move_node, Drop_node, Drop_line, get-remove, are_coords, nat_cmp_total}
-use Rattle.olr_spec.proofs.Common.{touched_nodes, false_from_ne_true, unsigned_tied, get-insert, touched_lines}
+use Rattle.olr_spec.proofs.Common.{or_parts, is_coord, has_node, has_line, Add_node, Add_line, Bool, IsTrue, nat_cmp, eq-eqb}
+use Rattle.olr_spec.proofs.Common.{ne_eqb, or_left, FinMap, entries, is_good, Set_line, SameLine, true, false, ◌||◌, List}
+use Rattle.olr_spec.proofs.Common.{arith, insert, remove, Coord, IsMap, start, edited, in_use, Agree, Ok, both_ways, and_parts}
+use Rattle.olr_spec.proofs.Common.{not-false, Move_node, Drop_node, Drop_line, get-remove, are_coords, nat_cmp_total}
+use Rattle.olr_spec.proofs.Common.{touched_nodes, false_from_ne_true, unsigned_tied, get-insert, touched_lines, MapLaws, LawOf}
 use Rattle.olr_spec.proofs.Facts.{Each-to, known_record, has-lines_where, none_has}
 
 -- the conditions of an accepted edit, and the map that it makes
@@ -101,5 +101,5 @@ with_line M x l m g a b c = grind (arith, got_same, got_other, cases_eq)
 without_line : (M : Map) (x : ℕ) → IsMap M → IsMap (record M { lines = remove M.lines x })
 without_line M x m = grind (arith, left_same, left_other, cases_eq)
 
-pub edits_keep : EditsKeep
+pub edits_keep : LawOf (λ (l : MapLaws). l.edits_keep)
 edits_keep M N e m h p = grind (arith, made_by, with_node, without_node, with_line, without_line)

@@ -1,11 +1,11 @@
 -- A route that is the unique shortest one where its own lines count longer is so on a map whose lengths are nearly the
 -- same.
 use Rattle.olr_spec.proofs.Common.{inl, inr, [], ◌||◌, ◌≡◌, ◌≢◌, ◌⊎◌, ◌+◌, ◌-◌, ◌*◌, ◌≤◌, ◌<◌, ◌∷◌, sym, ap, ◌∙◌, not, has, Map}
-use Rattle.olr_spec.proofs.Common.{end, dm, ℕ, IsTrue, IsRoute, LrpRoute, leb-true, le-leb, Margin, counted, cases_eq, not-true}
-use Rattle.olr_spec.proofs.Common.{or_comm, Bool, true, false, List, ◌++◌, refl, subst, arith, ◌&&◌, ◌==◌, IsMap, dm_of, get_or}
-use Rattle.olr_spec.proofs.Common.{ne_eqb, cases_Bool, none_twice, and_parts, and_from, has_line, counted_dm, IsSoundFor}
-use Rattle.olr_spec.proofs.Common.{get_or-take, list_any-append, append_assoc, UniqueShortest, CountedRoute, CountedIsUnique}
-use Rattle.olr_spec.proofs.Common.{length-take-le, cases_lt, length, take_all, sum_by-append}
+use Rattle.olr_spec.proofs.Common.{end, dm, ℕ, IsTrue, IsRoute, UniqueShortest, leb-true, le-leb, Margin, counted, cases_eq}
+use Rattle.olr_spec.proofs.Common.{not-true, or_comm, Bool, true, false, List, ◌++◌, refl, subst, arith, ◌&&◌, ◌==◌, IsMap}
+use Rattle.olr_spec.proofs.Common.{dm_of, get_or, ne_eqb, cases_Bool, none_twice, and_parts, and_from, has_line, counted_dm}
+use Rattle.olr_spec.proofs.Common.{IsSoundFor, get_or-take, list_any-append, append_assoc, CountedRoute, length-take-le}
+use Rattle.olr_spec.proofs.Common.{cases_lt, length, take_all, sum_by-append, MarginLaws, LawOf}
 use Rattle.olr_spec.specs.Elsewhere.{HasNoOther, IsNearly, suffices}
 use Rattle.std.proofs.Math.Nat.{mul-le-mul_left, mul-le-mul_right, mul-add, lt_of_mul-lt-mul_left}
 use Rattle.std.proofs.lemmas.List.Sums.{sum_by-cons, split_at_first, fails_before_first, passes_at_first, prefix_len-le-length}
@@ -156,7 +156,7 @@ module _ (g : Margin) (M N : Map) (n : IsMap N) (no_other : HasNoOther M N) (a b
       lt_of_mul-lt-mul_left ((1000 + g.routes) * 1000)
       (omega (arith, less, sums, of_K xs, of_K ys, of_N xs, of_N ys))
 
-  pub unique_there : (s t : ℕ) → LrpRoute K s t xs → LrpRoute N s t xs
+  pub unique_there : (s t : ℕ) → UniqueShortest K s t xs → UniqueShortest N s t xs
   unique_there s t u = record { route = route_there s t xs nearly.known (route_counted g M xs s t xs u.route); others = others }
     where
       others : (ys : List ℕ) → IsRoute N s t ys → ys ≢ xs → dm_of N xs < dm_of N ys
@@ -172,7 +172,7 @@ module _ (g : Margin) (M N : Map) (n : IsMap N) (no_other : HasNoOther M N) (a b
 -- ---- on the same map
 
 -- a route that is the unique shortest one where its own lines count longer is so
-pub counted_unique : CountedIsUnique
+pub counted_unique : (g : Margin) → LawOf (λ (l : MarginLaws g). l.counted_is_unique)
 counted_unique g M m s t xs u =
     let known = route_known M s t xs (route_counted g M xs s t xs u.route) in
     unique_there g M M m (grind arith) 0 0 (le-leb _ _ (omega (arith, mul-add 1000 1000 g.routes))) xs (grind (arith, known)) s t u
@@ -195,7 +195,7 @@ count_same g M xs ws (y ∷ ys) known same =
 
 -- the front of such a route, where its own lines count longer and no others
 module _ (g : Margin) (M : Map) (m : IsMap M) (s v t : ℕ) (xs rest : List ℕ)
-    (u : LrpRoute (counted g M (xs ++ rest)) s t (xs ++ rest)) (w : IsRoute M s v xs) (z : IsRoute M v t rest) where
+    (u : UniqueShortest (counted g M (xs ++ rest)) s t (xs ++ rest)) (w : IsRoute M s v xs) (z : IsRoute M v t rest) where
   abbrev Whole : Map
   Whole = counted g M (xs ++ rest)
 
@@ -239,7 +239,7 @@ module _ (g : Margin) (M : Map) (m : IsMap M) (s v t : ℕ) (xs rest : List ℕ)
       let same = same_counts before known (none_before only_later ys) in
       omega (arith, no_less, front_same, same, dm_of-append Whole xs q.0, mine_is, positive M m x mine.2.0, most)
 
-  pub counted_front : LrpRoute Front s v xs
+  pub counted_front : UniqueShortest Front s v xs
   counted_front = record { route = counted_route g M xs s v xs w; others = others }
     where
       others : (ys : List ℕ) → IsRoute Front s v ys → ys ≢ xs → dm_of Front xs < dm_of Front ys
@@ -257,6 +257,6 @@ module _ (g : Margin) (M : Map) (m : IsMap M) (s v t : ℕ) (xs rest : List ℕ)
 pub counted_part : (g : Margin) (M : Map) → IsSoundFor g M → (s v t : ℕ) (xs rest : List ℕ) → CountedRoute g M s t (xs ++ rest) →
     IsRoute M s v xs → IsRoute M v t rest → CountedRoute g M s v xs
 counted_part g M (inl e) s v t xs rest u w z =
-    subst (λ (K : Map). LrpRoute K s v xs) (sym (counted_zero g M xs e))
-    (prefix_of_unique M s v t xs rest (subst (λ (K : Map). LrpRoute K s t (xs ++ rest)) (counted_zero g M (xs ++ rest) e) u) w z)
+    subst (λ (K : Map). UniqueShortest K s v xs) (sym (counted_zero g M xs e))
+    (prefix_of_unique M s v t xs rest (subst (λ (K : Map). UniqueShortest K s t (xs ++ rest)) (counted_zero g M (xs ++ rest) e) u) w z)
 counted_part g M (inr m) s v t xs rest u w z = counted_front g M m s v t xs rest u w z

@@ -2,15 +2,15 @@
 use Rattle.olr_spec.proofs.Common.{answer_by_points_with, middle_points_with, reference_by_with, div-lt_iff_lt-mul, taken_start}
 use Rattle.olr_spec.proofs.Common.{reference_with, AllByRecursion, length-append, extended_path, last_position, CandidateWith}
 use Rattle.olr_spec.proofs.Common.{EncodingWith, scaled_coord, kept_points, EncodesWith, IsReference, slice_range, first_where}
-use Rattle.olr_spec.proofs.Common.{get_or_past, AnswerFits, length-map, from_start, FollowWith, dm_between, from_front, is_path}
-use Rattle.olr_spec.proofs.Common.{first_kept, path_fault, cases_Bool, last_where, attrs_with, last_point, get_or-map, last_two}
-use Rattle.olr_spec.proofs.Common.{leb-false, cond_both, taken_end, Reference, last_kept, and_parts, nat_tests, eqb-true, subst}
-use Rattle.olr_spec.proofs.Common.{IsMiddle, take-map, drop-map, ltb-true, cases_lt, and_from, is_coord, relative, coord_at, ap}
-use Rattle.olr_spec.proofs.Common.{position, dm_along, AreAttrs, take-add, to_back, line_at, node_at, stretch, bearing, Margin}
-use Rattle.olr_spec.proofs.Common.{length, IsTrue, nat_le, Points, IfSome, fits16, no_leg, leg_at, offset, IsLast, fits24, legs}
-use Rattle.olr_spec.proofs.Common.{Scaled, sector, arith, IsMap, dm_of, Tried, false, Coord, abs24, true, List, None, Path, ◌≡◌}
-use Rattle.olr_spec.proofs.Common.{Bool, take, drop, Some, ◌==◌, fold, ints, zero, ◌+◌, ◌-◌, ◌∷◌, ◌<◌, ◌≤◌, sym, ◌∙◌, Map, has}
-use Rattle.olr_spec.proofs.Common.{leg, ◌*◌, ◌/◌, max, min, map, Leg, pos, [], ℕ, ℤ}
+use Rattle.olr_spec.proofs.Common.{get_or_past, length-map, from_start, FollowWith, dm_between, from_front, is_path, first_kept}
+use Rattle.olr_spec.proofs.Common.{path_fault, cases_Bool, last_where, attrs_with, last_point, get_or-map, last_two, leb-false}
+use Rattle.olr_spec.proofs.Common.{cond_both, taken_end, Reference, last_kept, and_parts, nat_tests, eqb-true, subst, IsMiddle}
+use Rattle.olr_spec.proofs.Common.{take-map, drop-map, ltb-true, cases_lt, and_from, is_coord, relative, coord_at, ap, position}
+use Rattle.olr_spec.proofs.Common.{dm_along, AreAttrs, take-add, to_back, line_at, node_at, stretch, bearing, Margin, length}
+use Rattle.olr_spec.proofs.Common.{IsTrue, nat_le, Points, IfSome, fits16, no_leg, leg_at, offset, IsLast, fits24, legs, Scaled}
+use Rattle.olr_spec.proofs.Common.{sector, arith, IsMap, dm_of, Tried, false, Coord, abs24, true, List, None, Path, ◌≡◌, Bool}
+use Rattle.olr_spec.proofs.Common.{take, drop, Some, ◌==◌, fold, ints, zero, ◌+◌, ◌-◌, ◌∷◌, ◌<◌, ◌≤◌, sym, ◌∙◌, Map, has, leg}
+use Rattle.olr_spec.proofs.Common.{◌*◌, ◌/◌, max, min, map, Leg, pos, [], ℕ, ℤ, AnswerLaws, LawOf}
 use Rattle.olr_spec.proofs.Facts.{follow_linked_with, kept_linked_with, dm_along-append, StartRun-known, path_nonempty, or_None}
 use Rattle.olr_spec.proofs.Facts.{dm_along-legs, dm_of-append, EndRun-known, front_within, Each-append, sound_lines, has_filter}
 use Rattle.olr_spec.proofs.Facts.{back_within, filter_has, LinkedWith, between_is, Each-range, last_index, Each-from, has_there}
@@ -248,7 +248,7 @@ answered g M E js r h = grind (arith, cond_both, eqb-true)
 pub by_answer : {g : Margin} (M : Map) (P : Path) (r : Reference) → EncodesWith g M P (Points r) → (path_fault M P ≡ None) × EncodingWith g M P (Points r)
 by_answer M P r = grind (arith, by_fault)
 
-pub encoded_fits : (g : Margin) → AnswerFits g
+pub encoded_fits : (g : Margin) → LawOf (λ (l : AnswerLaws g). l.answer_fits)
 encoded_fits g M m P is r q =
     let x = by_answer M P r q in
     let p = x.1 in

@@ -2,9 +2,9 @@
 use Rattle.olr_spec.proofs.Common.{Margin, CountedRoute, IsSoundFor, inl, inr, ◌≡◌, ℕ, ◌+◌, ◌-◌, min, Bool, true, ◌&&◌, List}
 use Rattle.olr_spec.proofs.Common.{◌∷◌, ◌++◌, length, take, drop, ◌<◌, ◌≤◌, refl, ap, ◌∙◌, subst, arith, nat_le, length-drop}
 use Rattle.olr_spec.proofs.Common.{◌↔◌, [], leb-true, le-leb, get_or-drop, slice_index, filter, cases_eq, and_parts, and_from}
-use Rattle.olr_spec.proofs.Common.{nat_tests, take_more, ⊤, Map, start, end, LrpRoute, stretch, CoveredWith, CandidateWith}
-use Rattle.olr_spec.proofs.Common.{FollowWith, JoinsTo, JoinsLast, drop_more, Joins, RoutesJoin, sym, kept_points, legs}
-use Rattle.olr_spec.proofs.Common.{first_kept, last_kept, cases_Bool}
+use Rattle.olr_spec.proofs.Common.{nat_tests, take_more, ⊤, Map, start, end, UniqueShortest, stretch, CoveredWith}
+use Rattle.olr_spec.proofs.Common.{CandidateWith, FollowWith, JoinsTo, JoinsLast, drop_more, Joins, sym, kept_points, legs}
+use Rattle.olr_spec.proofs.Common.{first_kept, last_kept, cases_Bool, AnswerLaws, LawOf}
 use Rattle.olr_spec.proofs.RouteLemmas.{IsRoute-split}
 use Rattle.olr_spec.proofs.AnswerLemmas.{Next-candidate}
 use Rattle.olr_spec.proofs.ListLemmas.{Each, Each-tail, has_here, has_there, has_filter}
@@ -30,7 +30,7 @@ empty_stretch ls p q h = let e : q - p ≡ 0 = omega arith in ap (λ (n : ℕ). 
 
 -- the lines between line p and line k are the unique shortest path
 abbrev pub RouteTo : Map → List ℕ → ℕ → ℕ → Type 0
-RouteTo M ls p k = LrpRoute M (end M (slice_index ls p)) (start M (slice_index ls k)) (stretch ls (p + 1) k)
+RouteTo M ls p k = UniqueShortest M (end M (slice_index ls p)) (start M (slice_index ls k)) (stretch ls (p + 1) k)
 
 -- the same where these lines count longer
 abbrev pub CountedTo : Margin → Map → List ℕ → ℕ → ℕ → Type 0
@@ -139,7 +139,7 @@ kept_joins g M K sound ls js positive negative carries f =
     (kept_linked_with g M ls a b (0 ∷ js) (follow_linked_with g M ls 0 js f)) (λ k h. grind (arith, kept k h, between_is a b k))
     (λ k h. grind (arith, kept k h, between_is a b k))
 
-pub routes_join : (g : Margin) → RoutesJoin g
+pub routes_join : (g : Margin) → LawOf (λ (l : AnswerLaws g). l.routes_join)
 routes_join g M sound ls js positive negative f e =
     kept_joins g M M sound ls js positive negative
     (carries_here g M sound ls (first_kept (legs M ls) positive js) (last_kept (legs M ls) negative js)) f

@@ -1,7 +1,7 @@
 -- The routes between the LRPs of an answer join to the extended path.
-use Rattle.olr_spec.proofs.Common.{no_margin, Margin, IsSoundFor, refl, Joined, inl, Encoding, ◌≡◌, ◌<◌, ◌+◌, ℕ, List, length}
-use Rattle.olr_spec.proofs.Common.{None, ap, arith, Map, dm_of, Path, extended_path, Reference, legs, first_kept, last_kept}
-use Rattle.olr_spec.proofs.Common.{kept_points, Points, path_fault, EncodingWith, JoinedWith}
+use Rattle.olr_spec.proofs.Common.{Margin, IsSoundFor, ◌≡◌, ◌<◌, ◌+◌, ℕ, List, length, None, ap, arith, Map, dm_of, Path}
+use Rattle.olr_spec.proofs.Common.{extended_path, Reference, legs, first_kept, last_kept, kept_points, Points, path_fault}
+use Rattle.olr_spec.proofs.Common.{EncodingWith, JoinedWith}
 use Rattle.olr_spec.proofs.Facts.{path_also, routes_join, two_kept, dm_of-append}
 use Rattle.olr_spec.proofs.DecodedLemmas.{two_of}
 use Rattle.olr_spec.proofs.FitLemmas.{long_enough, kept_ends, answered}
@@ -19,8 +19,3 @@ joined_with g M sound P r none p =
     ends.1 (two_kept g M E.lines p.points E.pos E.neg p.follow is.0 left) in
     let count = ap (λ (ks : List ℕ). length ks) two.3 in
     path_also p (is.1, is.0, omega arith, routes_join g M sound E.lines p.points E.pos E.neg p.follow is.0)
-
--- ---- without a margin
-
-pub joined : (M : Map) (P : Path) (r : Reference) → path_fault M P ≡ None → Encoding M P (Points r) → Joined M P r
-joined M P r none p = joined_with no_margin M (inl refl) P r none p

@@ -1,7 +1,7 @@
 -- Coverage queries along a path's own lines are the same on another map where they are clear.
 use Rattle.olr_spec.proofs.Common.{Margin, counted_dm_of, CountedRoute, ◌≡◌, ℕ, ◌+◌, List, ◌∷◌, ◌<◌, ◌≤◌, sym, ap, ◌∙◌, subst}
 use Rattle.olr_spec.proofs.Common.{arith, slice_index, [], Map, start, end, SameWay, IsRoute, stretch, ChangedLine, AccountsFor}
-use Rattle.olr_spec.proofs.Common.{Detour, IsClear, KnownQuery, KnownRetained, All-contains, get_or, IsKnownWith}
+use Rattle.olr_spec.proofs.Common.{Detour, IsClear, KnownQuery, All-contains, get_or, IsKnownWith, QueryLaws, LawOf}
 use Rattle.olr_spec.proofs.Facts.{route_known, route_counted, Each, Each-head, Each-right, IsRoute-split, IsRoute-moves}
 use Rattle.olr_spec.proofs.Facts.{same_there, stretch_first}
 use Rattle.olr_spec.proofs.RouteMoves.{counted_longer, counted_length_same, clear_front, clear_whole}
@@ -64,7 +64,7 @@ module _ {g : Margin} (M N : Map) (C : List ChangedLine) (there : AccountsFor C 
 
 -- ---- of a path
 
-pub known_kept : (g : Margin) → KnownRetained g
+pub known_kept : (g : Margin) → LawOf (λ (l : QueryLaws g). l.known_retained)
 known_kept g M N C there here ls queries clear ks known k d lt =
     let e = known k d lt in
     let right = known_stays M N C there here ls (get_or ks k d) e.right (All-contains (IsClear N C) queries (get_or ks k d).query clear e.among) in

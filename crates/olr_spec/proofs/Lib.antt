@@ -1,3 +1,4 @@
+pub mod LawOf
 pub mod Common
 pub mod OptionLemmas
 pub mod ListLemmas

@@ -1,15 +1,14 @@
 -- The routes between the LRPs on another map.
 use Rattle.olr_spec.proofs.Common.{inr, true, List, subst, arith, IsTrue, IsMap, start, legs, Margin, Within, Joins, fold, ◌==◌}
 use Rattle.olr_spec.proofs.Common.{◌≡◌, ℕ, ◌+◌, ◌≤◌, ◌<◌, [], ◌∷◌, sym, ap, Map, end, has, max, map, Leg, ◌-◌, length, has_line}
-use Rattle.olr_spec.proofs.Common.{stretch, last_kept, LrpRoute, allowed, none_twice, attrs_with, cases_Bool, slice_index}
-use Rattle.olr_spec.proofs.Common.{first_kept, RoutesJoinElsewhere, RecoveredElsewhere, extended_path, kept_points}
+use Rattle.olr_spec.proofs.Common.{stretch, last_kept, UniqueShortest, allowed, none_twice, attrs_with, cases_Bool, slice_index}
+use Rattle.olr_spec.proofs.Common.{first_kept, extended_path, kept_points, AnswerLaws, LawOf}
 use Rattle.olr_spec.specs.Elsewhere.{HasNoOther, IsNearly, IsNearlyAlong, HasClasses, RecoversLegs, suffices}
 use Rattle.olr_spec.proofs.Facts.{Each, Each-head, Each-tail, Each-left, Each-right, Known, has_here, has_there, has_filter}
 use Rattle.olr_spec.proofs.Facts.{Carries, kept_joins, stretch_first, LinkedWith, kept_linked_with, follow_linked_with, between}
 use Rattle.olr_spec.proofs.Facts.{between_is, unique_there, path_at, path_also}
 use Rattle.olr_spec.proofs.QueryLemmas.{stretch_parts}
-use Rattle.olr_spec.proofs.FitLemmas.{range_legs}
-use Rattle.olr_spec.proofs.FitLemmas.{by_answer, extended_sound, answered}
+use Rattle.olr_spec.proofs.FitLemmas.{range_legs, by_answer, extended_sound, answered}
 use Rattle.olr_spec.proofs.ReceiverLemmas.{within_greatest, recovers_to, recovers_last, extended_once, once_apart}
 
 -- what holds of each line of a part holds of each line of a part of it
@@ -37,9 +36,9 @@ module _ (g : Margin) (M N : Map) (n : IsMap N) (no_other : HasNoOther M N) (a b
       let last = line_there k (omega arith) t h in
       let route = unique_there g M N n no_other a b enough (stretch ls (p + 1) k) (nearly_part (p + 1) k (omega arith) (omega (arith, lt)) (omega arith))
       (end M (slice_index ls p)) (start M (slice_index ls k)) c in
-      coe 0 1 (i. LrpRoute N (sym (no_other.ends (slice_index ls p) first) i) (sym (no_other.starts (slice_index ls k) last) i) (stretch ls (p + 1) k)) route
+      coe 0 1 (i. UniqueShortest N (sym (no_other.ends (slice_index ls p) first) i) (sym (no_other.starts (slice_index ls k) last) i) (stretch ls (p + 1) k)) route
 
-pub routes_join_elsewhere : (g : Margin) → RoutesJoinElsewhere g
+pub routes_join_elsewhere : (g : Margin) → LawOf (λ (l : AnswerLaws g). l.routes_join_elsewhere)
 routes_join_elsewhere g M N m n no_other a b enough ls js positive negative f nearly =
     let from = first_kept (legs M ls) positive js in
     let to = last_kept (legs M ls) negative js in
@@ -76,7 +75,7 @@ module _ (g : Margin) (M N : Map) (m : IsMap M) (ls : List ℕ) (known : Each (K
     recovers_legs (q ∷ r ∷ ks) l.1 (Each-tail (λ k. a ≤ k) p (q ∷ r ∷ ks) above) (Each-tail (λ k. k ≤ b) p (q ∷ r ∷ ks) below) j.1,
   )
 
-pub recovered_elsewhere : (g : Margin) → RecoveredElsewhere g
+pub recovered_elsewhere : (g : Margin) → LawOf (λ (l : AnswerLaws g). l.recovered_elsewhere)
 recovered_elsewhere g M N m n no_other a b enough P is r e nearly classes =
     let x = by_answer M P r e in
     let p = x.1 in

@@ -4,20 +4,19 @@ use Rattle.olr_spec.proofs.Common.{reference_by_kept_with, AllPass-from_list_all
 use Rattle.olr_spec.proofs.Common.{not_from_false, length-take-le, extended_path, length-append, list_all-map, EncodingWith, ap}
 use Rattle.olr_spec.proofs.Common.{RecoversLast, has_no_twin, slice_index, EncodesWith, length-drop, cases_Bool, candidates, []}
 use Rattle.olr_spec.proofs.Common.{is_nearest, option_map, get_or-map, none_twice, OfPathWith, attrs_with, path_fault, ltb-true}
-use Rattle.olr_spec.proofs.Common.{RecoversTo, no_margin, both_ways, slice_get, Reference, Recovered, nat_tests, and_parts, ◌≡◌}
-use Rattle.olr_spec.proofs.Common.{JoinsLast, cases_eq, or_cases, has_line, Receiver, list_all, last_two, and_from, or_parts, ℕ}
-use Rattle.olr_spec.proofs.Common.{LrpRoute, not-true, allowed, line_at, is_path, stretch, JoinsTo, Margin, IsTrue, eq-eqb, ◌≢◌}
-use Rattle.olr_spec.proofs.Common.{length, leg_at, no_leg, Middle, Points, Within, ne_eqb, arith, IsMap, subst, false, start, ℤ}
-use Rattle.olr_spec.proofs.Common.{Tried, Bool, true, List, Some, None, refl, Path, legs, Side, fold, ◌==◌, zero, ◌++◌, drop, ⊤}
-use Rattle.olr_spec.proofs.Common.{◌↔◌, Map, Leg, leg, suc, ◌+◌, ◌-◌, ◌∷◌, map, ◌<◌, sym, ◌∙◌, inr, max, inl, not, ◌≤◌, end}
-use Rattle.olr_spec.proofs.Common.{has}
+use Rattle.olr_spec.proofs.Common.{RecoversTo, both_ways, slice_get, Reference, nat_tests, and_parts, ◌≡◌, JoinsLast, cases_eq}
+use Rattle.olr_spec.proofs.Common.{or_cases, has_line, Receiver, list_all, last_two, and_from, or_parts, ℕ, UniqueShortest}
+use Rattle.olr_spec.proofs.Common.{not-true, allowed, line_at, is_path, stretch, JoinsTo, Margin, IsTrue, eq-eqb, ◌≢◌, length}
+use Rattle.olr_spec.proofs.Common.{leg_at, no_leg, Middle, Points, Within, ne_eqb, arith, IsMap, subst, false, start, ℤ, Tried}
+use Rattle.olr_spec.proofs.Common.{Bool, true, List, Some, None, refl, Path, legs, Side, fold, ◌==◌, zero, ◌++◌, drop, ⊤, ◌↔◌}
+use Rattle.olr_spec.proofs.Common.{Map, Leg, leg, suc, ◌+◌, ◌-◌, ◌∷◌, map, ◌<◌, sym, ◌∙◌, inr, max, inl, not, ◌≤◌, end, has}
+use Rattle.olr_spec.proofs.Common.{AnswerLaws, LawOf}
 use Rattle.olr_spec.specs.Receiver.{decoded_coord, RecoversFrom, last_number, RecoversBy, More_lines, sector_on, Outgoing, Lrp}
 use Rattle.olr_spec.specs.Receiver.{Incoming, last_lrp, Shortest, One_line, rating, lrp_at, Takes}
 use Rattle.olr_spec.specs.Recovery.{IsStretchesWith, IsLineAtWith, stretches, line_by}
 use Rattle.olr_spec.proofs.Facts.{extended_keeps, has_number, LinkedWith, joins_last, has_index, path_also, at_index, joins_to}
 use Rattle.olr_spec.proofs.Facts.{path_at, Known, Each, carries_here, Carries, Each-range, Each-head, Each-tail, dec_same}
-use Rattle.olr_spec.proofs.FitLemmas.{range_legs}
-use Rattle.olr_spec.proofs.FitLemmas.{extended_sound, by_answer}
+use Rattle.olr_spec.proofs.FitLemmas.{range_legs, extended_sound, by_answer}
 use Rattle.olr_spec.proofs.DecodedLemmas.{answer_decodes, Front, Back, Form, Kept, form}
 use Rattle.olr_spec.specs.Reference as fields
 
@@ -47,11 +46,11 @@ within_allowed g M m c (x ∷ xs) known w =
 
 -- ---- a unique shortest path is the only shortest route over any lines that include it
 
-shortest_is : (M : Map) (c s t : ℕ) (xs : List ℕ) → LrpRoute M s t xs → Within M c xs → (ys : List ℕ) →
+shortest_is : (M : Map) (c s t : ℕ) (xs : List ℕ) → UniqueShortest M s t xs → Within M c xs → (ys : List ℕ) →
     Shortest M c s t ys → ys ≡ xs
 shortest_is M c s t xs r w ys h = grind (arith, dec_same ys xs)
 
-route_shortest : (M : Map) (c s t : ℕ) (xs : List ℕ) → LrpRoute M s t xs → Within M c xs → Shortest M c s t xs
+route_shortest : (M : Map) (c s t : ℕ) (xs : List ℕ) → UniqueShortest M s t xs → Within M c xs → Shortest M c s t xs
 route_shortest M c s t xs r w = grind (arith, dec_same)
 
 pub recovers_to : (M : Map) (ls : List ℕ) (c p q : ℕ) → Within M c (stretch ls p q) → JoinsTo M ls p q →
@@ -65,7 +64,7 @@ one_line : (M : Map) (ls : List ℕ) (c p q : ℕ) → q ≡ p + 1 → stretch l
 one_line M ls c p q e is w = grind (arith, One_line)
 
 more_lines : (M : Map) (c x y : ℕ) (all r : List ℕ) → x ≢ y → Within M c all → all ≡ x ∷ (r ++ y ∷ []) →
-    LrpRoute M (end M x) (start M y) r → (w : List ℕ) → RecoversLast M c x y w ↔ (w ≡ all)
+    UniqueShortest M (end M x) (start M y) r → (w : List ℕ) → RecoversLast M c x y w ↔ (w ≡ all)
 more_lines M c x y all r n within is route w =
     let parts : Within M c (x ∷ (r ++ y ∷ [])) = subst (Within M c) is within in
     let ends = within_parts M c r (y ∷ []) parts.1 in
@@ -274,13 +273,8 @@ pub recovered_by : (g : Margin) (T : Lrp → ℕ → Type 0) (S : Side → ℤ �
 recovered_by g T S M chosen m P is r e out back =
     let p = by_answer M P r e in recovered_of M m P is p.0 r p.1 T S chosen out back
 
-pub recovered_with : (g : Margin) → Recovered g
+pub recovered_with : (g : Margin) → LawOf (λ (l : AnswerLaws g). l.recovered)
 recovered_with g R M m P is r e d =
     recovered_by g (Takes R M) (Stands R M) M (takes_own R M) m P is r e
     (λ k lt x at. let own = d.outgoing k lt in record { nearest = own.nearest x at; alone = own.alone x at })
     (λ x at. record { nearest = d.incoming.nearest x at; alone = d.incoming.alone x at })
-
--- ---- without a margin
-
-pub recovered : Recovered no_margin
-recovered = recovered_with no_margin

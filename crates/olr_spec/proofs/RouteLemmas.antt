@@ -2,8 +2,7 @@
 use Rattle.olr_spec.proofs.Common.{inl, ◌≡◌, ℕ, ◌+◌, ◌<◌, ◌≤◌, List, ◌∷◌, ◌++◌, reverse, inr, refl, sym, ap, ◌∙◌, subst, arith}
 use Rattle.olr_spec.proofs.Common.{IsTrue, [], cases_order, and_parts, nat_tests, reverse-append, Map, IsMap, has_node}
 use Rattle.olr_spec.proofs.Common.{has_line, end, dm, IsRoute, dm_of, FirstSmaller, PrecedesInTieOrder, reverse-reverse}
-use Rattle.olr_spec.proofs.Common.{append_cancel_right, NoLongerSuffix, OneLeast, PrefixOfLeast, ◌⊎◌, EmptyIsLeast}
-use Rattle.olr_spec.proofs.Common.{EmptyIsUnique, UniqueIsLeast, PrefixOfUnique}
+use Rattle.olr_spec.proofs.Common.{append_cancel_right, ◌⊎◌, RouteLaws, LawOf}
 
 pub positive : (M : Map) → IsMap M → (x : ℕ) → IsTrue (has_line M x) → 0 < dm M x
 positive M m x h = let good = m.good x h in grind (arith, nat_tests, and_parts)
@@ -33,7 +32,7 @@ pub IsRoute-split : (M : Map) (s t : ℕ) (xs ys : List ℕ) → IsRoute M s t (
 IsRoute-split M s t [] ys w = (s, refl, w)
 IsRoute-split M s t (x ∷ xs) ys w = let r = IsRoute-split M (end M x) t xs ys w.2 in (r.0, (w.0, w.1, r.1), r.2)
 
-pub longer : NoLongerSuffix
+pub longer : LawOf (λ (l : RouteLaws). l.no_longer_suffix)
 longer M m s t [] xs w e = refl
 longer M m s t (x ∷ front) xs w e = absurd (omega (arith, positive M m x w.0, dm_of-append M front xs))
 
@@ -86,7 +85,7 @@ same_end M m s t xs ys rest is w e =
     let none = longer M m s t (reverse rest) xs (coe 0 1 (i. IsRoute M s t (split i)) w) (ap (dm_of M) (sym split) ∙ e) in
     split ∙ ap (λ (zs : List ℕ). zs ++ xs) none
 
-pub one_least : OneLeast
+pub one_least : LawOf (λ (l : RouteLaws). l.one_least)
 one_least M m s t xs ys l k =
     let p = k.first xs l.route in
     let q = l.first ys k.route in
@@ -95,21 +94,21 @@ one_least M m s t xs ys l k =
     let here = λ (rest : List ℕ) (is : reverse xs ≡ reverse ys ++ rest). same_end M m s t ys xs rest is l.route in
     grind (arith, cases_order (dm_of M xs) (dm_of M ys), compared, there, here, p, q)
 
-pub prefix_of_least : PrefixOfLeast
+pub prefix_of_least : LawOf (λ (l : RouteLaws). l.prefix_of_least)
 prefix_of_least M s v t xs ys l w u = grind (arith, IsRoute-append, dm_of-append, reverse-append, with_front)
 
-pub empty_least : EmptyIsLeast
+pub empty_least : LawOf (λ (l : RouteLaws). l.empty_is_least)
 empty_least M s = grind (arith, nothing_below_nil)
 
 -- ---- the unique shortest path
 
-pub empty_unique : EmptyIsUnique
+pub empty_unique : LawOf (λ (l : RouteLaws). l.empty_is_unique)
 empty_unique M m s = record { route = refl; others = elim [ [] ↦ λ w ne. absurd (ne refl) | y ∷ ys ↦ λ w ne. omega (arith, positive M m y w.0) ] }
 
-pub unique_least : UniqueIsLeast
+pub unique_least : LawOf (λ (l : RouteLaws). l.unique_is_least)
 unique_least M s t xs o = grind (arith, not_before_itself)
 
-pub prefix_of_unique : PrefixOfUnique
+pub prefix_of_unique : LawOf (λ (l : RouteLaws). l.prefix_of_unique)
 prefix_of_unique M s v t xs ys o w u = grind (arith, IsRoute-append, append_cancel_right, dm_of-append)
 
 -- of routes from their ends the last lines are compared first

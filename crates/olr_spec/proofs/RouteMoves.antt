@@ -1,10 +1,10 @@
 -- Unique shortest paths within a length are the same on two maps that agree around each node that a route within this
 -- length reaches, or where no changed line offers a detour; and so where their own lines count longer.
 use Rattle.olr_spec.proofs.Common.{list_any-append, UniqueShortest, counted_dm_of, CountedRoute, ChangedLine, AccountsFor, cond}
-use Rattle.olr_spec.proofs.Common.{cases_Bool, append-nil, counted_dm, SameRound, NearStays, has_line, Contains, cases_lt, List}
-use Rattle.olr_spec.proofs.Common.{SameLine, SameWay, IsRoute, or_left, counted, Reaches, IsTrue, Detour, Margin, subst, arith}
-use Rattle.olr_spec.proofs.Common.{dm_of, false, start, ◌++◌, refl, Bool, ◌&&◌, ◌==◌, true, Near, ◌≡◌, ◌+◌, ◌≤◌, ◌↔◌, ◌∷◌, sym}
-use Rattle.olr_spec.proofs.Common.{has, Map, inl, inr, ◌∙◌, ◌⊎◌, ◌-◌, end, [], dm, ℕ}
+use Rattle.olr_spec.proofs.Common.{cases_Bool, append-nil, counted_dm, SameRound, has_line, Contains, cases_lt, List, SameLine}
+use Rattle.olr_spec.proofs.Common.{SameWay, IsRoute, or_left, counted, Reaches, IsTrue, Detour, Margin, subst, arith, dm_of}
+use Rattle.olr_spec.proofs.Common.{false, start, ◌++◌, refl, Bool, ◌&&◌, ◌==◌, true, Near, ◌≡◌, ◌+◌, ◌≤◌, ◌↔◌, ◌∷◌, sym, has}
+use Rattle.olr_spec.proofs.Common.{Map, inl, inr, ◌∙◌, ◌⊎◌, ◌-◌, end, [], dm, ℕ, ChangeLaws, LawOf}
 use Rattle.olr_spec.proofs.RouteLemmas.{IsRoute-append, dm_of-append}
 use Rattle.olr_spec.proofs.CountedLemmas.{route_counted, counted_least, counted_known, counted_other, counted_start}
 use Rattle.olr_spec.proofs.CountedLemmas.{counted_none, get_counted, counted_own, counted_end}
@@ -164,7 +164,7 @@ near_moves M N T round s w d (x ∷ xs) on route h = elim (cases_Bool (has T s))
       record { node = n.node; route = x ∷ n.route; touched = n.touched; leads = grind (arith, way, n.leads); within = omega (arith, way.len) }
 ]
 
-pub near_same : NearStays
+pub near_same : LawOf (λ (l : ChangeLaws). l.near_stays)
 near_same M N T round s d = (
   (λ m. near_moves M N T round s m.node d m.route m.touched m.leads m.within),
   (λ m. near_moves N M T (λ v e. turned_round M N v (round v e)) s m.node d m.route m.touched m.leads m.within),

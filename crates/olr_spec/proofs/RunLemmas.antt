@@ -3,7 +3,7 @@ use Rattle.olr_spec.proofs.Common.{◌≡◌, ◌≢◌, ℕ, ◌+◌, true, Lis
 use Rattle.olr_spec.proofs.Common.{arith, append-nil, append_assoc, [], cases_lt, cases_order, and_parts, cond_both, nat_tests}
 use Rattle.olr_spec.proofs.Common.{Map, IsMap, dm, has_line, lines_in, lines_out, start, end, has, line_at, dm_of}
 use Rattle.olr_spec.proofs.Common.{passes_between, first, last, MayPrecede, MayFollow, StartRun, EndRun, LongestEnd, Tried}
-use Rattle.olr_spec.proofs.Common.{Path, from_start, taken_start, limit, extended_path, OneStartRun, OneEndRun}
+use Rattle.olr_spec.proofs.Common.{Path, from_start, taken_start, limit, extended_path, RouteLaws, LawOf}
 use Rattle.olr_spec.proofs.RouteLemmas.{positive}
 use Rattle.olr_spec.proofs.OrderLemmas.{exactly_in, exactly_out}
 use Rattle.olr_spec.proofs.AgreeLemmas.{known_record}
@@ -106,12 +106,12 @@ pub end_runs : (M : Map) (ls : List ℕ) → IsTrue (has_line M (last ls)) →
     AreRuns M (EndRun M ls) (λ x c. MayFollow M (ls ++ c) x)
 end_runs M ls k = grind (arith, same_end_run, end_more)
 
-pub one_start : OneStartRun
+pub one_start : LawOf (λ (l : RouteLaws). l.one_start_run)
 one_start M m ls c d k p q =
     one_run M _ _ (start_runs M ls k) c d p.run q.run m
     (omega (arith, p.longest d q.run q.within, q.longest c p.run p.within))
 
-pub one_end : OneEndRun
+pub one_end : LawOf (λ (l : RouteLaws). l.one_end_run)
 one_end M m ls c d k p q = grind (arith, one_run, end_runs)
 
 -- ---- the path with its extended start

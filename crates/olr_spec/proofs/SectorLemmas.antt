@@ -3,7 +3,7 @@ use Rattle.olr_spec.proofs.Common.{inl, inr, ◌≡◌, ℕ, zero, suc, ◌+◌,
 use Rattle.olr_spec.proofs.Common.{Bool, true, T, List, ◌∷◌, unwrap_or, IsTrue, map, refl, sym, subst, arith, [], eq-eqb}
 use Rattle.olr_spec.proofs.Common.{int_le, find, and_parts, cases_order, or_left, or_right, cond_both, list_any-append, negsuc}
 use Rattle.olr_spec.proofs.Common.{ints, vector, boundary, lies_between, up_to, has, ◌*ℤ◌, by_lt_z, quarter_turn, beyond}
-use Rattle.olr_spec.proofs.Common.{IsSector, OneSector, SomeSector, neg_ℤ}
+use Rattle.olr_spec.proofs.Common.{IsSector, neg_ℤ, FieldLaws, LawOf}
 use Rattle.olr_spec.proofs.Facts.{Each, Each-nil, Each-head, Each-tail, has_cases, Each-push}
 
 -- ---- tests on whole numbers
@@ -146,7 +146,7 @@ later_fails e n j k lt h a b =
 at_of : (e n : ℤ) (k : ℕ) → IsTrue (lies_between (boundary k) (boundary (suc k)) (vector e n)) → At k e n
 at_of e n k h = grind (arith, and_parts, side, le_yes)
 
-pub one_sector : OneSector
+pub one_sector : LawOf (λ (l : FieldLaws). l.one_sector)
 one_sector e n j k p q = grind (arith, cases_order, later_fails, at_of)
 
 -- ---- at least one sector
@@ -184,7 +184,7 @@ find_some p [] d Q h k i e = absurd cc
 find_some p (x ∷ xs) d Q h k i e =
     grind (arith, Each-tail, Each-head, cond_both, (find_some p xs d Q (Each-tail Q x xs h) k))
 
-pub sector_is : SomeSector
+pub sector_is : LawOf (λ (l : FieldLaws). l.some_sector)
 sector_is e n ne =
     let r = some_sector e n ne in
     find_some (λ k. lies_between (boundary k) (boundary (suc k)) (vector e n)) (up_to 32) 0 (λ k. k < 32)

@@ -1,14 +1,14 @@
 -- If nothing that a path depends on has changed, its answer, traversed nodes, coverage queries and footprint are the
 -- same.
-use Rattle.olr_spec.proofs.Common.{Margin, answer_by_points_with, TraversedOfExtended, QueriesOfExtendedWith, UntouchedRetained}
-use Rattle.olr_spec.proofs.Common.{◌⊎◌, extended_path, last_position, EncodingWith, CoverageQuery, query_to_with, No_next_point}
-use Rattle.olr_spec.proofs.Common.{inl, Contains, cases_lt, SameLine, IsRoute, is_path, AreJoined, stretch, Traversed, querying}
-use Rattle.olr_spec.proofs.Common.{inr, length, Option, IsTrue, subst, arith, Answer, Refused, Refusal, Points, NodeOf, IsClear}
-use Rattle.olr_spec.proofs.Common.{◌≡◌, ℕ, ◌+◌, ◌∷◌, ◌<◌, ◌≤◌, All, sym, ◌∙◌, ◌↔◌, T, ap, Map, end, has, List, true, None, ◌++◌}
+use Rattle.olr_spec.proofs.Common.{Margin, answer_by_points_with, TraversedOfExtended, QueriesOfExtendedWith, ◌⊎◌}
+use Rattle.olr_spec.proofs.Common.{extended_path, last_position, EncodingWith, CoverageQuery, query_to_with, No_next_point, inl}
+use Rattle.olr_spec.proofs.Common.{Contains, cases_lt, SameLine, IsRoute, is_path, AreJoined, stretch, Traversed, querying, inr}
+use Rattle.olr_spec.proofs.Common.{length, Option, IsTrue, subst, arith, Answer, Refused, Refusal, Points, NodeOf, IsClear, ◌≡◌}
+use Rattle.olr_spec.proofs.Common.{ℕ, ◌+◌, ◌∷◌, ◌<◌, ◌≤◌, All, sym, ◌∙◌, ◌↔◌, T, ap, Map, end, has, List, true, None, ◌++◌}
 use Rattle.olr_spec.proofs.Common.{cond, [], ◌==◌, IsMap, start, dm_of, Path, first, last, Tried, limit, MatchOption}
 use Rattle.olr_spec.proofs.Common.{taken_start, CoveredWith, ChangedLine, AccountsFor, IsQueryWith, All-contains, length-append}
-use Rattle.olr_spec.proofs.Common.{both_ways, IsLastTestedWith, reference_with, AnswersRetained, QueriesFromWith, cases_Bool}
-use Rattle.olr_spec.proofs.Common.{SameRound, from_start, taken_end, LongestEnd, FollowWith, OfPathWith, path_fault}
+use Rattle.olr_spec.proofs.Common.{both_ways, IsLastTestedWith, reference_with, QueriesFromWith, cases_Bool, SameRound}
+use Rattle.olr_spec.proofs.Common.{from_start, taken_end, LongestEnd, FollowWith, OfPathWith, path_fault, QueryLaws, LawOf}
 use Rattle.olr_spec.proofs.Facts.{Each, Each-from, has_first, has_last, Known, Each-append, Each-left, Each-right, Each-to}
 use Rattle.olr_spec.proofs.Facts.{Each-cons, Each-push, sound_lines, path_nonempty, path_at, by_fault, one_tried}
 use Rattle.olr_spec.proofs.Facts.{extended_keeps, Alike, same_begin, same_finish, longest_start_moves, StartRun-known}
@@ -204,12 +204,12 @@ clear : (g : Margin) (M N : Map) (C : List ChangedLine) → AccountsFor C M N �
 clear g M N C there here queries all ls each s t joined i k last on =
     clear_routes M N ls each s t joined i k last C there here (All-contains (IsClear N C) queries (query_to_with g M ls i k) all on)
 
-pub kept : (g : Margin) → AnswersRetained g
+pub kept : (g : Margin) → LawOf (λ (l : QueryLaws g). l.answers_retained)
 kept g M N m n C there here P is same traversed queries o all =
     queried_kept g M N m n P is (Each-from (SameLine M N) P.lines same) queries (clear g M N C there here queries all) traversed o
 
 -- the same conclusion from what is touched
-pub untouched_retained_with : (g : Margin) → UntouchedRetained g
+pub untouched_retained_with : (g : Margin) → LawOf (λ (l : QueryLaws g). l.untouched_retained)
 untouched_retained_with g M N m n T X C d P is lines nodes queries =
     kept g M N m n C d.there d.here P is (Each-to (SameLine M N) P.lines (λ x on. d.lines x (grind (arith, lines, cases_Bool, both_ways))))
     (λ v on. d.nodes v (grind (arith, nodes, cases_Bool))) queries

@@ -1,11 +1,10 @@
 -- A path has exactly one list of coverage queries, and they determine its footprint.
-use Rattle.olr_spec.proofs.Common.{QueriesOfExtendedWith, TraversedOfExtended, IsLastTestedWith, SomeLastTested, OneLastTested}
-use Rattle.olr_spec.proofs.Common.{FootIsQueried, extended_path, CoverageQuery, query_to_with, FootAffected, MatchOption, arith}
-use Rattle.olr_spec.proofs.Common.{cases_order, CoveredWith, IsQueryWith, SomeQueries, path_fault, OneQueries, Traversed, IsMap}
-use Rattle.olr_spec.proofs.Common.{Contains, cases_lt, cases_eq, Greatest, querying, ltb-true, is_path, stretch, Margin, length}
-use Rattle.olr_spec.proofs.Common.{IsTrue, dec_le, AllZip, Needed, nat_lt, lt-ltb, dm_of, limit, subst, zero, true, List, None}
-use Rattle.olr_spec.proofs.Common.{refl, Path, Sees, Near, inl, inr, ◌≡◌, suc, ◌+◌, ◌-◌, min, ◌∷◌, ◌<◌, ◌≤◌, sym, ◌∙◌, ◌⊎◌, Map}
-use Rattle.olr_spec.proofs.Common.{has, ap, [], ℕ, T}
+use Rattle.olr_spec.proofs.Common.{QueriesOfExtendedWith, TraversedOfExtended, IsLastTestedWith, extended_path, CoverageQuery}
+use Rattle.olr_spec.proofs.Common.{query_to_with, MatchOption, arith, cases_order, CoveredWith, IsQueryWith, path_fault}
+use Rattle.olr_spec.proofs.Common.{Traversed, IsMap, Contains, cases_lt, cases_eq, Greatest, querying, ltb-true, is_path}
+use Rattle.olr_spec.proofs.Common.{stretch, Margin, length, IsTrue, dec_le, AllZip, Needed, nat_lt, lt-ltb, dm_of, limit, subst}
+use Rattle.olr_spec.proofs.Common.{zero, true, List, None, refl, Path, Sees, Near, inl, inr, ◌≡◌, suc, ◌+◌, ◌-◌, min, ◌∷◌, ◌<◌}
+use Rattle.olr_spec.proofs.Common.{◌≤◌, sym, ◌∙◌, ◌⊎◌, Map, has, ap, [], ℕ, T, QueryLaws, LawOf}
 use Rattle.olr_spec.specs.Footprint.{On_start_run, Within_reach, TouchedWith, On_end_run, FootOfWith, On_path}
 use Rattle.olr_spec.proofs.Facts.{Contains-later, Contains-cases, empty_stretch, Contains-here, has_filter, filter_has, path_at}
 use Rattle.olr_spec.proofs.Facts.{path_also, has_there, near_same, has_cases, by_fault, has_here, same_by}
@@ -59,7 +58,7 @@ no_later M ls i j k p q lt = elim p.last [
   | inr all ↦ grind (arith, q.needed, all k)
 ]
 
-pub one_last_tested_with : (g : Margin) → OneLastTested g
+pub one_last_tested_with : (g : Margin) → LawOf (λ (l : QueryLaws g). l.one_last_tested)
 one_last_tested_with g M ls i j k p q = grind (arith, cases_order j k, no_later {g = g} M ls i j k, no_later {g = g} M ls i k j)
 
 -- from position i + 1 on, where f is the farthest position that is near enough
@@ -84,7 +83,7 @@ module _ (g : Margin) (M : Map) (m : IsMap M) (ls : List ℕ) (i f : ℕ)
         ]
       ]
 
-pub some_last_tested : (g : Margin) → SomeLastTested g
+pub some_last_tested : (g : Margin) → LawOf (λ (l : QueryLaws g). l.some_last_tested)
 some_last_tested g M m ls i h =
     let Near_enough : ℕ → Type 0 = λ j. (j ≤ length ls) × (dm_of M (stretch ls i j) ≤ limit) in
     elim (greatest_or_none Near_enough (λ j. dec_and (dec_le j (length ls)) (dec_le (dm_of M (stretch ls i j)) limit))
@@ -151,21 +150,21 @@ module _ (g : Margin) (M : Map) (m : IsMap M) (P : Path) (is : IsTrue (is_path P
 
 -- ---- whether or not the path has a fault
 
-pub one_queries_with : (g : Margin) → OneQueries g
+pub one_queries_with : (g : Margin) → LawOf (λ (l : QueryLaws g). l.one_queries)
 one_queries_with g M m P is ks ls = same_by (path_fault M P) (QueriesOfExtendedWith g M P) (λ _. []) ks ls
     (λ e p q. one_zip g M (extended_path M P p.before p.after).lines _ ks ls p.holds (path_at m is e p q))
 
-pub some_queries : (g : Margin) → SomeQueries g
+pub some_queries : (g : Margin) → LawOf (λ (l : QueryLaws g). l.some_queries)
 some_queries g M m P is =
     by_fault M P (λ o. (queries : List CoverageQuery) × MatchOption o (QueriesOfExtendedWith g M P queries) (λ _. queries ≡ []))
     (some_list g M m P is) (λ r. ([], refl))
 
-pub foot_queried_with : (g : Margin) → FootIsQueried g
+pub foot_queried_with : (g : Margin) → LawOf (λ (l : QueryLaws g). l.foot_is_queried)
 foot_queried_with g M m P is queries o v = grind (arith, by_fault, foot_there g M m P is, foot_here g M m P is)
 
 -- ---- what touched nodes affect
 
-pub foot_affected_with : (g : Margin) → FootAffected g
+pub foot_affected_with : (g : Margin) → LawOf (λ (l : QueryLaws g). l.foot_affected)
 foot_affected_with g M N m T round P is queries o = (
   (λ f. elim ((foot_queried_with g M m P is queries o f.0).0 f.2) [
     | inl traversed ↦ inl (f.0, f.1, traversed)

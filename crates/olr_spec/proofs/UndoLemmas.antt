@@ -1,9 +1,9 @@
 -- One edit restores the map from before an accepted edit, and the empty map is sound.
-use Rattle.olr_spec.proofs.Common.{◌≡◌, true, false, ◌||◌, arith, filter, FinMap, insert, remove, IsMap, edited, in_use, unless}
-use Rattle.olr_spec.proofs.Common.{◌≢◌, ℕ, List, ◌∷◌, map, Some, None, Ok, ap, ◌==◌, [], get, Map, Line, Edit, has, inl, inr}
-use Rattle.olr_spec.proofs.Common.{Bool, cases_Bool, nat_cmp_total, nat_cmp-IsAntisymmetric, Move_node, Drop_node, EmptyIsSound}
-use Rattle.olr_spec.proofs.Common.{Option, Result, nat_cmp, entries, line_at, coord_at, Add_node, Add_line, Set_line, same_map}
-use Rattle.olr_spec.proofs.Common.{eqb-true, cases_eq, and_from, or_cases, list_any, has_node, Drop_line, get-empty, EditsUndo}
+use Rattle.olr_spec.proofs.Common.{◌≡◌, filter, FinMap, insert, remove, entries, line_at, or_cases, list_any, has_node, MapLaws}
+use Rattle.olr_spec.proofs.Common.{true, false, ◌||◌, arith, IsMap, edited, in_use, unless, List, Some, Option, Result, LawOf}
+use Rattle.olr_spec.proofs.Common.{◌≢◌, ◌∷◌, map, None, Ok, ap, ◌==◌, [], get, Map, Line, Edit, has, inl, inr, Bool}
+use Rattle.olr_spec.proofs.Common.{ℕ, coord_at, Add_node, Add_line, Set_line, same_map, eqb-true, cases_eq, and_from, get-empty}
+use Rattle.olr_spec.proofs.Common.{cases_Bool, nat_cmp_total, nat_cmp-IsAntisymmetric, Move_node, Drop_node, nat_cmp, Drop_line}
 use Rattle.olr_spec.proofs.Facts.{has-lines_where, passes_at, has_here, some_is, none_of, there_not}
 use Rattle.olr_spec.proofs.EditLemmas.{got_other, got_same, left_other, left_same, edit_laws}
 
@@ -60,8 +60,8 @@ pub takes_back : (M : Map) → IsMap M → (N : Map) (e : Edit) → edited M e �
 takes_back M m N e p =
     grind (arith, edit_laws, drop_added, put_back, set_back, none_of, some_is, unused_where_absent, and_from)
 
-pub edits_undo : EditsUndo
+pub edits_undo : LawOf (λ (l : MapLaws). l.edits_undo)
 edits_undo M N e m h = (back_of M e, takes_back M m N e h)
 
-pub empty_sound : EmptyIsSound
+pub empty_sound : LawOf (λ (l : MapLaws). l.empty_is_sound)
 empty_sound = grind (arith, there_not, get-empty, nat_cmp)

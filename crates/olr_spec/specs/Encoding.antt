@@ -3,8 +3,8 @@
 --     path_fault M P      the first of the reasons that the path's own lines give
 --     Encodes M P A, EncodesWith g M P A      A is the answer, with a margin
 --     IsPointWith g M P k v      node v is LRP k of its reference
-use Rattle.std.specs.Prelude.{◌≡◌, ℕ, suc, ◌+◌, List, ◌∷◌, length, find, nat_le, ◌==◌, not, slice_get, Option, Some}
-use Rattle.std.specs.Prelude.{None, option_map, MatchOption, if◌then◌else◌}
+use Rattle.std.specs.Prelude.{◌≡◌, ℕ, suc, ◌+◌, List, ◌∷◌, length, find, nat_le, ◌==◌, not, slice_get, Option, Some, None}
+use Rattle.std.specs.Prelude.{option_map, MatchOption, if◌then◌else◌}
 use Rattle.std.specs.Option.{option_or}
 use Rattle.olr_spec.specs.Margins.{Margin, no_margin}
 use Rattle.olr_spec.specs.Map.{Map, has_line, start, end}
@@ -63,12 +63,6 @@ IsPointWith g M P k v =
     ≡ Some v)
 
 -- ---- without a margin, as the program encodes
-
-abbrev pub answer_by_points : Map → Path → List ℕ → Answer
-answer_by_points = answer_by_points_with no_margin
-
-abbrev pub Encoding : Map → Path → Answer → Type 0
-Encoding = EncodingWith no_margin
 
 abbrev pub Encodes : Map → Path → Answer → Type 0
 Encodes = EncodesWith no_margin

@@ -12,7 +12,7 @@ use Rattle.std.specs.Prelude.{◌≡◌, ◌⊎◌, ℕ, ◌+◌, ◌*◌, ◌/�
 use Rattle.std.specs.Ordering.{nat_cmp}
 use Rattle.std.specs.FinMap.{FinMap, insert}
 use Rattle.olr_spec.specs.Map.{Map, IsMap, Line, has_line, line_at}
-use Rattle.olr_spec.specs.Routes.{dm_of, LrpRoute}
+use Rattle.olr_spec.specs.Routes.{dm_of, UniqueShortest}
 
 -- routes in thousandths of the length, and classes
 pub record Margin : Type 0 where
@@ -42,7 +42,7 @@ abbrev pub counted : Margin → Map → List ℕ → Map
 counted g M xs = if g.routes == 0 then M else record M { lines = counted_lines g M xs }
 
 abbrev pub CountedRoute : Margin → Map → ℕ → ℕ → List ℕ → Type 0
-CountedRoute g M s t xs = LrpRoute (counted g M xs) s t xs
+CountedRoute g M s t xs = UniqueShortest (counted g M xs) s t xs
 
 abbrev pub counted_dm_of : Margin → Map → List ℕ → ℕ
 counted_dm_of g M xs = dm_of (counted g M xs) xs

@@ -4,11 +4,10 @@
 --     CoveredWith g M ls i j      position j is covered: the path reaches it from line i by the unique shortest path
 --     CandidateWith g M ls i j, NextWith g M ls i j      j may be the next LRP after i; j is the next LRP after i
 --     FollowWith g M ls i js      js are the LRPs after i, up to the one that has no next
---     Candidate, NoNext, Follow      the same without a margin
 --     OfPathWith g M P Q      Q holds of the extended path, its tried runs and its LRPs
 use Rattle.std.specs.Prelude.{◌≡◌, ℕ, ◌+◌, ◌-◌, ◌<◌, ◌≤◌, min, Bool, ◌&&◌, List, [], ◌∷◌, length, nat_lt, slice_index}
 use Rattle.std.specs.Prelude.{slice_range, if◌then◌else◌, IsTrue, IsFalse}
-use Rattle.olr_spec.specs.Margins.{Margin, no_margin, CountedRoute}
+use Rattle.olr_spec.specs.Margins.{Margin, CountedRoute}
 use Rattle.olr_spec.specs.Coordinates.{Coord, relative, fits16}
 use Rattle.olr_spec.specs.Map.{Map, start, end, coord_at}
 use Rattle.olr_spec.specs.Routes.{dm_of}
@@ -82,14 +81,3 @@ pub record OfPathWith (g : Margin) (M : Map) (P : Path) (Q : Path → List ℕ �
   pub tried : Tried M P before after
   pub follow : FollowWith g M (extended_path M P before after).lines 0 points
   pub holds : Q (extended_path M P before after) before after points
-
--- ---- without a margin, as the program encodes
-
-abbrev pub Candidate : Map → List ℕ → ℕ → ℕ → Type 0
-Candidate = CandidateWith no_margin
-
-abbrev pub NoNext : Map → List ℕ → ℕ → Type 0
-NoNext = NoNextWith no_margin
-
-abbrev pub Follow : Map → List ℕ → ℕ → List ℕ → Type 0
-Follow = FollowWith no_margin

@@ -10,16 +10,15 @@
 --         lines between count
 --     KnownQuery, IsKnownWith g M ls e      a coverage query along a path's own lines ls, by its positions in them; that
 --         it is right
---     AreKnown M ls ks      each of these is
+--     AreKnownWith g M ls ks      each of these is
 --     KnownOfWith g M ls queries ks      each of these is, and is one of the path's coverage queries
---     AreKnownWith g, KnownOfWith g      the same with a margin
 --     IsClear M C l      no detour over the changed lines C is as short
 --     QueriesFromWith g M ls is queries, QueriesOfWith g M P queries      one coverage query for each LRP of the list is,
 --         in order; the coverage queries of the path
 use Rattle.std.specs.Prelude.{◌≡◌, ℕ, ◌+◌, ◌-◌, ◌<◌, ◌≤◌, min, Bool, List, [], ◌∷◌, length, filter, nat_lt, slice_index}
 use Rattle.std.specs.Prelude.{MatchOption, Contains, ◌⊎◌, ◌↔◌, IsTrue}
 use Rattle.std.specs.List.{All, AllZip}
-use Rattle.olr_spec.specs.Margins.{Margin, no_margin, CountedRoute, counted_dm_of}
+use Rattle.olr_spec.specs.Margins.{Margin, CountedRoute, counted_dm_of}
 use Rattle.olr_spec.specs.Map.{Map, start, end, has}
 use Rattle.olr_spec.specs.Routes.{IsRoute, dm_of}
 use Rattle.olr_spec.specs.Extension.{Path, Tried, extended_path, limit}
@@ -125,8 +124,3 @@ KnownOfWith g M ls queries ks = All (IsKnownOfWith g M ls queries) ks
 -- no detour over the changed lines is as short as the path
 abbrev pub IsClear : Map → List ChangedLine → CoverageQuery → Type 0
 IsClear M C l = ¬ Detour M C l.from l.to l.within
-
--- ---- without a margin, as the program encodes
-
-abbrev pub AreKnown : Map → List ℕ → List KnownQuery → Type 0
-AreKnown = AreKnownWith no_margin

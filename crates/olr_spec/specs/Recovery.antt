@@ -1,10 +1,9 @@
 -- What a receiver should recover of a path, and when it can.
---     IsLineAt M P s k x      line x of the extended path leaves LRP k of its reference, or enters it
+--     IsLineAtWith g M P s k x      line x of the extended path leaves LRP k of its reference, or enters it
 --     own_lines ls ks, OwnLinesWith g M P xs      these lines of all LRPs, in order
 --     OwnLinesOfWith g M P A xs      of an answer: none if it has no reference
---     Distinct far M P r      the path's own line at each LRP is the nearest candidate by the measure far, and has no
---         twin
---     IsLineAtWith g, DistinctWith g, ..      the same with a margin
+--     Distinct far M P r, DistinctWith g far M P r      the path's own line at each LRP is the nearest candidate by the
+--         measure far, and has no twin; with a margin
 --     stretches ls ks, IsStretchesWith g M P ws      the legs: the lines between each two neighbouring LRPs
 --     IsKeptPartWith g M P ls      the lines from the first remaining LRP to the last
 --     IsLeftWith g M P front back      what remains of the two offsets at these LRPs, in decimetres
@@ -16,8 +15,8 @@
 --     are_cosines n d scale cosine M r      these cosines are at least n / d and at most 1
 --     are_spaced n d k s g cs      the other nodes are far enough from a candidate's node, so that it is the nearest at
 --         LRP k
-use Rattle.std.specs.Prelude.{◌≡◌, ℕ, ◌+◌, ◌-◌, ◌*◌, ◌<◌, ◌≤◌, ℤ, ◌-ℤ◌, nat_abs, Bool, ◌&&◌, ◌||◌, ◌==◌, nat_le, List}
-use Rattle.std.specs.Prelude.{[], ◌∷◌, slice_index, slice_get, Option, Some, None, option_map, IsTrue}
+use Rattle.std.specs.Prelude.{◌≡◌, ℕ, ◌+◌, ◌-◌, ◌*◌, ◌<◌, ◌≤◌, ℤ, ◌-ℤ◌, nat_abs, Bool, ◌&&◌, ◌||◌, ◌==◌, nat_le, List, [], ◌∷◌}
+use Rattle.std.specs.Prelude.{slice_index, slice_get, Option, Some, None, option_map, IsTrue}
 use Rattle.std.specs.List.{list_all}
 use Rattle.olr_spec.specs.Margins.{Margin, no_margin}
 use Rattle.olr_spec.specs.Coordinates.{Coord}
@@ -28,8 +27,8 @@ use Rattle.olr_spec.specs.Bearings.{Leg, up_to}
 use Rattle.olr_spec.specs.Reference.{Attrs, Reference, leg, legs, from_front, to_back, first_kept, last_kept, kept_points}
 use Rattle.olr_spec.specs.Encoding.{Answer, Points, Refused}
 use Rattle.olr_spec.specs.Decoded.{decoded_bound}
-use Rattle.olr_spec.specs.Receiver.{Side, Outgoing, Incoming, node_on, coordinate_on, Measure, candidates}
-use Rattle.olr_spec.specs.Receiver.{decoded_coord, last_number, is_nearest, has_no_twin}
+use Rattle.olr_spec.specs.Receiver.{Side, Outgoing, Incoming, node_on, coordinate_on, Measure, candidates, decoded_coord}
+use Rattle.olr_spec.specs.Receiver.{last_number, is_nearest, has_no_twin}
 
 -- the line that leaves position i, or the line that enters it
 abbrev pub line_by : Side → List ℕ → ℕ → ℕ
@@ -149,12 +148,6 @@ are_spaced n d k s g cs =
     list_all (λ c. node_on s c.1 == node_on s g || is_spaced n d k (coordinate_on s g) (coordinate_on s c.1)) cs
 
 -- ---- without a margin, as the program encodes
-
-abbrev pub IsLineAt : Map → Path → Side → ℕ → ℕ → Type 0
-IsLineAt = IsLineAtWith no_margin
-
-abbrev pub DistinctAt : Measure → Map → Path → Side → ℕ → ℤ × ℤ → Type 0
-DistinctAt = DistinctAtWith no_margin
 
 abbrev pub Distinct : Measure → Map → Path → Reference → Type 0
 Distinct = DistinctWith no_margin

@@ -7,7 +7,6 @@
 --         the first difference, counted from the end
 --     Least M s t xs      the shortest path: a route from s to t that no other precedes
 --     UniqueShortest M s t xs      the unique shortest path: a route such that every other is longer
---     LrpRoute M s t xs      the route between two location reference points (LRPs)
 --     Settled M s limit dist trace      in a search from s, each label describes a route, and no line improves a label
 use Rattle.std.specs.Prelude.{◌≡◌, ◌≢◌, ℕ, ◌+◌, ◌<◌, ◌≤◌, List, [], ◌∷◌, ◌++◌, reverse, Option, Some, ◌⊎◌, IsTrue}
 use Rattle.olr_spec.specs.Map.{Map, has_line, start, end, dm}
@@ -41,14 +40,11 @@ pub record Least (M : Map) (s t : ℕ) (xs : List ℕ) : Type 0 where
   pub route : IsRoute M s t xs
   pub first : (ys : List ℕ) → IsRoute M s t ys → ¬ PrecedesInTieOrder M ys xs
 
--- if two shortest routes are equally long none is unique, since a decoder may take either
+-- the route between two location reference points (LRPs; White Paper, encoding steps). If two shortest routes are equally
+-- long none is unique, since a decoder may take either (profile)
 pub record UniqueShortest (M : Map) (s t : ℕ) (xs : List ℕ) : Type 0 where
   pub route : IsRoute M s t xs
   pub others : (ys : List ℕ) → IsRoute M s t ys → ys ≢ xs → dm_of M xs < dm_of M ys
-
--- the shortest path between two LRPs (White Paper, encoding steps); that it is unique: profile
-abbrev pub LrpRoute : Map → ℕ → ℕ → List ℕ → Type 0
-LrpRoute M s t xs = UniqueShortest M s t xs
 
 -- ---- labels of a search
 

@@ -1,5 +1,5 @@
 use Rattle.olr_laws.proofs.RunLemmas.{next_continues, two_runs}
-use Rattle.olr_laws.proofs.logs.laws_of_logs.Goals as goal
+use Rattle.olr_laws.proofs.laws.laws_of_logs.Goals as goal
 
 pub returns-clause-next : goal.returns-clause-next
 returns-clause-next g c = next_continues
