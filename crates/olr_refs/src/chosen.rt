@@ -4,7 +4,7 @@ ghost use Rattle.olr_spec.specs.Map.{has_node};
 ghost use Rattle.olr_spec.specs.Footprint.{Sees};
 ghost use Rattle.olr_route.specs.declared.distances.Direction.TheVariants.{Along};
 ghost use Rattle.olr_route.specs.Searches.{IsSearch, limit_of};
-ghost use Rattle.olr_refs.specs.Along.{IsLastNear, IsReach};
+ghost use Rattle.olr_refs.specs.Along.{IsReach};
 ghost use Rattle.olr_refs.specs.Choice.{ForPoints, IsChoice, Notes};
 ghost use Rattle.olr_refs.specs.Reuse.{IsReuse, IsAnswered, Queried};
 
@@ -166,8 +166,8 @@ fn reach_of<M: MapRead>(
 /// to the end; or the position after which there is no valid LRP (White Paper, intermediate points and the 15,000 m
 /// rule; which LRP is next is the profile's choice). From each LRP that two lines or more follow one search is made,
 /// no farther than is needed to find the next LRP, and none if the coverage query is known. If `seen` is `Some`, adds
-/// the nodes that the searched queries reach, for which a margin needs further searches. If an allocation fails, `seen` may have some of these nodes, and the search
-/// must be started again before its next use.
+/// the nodes that the searched queries reach, for which a margin needs further searches. If an allocation fails, `seen`
+/// may have some of these nodes, and the search must be started again before its next use.
 pub fn points<M: MapRead>(
     alloc: Global,
     resolved: &ResolvedPath<M>,
@@ -192,18 +192,14 @@ pub fn points<M: MapRead>(
     let mut last = 0;
     while last < resolved.lines.len() {
         let reach = reach_of(alloc, resolved, reuse, last, &mut queries, search, seen)?;
-        match next_of(resolved, last, reach) {
-            Some(next) => {
-                positions.push(next)?;
-                last = next;
-            }
-            None => {
-                return Ok(Chosen {
-                    choice: Choice::NoNext(last),
-                    queries,
-                });
-            }
-        }
+        let Some(next) = next_of(resolved, last, reach) else {
+            return Ok(Chosen {
+                choice: Choice::NoNext(last),
+                queries,
+            });
+        };
+        positions.push(next)?;
+        last = next;
     }
     Ok(Chosen {
         choice: Choice::Positions(positions),
