@@ -1,5 +1,5 @@
 -- Positions along the lines of a path.
---     AreDistances M ls ds      ds are the distances of all positions from the start, in decimetres
+--     DistancesTo M ls n ds      ds are the distances of positions 0 to n from the start, in decimetres
 use Rattle.std.specs.Prelude.{◌≡◌, ℕ, ◌+◌, ◌<◌, ◌≤◌, List, length, take, slice_index}
 use Rattle.olr_spec.specs.Map.{Map}
 use Rattle.olr_spec.specs.Routes.{dm_of}
@@ -7,13 +7,9 @@ use Rattle.olr_spec.specs.Extension.{limit}
 use Rattle.olr_spec.specs.Margins.{Margin}
 use Rattle.olr_spec.specs.Points.{stretch, CoveredWith}
 
--- the distances of positions 0 to n
 pub record DistancesTo (M : Map) (ls : List ℕ) (n : ℕ) (ds : List ℕ) : Type 0 where
   pub long : length ds ≡ n + 1
   pub each : (k : ℕ) → k ≤ n → slice_index ds k ≡ dm_of M (take k ls)
-
-abbrev pub AreDistances : Map → List ℕ → List ℕ → Type 0
-AreDistances M ls ds = DistancesTo M ls (length ls) ds
 
 -- the positions after i that are covered and within the limit are those up to k
 pub record IsReach (g : Margin) (M : Map) (ls : List ℕ) (i k : ℕ) : Type 0 where

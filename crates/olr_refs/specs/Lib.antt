@@ -4,7 +4,6 @@ pub mod Choice
 pub mod ResolvedLines
 pub mod ResolvedPaths
 pub mod Extends
-pub mod Fields
 pub mod KeptPoints
 pub mod Referring
 pub mod Reuse
