@@ -12,7 +12,7 @@ use crate::along::ResolvedPath;
 use crate::choice::{last_within_limit, next_of};
 use crate::reach::covered_to;
 use crate::reuse::{Found, Reuse, known_after, own_query};
-use olr_answers::{CoverageQuery, KnownQuery, Margin};
+use olr_answers::{CoverageQuery, KnownQuery};
 use olr_model::{Footprint, MapRead};
 use olr_route::{Dijkstra, Direction, GREATEST_LIMIT, Work};
 use std::alloc::{AllocError, Global};
@@ -46,27 +46,6 @@ pub struct Chosen {
     pub queries: Queries,
 }
 
-/// Settles a search as far as a coverage query is long, from where it begins. Without a margin this is the search that
-/// found the query.
-fn settle_query<M: MapRead>(
-    map: &M,
-    margin: Margin,
-    query: CoverageQuery,
-    search: &mut Dijkstra,
-) -> Result<(), AllocError>
-    requires small { query.within ≤ GREATEST_LIMIT }
-    requires found { margin.routes ≡ 0 → IsSearch (M.map map.now) (M.node_slot map.now) Along
-        ((query.from, 0) ∷ []) search.old × (limit_of search.old ≡ query.within) }
-    ensures search { OnOk result (IsSearch (M.map map.now) (M.node_slot map.now) Along ((query.from, 0) ∷ []) search.new) }
-    ensures limit { OnOk result (limit_of search.new ≡ query.within) }
-{
-    if margin.routes() == 0 {
-        return Ok(());
-    }
-    search.begin(map, Direction::Along, &[(query.from, 0)])?;
-    search.settle_to(map, query.within)
-}
-
 /// If `seen` is `Some`, adds the nodes that a coverage query reaches. Without a margin they are those that the search which
 /// found the query has settled.
 fn note_reached<M: MapRead>(
@@ -86,7 +65,10 @@ fn note_reached<M: MapRead>(
     let Some(seen) = seen else {
         return Ok(());
     };
-    settle_query(resolved.map, resolved.margin, query, search)?;
+    if resolved.margin.routes() > 0 {
+        search.begin(resolved.map, Direction::Along, &[(query.from, 0)])?;
+        search.settle_to(resolved.map, query.within)?;
+    }
     let nodes = search.nodes(alloc, resolved.map)?;
     seen.note_all(&nodes)
 }
