@@ -2,7 +2,6 @@ pub mod Along
 pub mod Runs
 pub mod Choice
 pub mod ResolvedLines
-pub mod ResolvedPaths
 pub mod Extends
 pub mod KeptPoints
 pub mod Referring

@@ -5,11 +5,10 @@ ghost use Rattle.olr_spec.specs.Map.{Map, has_node, end, is_good, line_at, coord
 ghost use Rattle.olr_spec.specs.Routes.{dm_of};
 ghost use Rattle.olr_spec.specs.Points.{node_at, stretch};
 ghost use Rattle.olr_spec.specs.Reference.{legs, dm_between, position};
-ghost use Rattle.olr_refs.specs.Along.{DistancesTo};
+ghost use Rattle.olr_refs.specs.Along.{AreJoined-prop, DistancesTo};
 ghost use Rattle.olr_spec.specs.Extension.{AreJoined, passing};
 ghost use Rattle.olr_route.specs.ResolvedLines.{IsResolved, record_of};
 ghost use Rattle.olr_refs.specs.ResolvedLines.{records_of};
-ghost use Rattle.olr_refs.specs.ResolvedPaths.{AreJoined-prop};
 
 use crate::nodes::passing_at;
 use olr_answers::Margin;
