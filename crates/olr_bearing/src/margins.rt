@@ -1,7 +1,7 @@
 //! Sectors with a margin of a quarter of a sector on both sides.
 ghost use Rattle.std.specs.Prelude.{◌≡◌, ◌<◌, slice_index_or};
 ghost use Rattle.olr_spec.specs.Bearings.{beyond, vector};
-ghost use Rattle.olr_spec.specs.Directions.{first_after, first_before, is_beyond, is_direction, margin_end, margin_start};
+ghost use Rattle.olr_spec.specs.Directions.{first_after, first_before, is_beyond, is_direction};
 ghost use Rattle.olr_bearing.specs.Ranges.{HasBoundaryParts, HasParts};
 ghost use Rattle.olr_bearing.specs.Turned.{nowhere, turned};
 
@@ -21,8 +21,9 @@ pub fn is_beyond(sector: u8, direction: Direction) -> bool
     requires in_range { HasParts direction }
     ensures { result ≡ is_beyond sector direction }
 {
-    let start = beyond(margin_start(sector), direction);
-    let end = beyond(margin_end(sector), direction);
+    let next = (sector + 1) % 32;
+    let start = beyond(turned(first_start(sector % 8), sector / 8), direction);
+    let end = beyond(turned(first_end(next % 8), next / 8), direction);
     is_direction(direction) && !(start >= 0 && end < 0)
 }
 
@@ -95,25 +96,4 @@ fn turned(direction: Direction, quarters: u8) -> Direction
         },
         _ => at(-north, east),
     }
-}
-
-/// A quarter of a sector before the sector.
-#[tactic(auto, using(crate::proofs::Quarters::start_is))]
-fn margin_start(sector: u8) -> Direction
-    requires { sector < 32 }
-    ensures value { result ≡ margin_start sector }
-    ensures in_range { HasBoundaryParts result }
-{
-    turned(first_start(sector % 8), sector / 8)
-}
-
-/// A quarter of a sector after it.
-#[tactic(auto, using(crate::proofs::Quarters::end_is))]
-fn margin_end(sector: u8) -> Direction
-    requires { sector < 32 }
-    ensures value { result ≡ margin_end sector }
-    ensures in_range { HasBoundaryParts result }
-{
-    let next = (sector + 1) % 32;
-    turned(first_end(next % 8), next / 8)
 }

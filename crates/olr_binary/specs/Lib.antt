@@ -1,4 +1,3 @@
 pub mod Faults
 pub mod Layout
-pub mod Parts
 pub mod Text

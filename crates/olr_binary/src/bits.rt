@@ -2,7 +2,7 @@
 ghost use Rattle.std.specs.Prelude.{◌≡◌, ◌<◌, IsTrue};
 ghost use Rattle.std.specs.Int.{from_bool};
 ghost use Rattle.olr_spec.specs.Coordinates.{fits16};
-ghost use Rattle.olr_spec.specs.Bytes.{bit, fits24, signed24, signed16, attribute1, attribute2, attribute4};
+ghost use Rattle.olr_spec.specs.Bytes.{bit, fits24, signed24, signed16, attribute1, attribute4};
 
 /// The bit of attribute byte 4 that flags a positive offset.
 pub(crate) const POSITIVE: u8 = 6;
@@ -25,15 +25,6 @@ pub(crate) fn attribute1(frc: u8, fow: u8) -> u8
     ensures { result ≡ attribute1 frc fow }
 {
     (frc << 3) | fow
-}
-
-/// Attribute byte 2: the lowest FRC to the next point (LFRCNP) in bits 7 to 5, the bearing in bits 4 to 0.
-pub(crate) fn attribute2(lfrc: u8, bearing: u8) -> u8
-    requires lfrc { lfrc < 8 }
-    requires bearing { bearing < 32 }
-    ensures { result ≡ attribute2 lfrc bearing }
-{
-    (lfrc << 5) | bearing
 }
 
 /// Attribute byte 4: the flags of the two offsets in bits 6 and 5, the bearing in bits 4 to 0.
@@ -76,15 +67,6 @@ pub(crate) fn read_attribute1(byte: u8) -> (u8, u8)
     ensures fow { result.1 < 8 }
 {
     (byte >> 3, byte & 0b111)
-}
-
-/// The LFRCNP and the bearing of attribute byte 2.
-pub(crate) fn read_attribute2(byte: u8) -> (u8, u8)
-    ensures encoded { attribute2 result.0 result.1 ≡ byte }
-    ensures lfrc { result.0 < 8 }
-    ensures bearing { result.1 < 32 }
-{
-    (byte >> 5, byte & 0b1_1111)
 }
 
 /// Whether attribute byte 4 has this flag of an offset.

@@ -1,7 +1,6 @@
 //! The fields of a line location reference.
 ghost use Rattle.olr_spec.specs.Bytes.{IsReference};
 ghost use Rattle.olr_spec.specs.Reference as fields;
-ghost use Rattle.olr_binary.specs.Parts.{reference_from};
 
 use std::marker::Model;
 
@@ -108,7 +107,13 @@ pub struct Reference {
 impl Model for Reference {
     ghost Value = { fields.Reference };
 
-    ghost view = { λ r. reference_from r.first r.middle.items r.last r.pos r.neg };
+    ghost view = { λ r. record { first = r.first; middle = r.middle.items; last = r.last; pos = r.pos; neg = r.neg } };
 
-    ghost invariant = { λ r. IsReference (reference_from r.first r.middle.items r.last r.pos r.neg) };
+    ghost invariant = { λ r. IsReference (record {
+      first = r.first;
+      middle = r.middle.items;
+      last = r.last;
+      pos = r.pos;
+      neg = r.neg;
+    }) };
 }

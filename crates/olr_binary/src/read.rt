@@ -1,16 +1,14 @@
 //! Decoding version 3.
 ghost use Rattle.std.specs.Prelude.{◌≡◌, ◌+◌, ◌*◌, ◌<◌, ◌≤◌, [], ◌∷◌, ◌++◌, length, slice_index, slice_range, IsSome};
-ghost use Rattle.std.specs.Prelude.{IfSome, IfNone, IfOk, IfErr, OnOk};
+ghost use Rattle.std.specs.Prelude.{IfOk, IfErr, OnOk};
 ghost use Rattle.std.specs.List.{AllByRecursion, flat_map};
 ghost use Rattle.olr_spec.specs.Reference.{Reference as Fields};
-ghost use Rattle.olr_spec.specs.Bytes.{AreAttrs, IsFirst, IsMiddle, IsLast, HasBytes, Length as Wrong_length, attr_bytes, bit};
+ghost use Rattle.olr_spec.specs.Bytes.{AreAttrs, IsFirst, IsMiddle, IsLast, HasBytes, attr_bytes, bit};
 ghost use Rattle.olr_spec.specs.Bytes.{first_bytes, flag, has_reserved, last_bytes, middle_bytes, offset_bytes, v3_fault};
 ghost use Rattle.olr_binary.specs.Faults.{bytes_fault_of};
 ghost use Rattle.olr_binary.specs.Layout.{IsLayout};
 
-use crate::bits::{
-    NEGATIVE, POSITIVE, has_flag, read_attribute1, read_attribute2, read_signed16, read_signed24,
-};
+use crate::bits::{NEGATIVE, POSITIVE, has_flag, read_attribute1, read_signed16, read_signed24};
 use crate::faults::V3Fault;
 use crate::fields::{Attrs, First, Last, Middle, Reference};
 use crate::write::{POINT, STATUS};
@@ -38,12 +36,11 @@ fn read_attrs(one: u8, two: u8, dnp: u8) -> Attrs
     ensures fits { AreAttrs result }
 {
     let (frc, fow) = read_attribute1(one);
-    let (lfrc, bearing) = read_attribute2(two);
     Attrs {
         frc,
         fow,
-        lfrc,
-        bearing,
+        lfrc: two >> 5,
+        bearing: two & 0b1_1111,
         dnp,
     }
 }
@@ -127,19 +124,6 @@ struct Layout {
     offsets: usize,
 }
 
-/// The layout of bytes. None if no reference has so many.
-fn layout_of(bytes: &[u8]) -> Option<Layout>
-    ensures some { IfSome result (λ l. IsLayout bytes.now l.middle l.offsets) }
-    ensures none { IfNone result (v3_fault bytes.now ≡ Some Wrong_length) }
-{
-    let beyond = bytes.len().checked_sub(LEAST)?;
-    let layout = Layout {
-        middle: beyond / POINT,
-        offsets: beyond % POINT,
-    };
-    (layout.offsets <= 2).then_some(layout)
-}
-
 /// Whether a reserved bit is set.
 #[tactic(auto, using(crate::proofs::LayoutLemmas::some_reserved_more, crate::proofs::LayoutLemmas::some_reserved_none, crate::proofs::LayoutLemmas::has_reserved_is))]
 fn has_reserved(bytes: &[u8], layout: Layout) -> bool
@@ -162,7 +146,14 @@ fn check(bytes: &[u8]) -> Result<Layout, V3Fault>
     ensures fault { IfErr result (λ fault. v3_fault bytes.now ≡ bytes_fault_of fault) }
     ensures no_memory { IfErr result (λ fault. IsSome (bytes_fault_of fault)) }
 {
-    let layout = layout_of(bytes).ok_or(V3Fault::Length)?;
+    let beyond = bytes.len().checked_sub(LEAST).ok_or(V3Fault::Length)?;
+    let layout = Layout {
+        middle: beyond / POINT,
+        offsets: beyond % POINT,
+    };
+    if layout.offsets > 2 {
+        return Err(V3Fault::Length);
+    }
     if bytes[0] != STATUS {
         return Err(V3Fault::Status);
     }

@@ -4,7 +4,7 @@ ghost use Rattle.std.specs.List.{AllByRecursion, flat_map};
 ghost use Rattle.olr_spec.specs.Bytes.{IsFirst, IsMiddle, IsLast, AreAttrs, HasBytes, attr_bytes, first_bytes};
 ghost use Rattle.olr_spec.specs.Bytes.{middle_bytes, last_bytes, offset_bytes, status_byte};
 
-use crate::bits::{attribute1, attribute2, attribute4, signed24};
+use crate::bits::{attribute1, attribute4, signed24};
 use crate::fields::{Attrs, First, Last, Middle, Reference};
 use std::alloc::{AllocError, Global};
 
@@ -15,14 +15,15 @@ const TWO_POINTS: usize = 18;
 /// The number of bytes of an LRP between the first and the last.
 pub(crate) const POINT: usize = 7;
 
-/// Attribute bytes 1 and 2, and the distance to the next point (DNP).
+/// Attribute byte 1; attribute byte 2, with the lowest FRC to the next point (LFRCNP) in bits 7 to 5 and the bearing in
+/// bits 4 to 0; and the distance to the next point (DNP).
 fn attr_bytes(attrs: Attrs) -> [u8; 3]
     requires { AreAttrs attrs }
     ensures { result ≡ attr_bytes attrs }
 {
     [
         attribute1(attrs.frc, attrs.fow),
-        attribute2(attrs.lfrc, attrs.bearing),
+        (attrs.lfrc << 5) | attrs.bearing,
         attrs.dnp,
     ]
 }
@@ -85,21 +86,6 @@ fn push_middle(bytes: &mut Vec<u8>, points: &[Middle]) -> Result<(), AllocError>
     Ok(())
 }
 
-/// Appends the last LRP and the offset bytes.
-fn push_last(
-    bytes: &mut Vec<u8>,
-    last: Last,
-    pos: Option<u8>,
-    neg: Option<u8>,
-) -> Result<(), AllocError>
-    requires { IsLast last }
-    ensures { OnOk result (bytes.new.items ≡ bytes.old.items ++ last_bytes last pos neg) }
-{
-    bytes.extend_from_slice(&last_bytes(last, pos, neg))?;
-    push_offset(bytes, pos)?;
-    push_offset(bytes, neg)
-}
-
 /// The bytes that a reference encodes as in version 3, for any number of LRPs. Each reference has exactly one encoding.
 /// Fails if an allocation fails.
 pub fn write_v3(alloc: Global, reference: &Reference) -> Result<Vec<u8>, AllocError>
@@ -109,6 +95,8 @@ pub fn write_v3(alloc: Global, reference: &Reference) -> Result<Vec<u8>, AllocEr
     let mut bytes = Vec::with_capacity(alloc, TWO_POINTS + POINT * points.len())?;
     bytes.extend_from_slice(&start_bytes(reference.first))?;
     push_middle(&mut bytes, points)?;
-    push_last(&mut bytes, reference.last, reference.pos, reference.neg)?;
+    bytes.extend_from_slice(&last_bytes(reference.last, reference.pos, reference.neg))?;
+    push_offset(&mut bytes, reference.pos)?;
+    push_offset(&mut bytes, reference.neg)?;
     Ok(bytes)
 }

@@ -1,11 +1,10 @@
 -- The names that most proofs of olr_refs cite, passed on from one place. Declares nothing.
 pub use Rattle.olr_answers.specs.Answers.{answer_of, refusal_of}
-pub use Rattle.olr_refs.specs.Along.{AreDistances, DistancesTo, IsLastNear, IsReach}
+pub use Rattle.olr_refs.specs.Along.{DistancesTo, IsLastNear, IsReach}
 pub use Rattle.olr_refs.specs.Choice.{AreSearched, CostsAtMost, ForPoints, Notes, SeenBy, searches_of, begun_at, MayMark}
 pub use Rattle.olr_refs.specs.Extends.{Extends}
-pub use Rattle.olr_refs.specs.Fields.{lowest_class, middle_points_of}
-pub use Rattle.olr_refs.specs.KeptPoints.{AreAlong, AreKept, AreLinked, ArePoints, AreTrimmed, IsFirstKept, IsLastKept}
-pub use Rattle.olr_refs.specs.KeptPoints.{distance_at, later, whole_distance}
+pub use Rattle.olr_refs.specs.KeptPoints.{AreAlong, AreKept, ArePoints, AreTrimmed, IsFirstKept, IsLastKept}
+pub use Rattle.olr_refs.specs.KeptPoints.{distance_at, later, middle_points_of, whole_distance}
 pub use Rattle.olr_refs.specs.ResolvedLines.{AreRecords, ids, records_of}
 pub use Rattle.olr_refs.specs.Reuse.{Queried, IsAnswered, IsReuse, own_of}
 pub use Rattle.olr_refs.specs.Runs.{IsLongest, IsRun, LeadsOn, LiesBeyond, in_order, outermost, joined}

@@ -1,7 +1,7 @@
 -- The legs of joined lines, by the lines and their distances.
 use Rattle.olr_refs.proofs.Common.{arith, ◌≡◌, ◌<◌, ◌-◌, ℕ, List, length, take, drop, map, max, ap, ◌∙◌, get_or-map, take-map}
 use Rattle.olr_refs.proofs.Common.{slice_index, slice_range, IsTrue, Map, IsMap, has_line, has_node, coord_at, node_at, stretch}
-use Rattle.olr_refs.proofs.Common.{Attrs, attrs_with, leg, legs, leg_at, position, dm_between, Each, AreJoined, lowest_class}
+use Rattle.olr_refs.proofs.Common.{Attrs, attrs_with, leg, legs, leg_at, position, dm_between, Each, AreJoined}
 use Rattle.olr_refs.proofs.Common.{ResolvedLine, records_of, ◌/◌, drop-map, fold, Line, is_good, line_at, bearing_out, no_leg}
 use Rattle.olr_refs.proofs.Common.{position_is, route_known, Margin, allowed, map-map}
 use Rattle.olr_bearing.specs.declared.places.Ends.{Ends}
@@ -35,13 +35,13 @@ record_sound M m x l h e = grind (arith, is_good, has_node)
 -- ---- attributes
 
 class_read : (M : Map) (slot : ℕ → ℕ) (ls : List ℕ) (rs : List ResolvedLine) (i j : ℕ) → rs ≡ records_of M slot ls →
-    lowest_class (stretch rs i j) ≡ fold max 0 (map (λ g. g.line.frc) (slice_range (legs M ls) i j))
+    fold max 0 (map (λ r. r.frc) (stretch rs i j)) ≡ fold max 0 (map (λ g. g.line.frc) (slice_range (legs M ls) i j))
 class_read M slot ls rs i j e = grind (arith, range_map, map-map)
 
 pub attrs_read : (g : Margin) (M : Map) (slot : ℕ → ℕ) (ls : List ℕ) (rs : List ResolvedLine) (i j frc fow lfrc bearing d : ℕ) (l : Line)
     (e : Ends) → rs ≡ records_of M slot ls →
     ends.leg_between l e ≡ leg_at (legs M ls) i → frc ≡ l.frc → fow ≡ l.fow
-    → lfrc ≡ allowed g (lowest_class (stretch rs i j)) → bearing ≡ bearing_out (ends.leg_between l e) →
+    → lfrc ≡ allowed g (fold max 0 (map (λ r. r.frc) (stretch rs i j))) → bearing ≡ bearing_out (ends.leg_between l e) →
     d ≡ dm_between (legs M ls) i j
     → ◌≡◌ {A = Attrs} (record { frc = frc; fow = fow; lfrc = lfrc; bearing = bearing; dnp = d / 586 })
     (attrs_with g (legs M ls) i j)

@@ -1,5 +1,5 @@
 -- What the searches for coverage queries note and cost, and the footprint.
-use Rattle.olr_refs.proofs.Common.{append_assoc, ◌≡◌, ◌≤◌, ◌+◌, ◌*◌, ℕ, List, [], ◌∷◌, ◌++◌, length, Contains, arith, inl, inr}
+use Rattle.olr_refs.proofs.Common.{append_assoc, is_some, true, refl, ◌≡◌, ◌≤◌, ◌+◌, ◌*◌, ℕ, List, [], ◌∷◌, ◌++◌, length, Contains, arith, inl, inr}
 use Rattle.olr_refs.proofs.Common.{length-append, None, Some, Option, subst, ◌⊎◌, IsTrue, ◌↔◌, AllZip, eqb-true}
 use Rattle.olr_refs.proofs.Common.{Contains-append_left, Map, has_node, IsMap, dm_of, Path, is_path, NextWith, last_position}
 use Rattle.olr_refs.proofs.Common.{Sees, FootWith, CoverageQuery, QueriesOfWith, Contains-here, Contains-cases, Work, Along}
@@ -43,6 +43,11 @@ pub notes_more : (P Q R : ℕ → Type 0) (a b c : Option (List ℕ)) → ((v : 
 notes_more P Q R None None None e n m = tt
 notes_more P Q R (Some f) (Some g) (Some h) e n m = λ v. let p = e v in let q = n v in let r = m v in grind arith
 notes_more P Q R _ _ _ e n m = absurd (grind arith)
+
+-- where nodes are recorded, they still are
+pub some_noted : (P : ℕ → Type 0) (f : List ℕ) (b : Option (List ℕ)) → Notes P (Some f) b → is_some b ≡ true
+some_noted P f None n = absurd n
+some_noted P f (Some g) n = refl
 
 -- the nodes of a search are noted
 pub nodes_noted : (P : ℕ → Type 0) (a : Option (List ℕ)) (f g nodes : List ℕ) → a ≡ Some f

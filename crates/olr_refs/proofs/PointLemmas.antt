@@ -4,12 +4,35 @@ use Rattle.olr_refs.proofs.Common.{arith, slice_index, Coord, abs24, relative, M
 use Rattle.olr_refs.proofs.Common.{dm_between, reference_by_with, legs, leg_at, position, middle_points_of, Leg, bearing_back}
 use Rattle.olr_refs.proofs.Common.{First, Last, offset, last_two, first_point_with, middle_point_with, middle_points_with}
 use Rattle.olr_refs.proofs.Common.{last_point, ◌∙◌, ap, to_z-of_z, Width, w64, Margin}
+use Rattle.olr_refs.proofs.Common.{Bool, true, None, Some, is_some, if◌then◌else◌, sym}
+use Rattle.olr_spec.specs.Coordinates.{fits16, rel16}
 use mir.Val.{SFits, of_z, to_z}
 
 -- what a call computes from a number that is passed, as it is stored
 pub stored : (w : Width) (f : ℤ → ℤ) (z x r : ℤ) → SFits w64 z → z ≡ x → SFits w r → r ≡ f (to_z w64 (of_z w64 z)) →
     to_z w (of_z w r) ≡ f x
 stored w f z x r h e g d = to_z-of_z w r g ∙ d ∙ ap f (to_z-of_z w64 z h ∙ e)
+
+-- a relative coordinate, by the numbers that are passed: whether it fits, and what it is
+passed : (x y a b : ℤ) → SFits w64 x → SFits w64 y → x ≡ a → y ≡ b →
+    rel16 (to_z w64 (of_z w64 x)) (to_z w64 (of_z w64 y)) ≡ rel16 a b
+passed x y a b p q e f = λ i. rel16 ((to_z-of_z w64 x p ∙ e) i) ((to_z-of_z w64 y q ∙ f) i)
+
+some_if : (b : Bool) (x : ℤ) → is_some (if b then Some x else None) ≡ b
+some_if v1 x = grind arith
+
+given_if : (b : Bool) (x r : ℤ) → b ≡ true → (if b then Some x else None) ≡ Some r → r ≡ x
+given_if b x r t e = grind arith
+
+pub close_read : (x y a b : ℤ) (o : Option ℤ) → SFits w64 x → SFits w64 y → x ≡ a → y ≡ b →
+    o ≡ rel16 (to_z w64 (of_z w64 x)) (to_z w64 (of_z w64 y)) → is_some o ≡ fits16 (relative a b)
+close_read x y a b o p q e f is =
+    ap (λ (n : Option ℤ). is_some n) (is ∙ passed x y a b p q e f) ∙ some_if (fits16 (relative a b)) (relative a b)
+
+pub relative_read : (x y a b r : ℤ) (o : Option ℤ) → SFits w64 x → SFits w64 y → x ≡ a → y ≡ b → fits16 (relative a b) ≡ true →
+    o ≡ rel16 (to_z w64 (of_z w64 x)) (to_z w64 (of_z w64 y)) → o ≡ Some r → r ≡ relative a b
+relative_read x y a b r o p q e f fits is some =
+    given_if (fits16 (relative a b)) (relative a b) r fits (sym (is ∙ passed x y a b p q e f) ∙ some)
 
 pub first_read : (g : Margin) (gs : List Leg) (i j : ℕ) (lon lat : ℤ) (a : Attrs) → lon ≡ abs24 (position gs i).lon →
     lat ≡ abs24 (position gs i).lat → a ≡ attrs_with g gs i j

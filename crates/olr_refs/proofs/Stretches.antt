@@ -1,10 +1,10 @@
 -- Legs of joined lines: they are routes, and one leg begins where another ends.
 use Rattle.olr_refs.proofs.Common.{◌≡◌, ◌<◌, ◌≤◌, ◌-◌, ◌+◌, ℕ, List, ◌++◌, length, take, sym, ap, ◌∙◌, arith, slice_index, Map}
-use Rattle.olr_refs.proofs.Common.{dm_of, stretch, dm_of-append, stretch_parts, AreDistances, take-add}
+use Rattle.olr_refs.proofs.Common.{dm_of, stretch, dm_of-append, stretch_parts, DistancesTo, take-add}
 
 -- ---- lengths
 
-pub dm_stretch : (M : Map) (ls ds : List ℕ) (i j : ℕ) → AreDistances M ls ds → i ≤ j → j ≤ length ls →
+pub dm_stretch : (M : Map) (ls ds : List ℕ) (i j : ℕ) → DistancesTo M ls (length ls) ds → i ≤ j → j ≤ length ls →
     slice_index ds j ≡ slice_index ds i + dm_of M (stretch ls i j)
 dm_stretch M ls ds i j d h g =
     let front : take j ls ≡ take i ls ++ stretch ls i j =
@@ -18,6 +18,6 @@ pub stretch_sum : (M : Map) (ls : List ℕ) (i j k : ℕ) → i ≤ j → j ≤ 
 stretch_sum M ls i j k h g =
     ap (dm_of M) (stretch_parts ls i j k h g) ∙ dm_of-append M (stretch ls i j) (stretch ls j k)
 
-pub distances_rise : (M : Map) (ls ds : List ℕ) → AreDistances M ls ds → (j k : ℕ) → j ≤ k → k < length ds →
+pub distances_rise : (M : Map) (ls ds : List ℕ) → DistancesTo M ls (length ls) ds → (j k : ℕ) → j ≤ k → k < length ds →
     slice_index ds j ≤ slice_index ds k
 distances_rise M ls ds d j k h g = let l = d.long in let e = dm_stretch M ls ds j k d h (omega arith) in omega arith

@@ -1,8 +1,8 @@
 -- Which LRPs remain, by the distances of all positions.
-use Rattle.olr_refs.proofs.Common.{common_steps, zero, slice_index, last_position, AreDistances, whole_distance, from_front-add}
+use Rattle.olr_refs.proofs.Common.{common_steps, zero, slice_index, last_position, DistancesTo, whole_distance, from_front-add}
 use Rattle.olr_refs.proofs.Common.{inl, inr, ◌≡◌, ◌<◌, ◌≤◌, ◌-◌, ◌+◌, suc, [], ◌∷◌, sym, ap, ◌∙◌, Map, leg, ℕ, slice_range}
 use Rattle.olr_refs.proofs.Common.{distance_at, length-take, length-drop, get_or-take, get_or-drop, first_where, Bool, cases_lt}
-use Rattle.olr_refs.proofs.Common.{cases_eq, nat_tests, last_kept, ArePoints, AreLinked, AreTrimmed, IsLastKept, true, false}
+use Rattle.olr_refs.proofs.Common.{cases_eq, nat_tests, last_kept, ArePoints, AreTrimmed, IsLastKept, true, false}
 use Rattle.olr_refs.proofs.Common.{cond, List, take, drop, refl, subst, arith, dm_of, legs, later, filter, Margin, length}
 use Rattle.olr_refs.proofs.Common.{dm_between, from_front, last_where, first_kept, kept_points, LinkedWith, IsFirstKept, le-leb}
 use Rattle.olr_refs.proofs.Common.{take-map, take_all, nat_le, lt-leb, dm_along, to_back, between, AreAlong, AreKept}
@@ -12,6 +12,10 @@ use Rattle.olr_spec.proofs.KeptLemmas.{dm_along-legs, whole}
 use Rattle.olr_refs.proofs.Stretches.{distances_rise}
 
 -- ---- the LRPs
+
+-- each of them but the first may follow the one before it
+abbrev AreLinked : Margin → Map → List ℕ → List ℕ → Type 0
+AreLinked g M ls ps = (k : ℕ) → k + 1 < length ps → CandidateWith g M ls (slice_index ps k) (slice_index ps (k + 1))
 
 linked_at : (g : Margin) (M : Map) (ls ps : List ℕ) → LinkedWith g M ls ps → AreLinked g M ls ps
 linked_at g M ls (p ∷ q ∷ ps) l zero h = l.0
@@ -92,7 +96,7 @@ pub record IsCut (g : Margin) (M : Map) (ls ds ps : List ℕ) (positive negative
   pub kept : ks ≡ kept_points (legs M ls) positive negative (later ps)
   pub value : reference_by_with g (legs M ls) pos_left neg_left ks ≡ reference_with g (legs M ls) positive negative (later ps)
 
-module _ (g : Margin) (M : Map) (ls ds ps : List ℕ) (d : AreDistances M ls ds) (p : ArePoints g M ls ps) where
+module _ (g : Margin) (M : Map) (ls ds ps : List ℕ) (d : DistancesTo M ls (length ls) ds) (p : ArePoints g M ls ps) where
   linked : AreLinked g M ls ps
   linked =
       subst (AreLinked g M ls) (sym p.from_start) (linked_at g M ls (0 ∷ later ps) (follow_linked_with g M ls 0 (later ps) p.follow))

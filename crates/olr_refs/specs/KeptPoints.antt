@@ -1,8 +1,8 @@
 -- The location reference points (LRPs) of an extended path, by position.
 --     later ps      the LRPs after the first
 --     ArePoints g M ls ps      ps are position 0 and the LRPs after it, which lead to the end
---     AreLinked g M ls ps      each of ps but the first may follow the one before it
---     AreKept g M ls ps      and they are at least two
+--     AreKept g M ls ps      ps are at least two, and each but the first may follow the one before it
+--     middle_points_of g gs ps      the LRPs of ps between the first and the last, with their fields
 --     AreAlong ds ps      their distances ascend from 0 to that of the end; ds are the distances of all positions
 --     IsFirstKept ds ps positive k      LRP k is the last that is at most the positive offset from the start
 --     IsLastKept ds ps negative k      LRP k is the first that is at most the negative offset from the end
@@ -11,6 +11,8 @@
 use Rattle.std.specs.Prelude.{◌≡◌, ℕ, ◌+◌, ◌-◌, ◌<◌, ◌≤◌, List, [], ◌∷◌, length, slice_index, slice_range}
 use Rattle.olr_spec.specs.Map.{Map}
 use Rattle.olr_spec.specs.Margins.{Margin}
+use Rattle.olr_spec.specs.Bearings.{Leg}
+use Rattle.olr_spec.specs.Reference.{Middle, middle_points_with}
 use Rattle.olr_spec.specs.Points.{CandidateWith, FollowWith, last_position}
 
 abbrev pub later : List ℕ → List ℕ
@@ -22,12 +24,14 @@ pub record ArePoints (g : Margin) (M : Map) (ls ps : List ℕ) : Type 0 where
   pub follow : FollowWith g M ls 0 (later ps)
   pub to_end : last_position 0 (later ps) ≡ length ls
 
-abbrev pub AreLinked : Margin → Map → List ℕ → List ℕ → Type 0
-AreLinked g M ls ps = (k : ℕ) → k + 1 < length ps → CandidateWith g M ls (slice_index ps k) (slice_index ps (k + 1))
-
 pub record AreKept (g : Margin) (M : Map) (ls ps : List ℕ) : Type 0 where
-  pub linked : AreLinked g M ls ps
+  pub linked : (k : ℕ) → k + 1 < length ps → CandidateWith g M ls (slice_index ps k) (slice_index ps (k + 1))
   pub two : 2 ≤ length ps
+
+abbrev pub middle_points_of : Margin → List Leg → List ℕ → List Middle
+middle_points_of g gs [] = []
+middle_points_of g gs (h ∷ []) = []
+middle_points_of g gs (h ∷ i ∷ ps) = middle_points_with g gs h i ps
 
 -- the distance of LRP k, by the distances of all positions
 abbrev pub distance_at : List ℕ → List ℕ → ℕ → ℕ

@@ -2,9 +2,7 @@ pub mod Along
 pub mod Runs
 pub mod Choice
 pub mod ResolvedLines
-pub mod ResolvedPaths
 pub mod Extends
-pub mod Fields
 pub mod KeptPoints
 pub mod Referring
 pub mod Reuse

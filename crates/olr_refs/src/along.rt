@@ -1,15 +1,14 @@
 //! Positions along the lines of a path: position `k` below the number of lines is the start of line `k`, and the last
 //! position is the end of the last line.
 ghost use Rattle.std.specs.Prelude.{◌≡◌, ◌<◌, ◌≤◌, ℕ, List, IsTrue, IfOk, length, slice_index};
-ghost use Rattle.olr_spec.specs.Map.{Map, has_line, has_node, end, is_good, line_at, coord_at};
+ghost use Rattle.olr_spec.specs.Map.{Map, has_node, end, is_good, line_at, coord_at};
 ghost use Rattle.olr_spec.specs.Routes.{dm_of};
 ghost use Rattle.olr_spec.specs.Points.{node_at, stretch};
 ghost use Rattle.olr_spec.specs.Reference.{legs, dm_between, position};
-ghost use Rattle.olr_refs.specs.Along.{AreDistances};
+ghost use Rattle.olr_refs.specs.Along.{AreJoined-prop, DistancesTo};
 ghost use Rattle.olr_spec.specs.Extension.{AreJoined, passing};
 ghost use Rattle.olr_route.specs.ResolvedLines.{IsResolved, record_of};
 ghost use Rattle.olr_refs.specs.ResolvedLines.{records_of};
-ghost use Rattle.olr_refs.specs.ResolvedPaths.{AreJoined-prop, AreRecords-prop, AreDistances-prop};
 
 use crate::nodes::passing_at;
 use olr_answers::Margin;
@@ -33,8 +32,8 @@ pub struct ResolvedPath<'a, M: MapRead> {
     /// The distance of each position from the start, in decimetres.
     pub distances: &'a [u128],
     ghost joined: { AreJoined (M.map map.now) lines.now } by { AreJoined-prop (M.map map.now) lines.now },
-    ghost resolved: { records.now ≡ records_of (M.map map.now) (M.node_slot map.now) lines.now } by { AreRecords-prop (M.map map.now) (M.node_slot map.now) lines.now records.now },
-    ghost measured: { AreDistances (M.map map.now) lines.now distances.now } by { AreDistances-prop (M.map map.now) lines.now distances.now },
+    ghost resolved: { records.now ≡ records_of (M.map map.now) (M.node_slot map.now) lines.now },
+    ghost measured: { DistancesTo (M.map map.now) lines.now (length lines.now) distances.now },
 }
 
 impl<M: MapRead> ResolvedPath<'_, M> {
@@ -47,7 +46,7 @@ impl<M: MapRead> ResolvedPath<'_, M> {
         ensures from { IsTrue (has_node (M.map self.now.map.now) result.now.from) }
         ensures to { IsTrue (has_node (M.map self.now.map.now) result.now.to) }
     {
-        line_of(self.map, self.lines[k])
+        self.map.line(self.lines[k]).unwrap()
     }
 
     /// What the path has of line `k`.
@@ -77,7 +76,8 @@ impl<M: MapRead> ResolvedPath<'_, M> {
             let line = self.resolved_line(k);
             (line.from, line.from_slot)
         } else {
-            self.end_and_slot(self.lines.len() - 1)
+            let line = self.resolved_line(self.lines.len() - 1);
+            (line.to, line.to_slot)
         }
     }
 
@@ -91,25 +91,13 @@ impl<M: MapRead> ResolvedPath<'_, M> {
         self.node_and_slot(k).0
     }
 
-    /// The node where line `k` ends, and its slot.
-    fn end_and_slot(&self, k: usize) -> (NodeId, u32)
-        requires { k < length self.now.lines.now }
-        ensures node { result.0 ≡ end (M.map self.now.map.now) (slice_index self.now.lines.now k) }
-        ensures slot { result.1
-            ≡ M.node_slot self.now.map.now (end (M.map self.now.map.now) (slice_index self.now.lines.now k)) }
-        ensures known { IsTrue (has_node (M.map self.now.map.now) result.0) }
-    {
-        let line = self.resolved_line(k);
-        (line.to, line.to_slot)
-    }
-
     /// The node where line `k` ends.
     pub(crate) fn end(&self, k: usize) -> NodeId
         requires { k < length self.now.lines.now }
         ensures value { result ≡ end (M.map self.now.map.now) (slice_index self.now.lines.now k) }
         ensures known { IsTrue (has_node (M.map self.now.map.now) result) }
     {
-        self.end_and_slot(k).0
+        self.resolved_line(k).to
     }
 
     /// Whether the node at position `k` is a degree-two node.
@@ -144,14 +132,6 @@ impl<M: MapRead> ResolvedPath<'_, M> {
     }
 }
 
-/// The record of a line of the map.
-pub fn line_of<M: MapRead>(map: &M, line: LineId) -> &Line
-    requires { IsTrue (has_line (M.map map.now) line) }
-    ensures { result.now ≡ line_at (M.map map.now) line }
-{
-    map.line(line).unwrap()
-}
-
 /// The coordinate of a node of the map.
 pub fn coord_of<M: MapRead>(map: &M, node: NodeId) -> Coord
     requires { IsTrue (has_node (M.map map.now) node) }
@@ -163,7 +143,7 @@ pub fn coord_of<M: MapRead>(map: &M, node: NodeId) -> Coord
 /// The distance of each position from the start, in decimetres. 128 bits suffice for any list of lines.
 pub fn distances(alloc: Global, records: &[ResolvedLine]) -> Result<Vec<u128>, AllocError>
     ensures { IfOk result (λ distances. (M : Map) (slot : ℕ → ℕ) (ls : List ℕ) → records.now ≡ records_of M slot ls
-        → AreDistances M ls distances.items) }
+        → DistancesTo M ls (length ls) distances.items) }
 {
     let mut distances = Vec::with_capacity(alloc, records.len() + 1)?;
     let mut along: u128 = 0;

@@ -1,8 +1,5 @@
 //! The choice of the next location reference point (LRP) after a position.
-ghost use Rattle.std.specs.Prelude.{◌≡◌, ◌<◌, IsTrue, MatchOption, length};
-ghost use Rattle.olr_spec.specs.Map.{coord_at};
-ghost use Rattle.olr_spec.specs.Coordinates.{fits16, relative};
-ghost use Rattle.olr_coords.specs.Bounds.{is_degrees};
+ghost use Rattle.std.specs.Prelude.{◌≡◌, ◌<◌, MatchOption, length};
 ghost use Rattle.olr_spec.specs.Points.{fit16, NextWith, NoNextWith};
 ghost use Rattle.olr_refs.specs.Along.{IsLastNear, IsReach};
 
@@ -24,20 +21,11 @@ pub fn last_within_limit<M: MapRead>(resolved: &ResolvedPath<M>, i: usize) -> us
     resolved.lines.len()
 }
 
-/// Whether the difference between two longitudes, or two latitudes, fits 16 bits.
-fn is_close(from: i64, to: i64) -> bool
-    requires from { IsTrue (is_degrees from) }
-    requires to { IsTrue (is_degrees to) }
-    ensures { result ≡ fits16 (relative from to) }
-{
-    rel16(from, to).is_some()
-}
-
 /// Whether the differences of longitude and latitude from one coordinate to another fit 16 bits.
 fn is_fit(from: Coord, to: Coord) -> bool
     ensures { result ≡ fit16 from to }
 {
-    is_close(from.lon(), to.lon()) && is_close(from.lat(), to.lat())
+    rel16(from.lon(), to.lon()).is_some() && rel16(from.lat(), to.lat()).is_some()
 }
 
 /// The position of the next LRP after `i`, where the positions up to `reach` are covered and within the limit: the end

@@ -4,7 +4,7 @@ ghost use Rattle.olr_spec.specs.Map.{has_node};
 ghost use Rattle.olr_spec.specs.Footprint.{Sees};
 ghost use Rattle.olr_route.specs.declared.distances.Direction.TheVariants.{Along};
 ghost use Rattle.olr_route.specs.Searches.{IsSearch, limit_of};
-ghost use Rattle.olr_refs.specs.Along.{IsLastNear, IsReach};
+ghost use Rattle.olr_refs.specs.Along.{IsReach};
 ghost use Rattle.olr_refs.specs.Choice.{ForPoints, IsChoice, Notes};
 ghost use Rattle.olr_refs.specs.Reuse.{IsReuse, IsAnswered, Queried};
 
@@ -12,7 +12,7 @@ use crate::along::ResolvedPath;
 use crate::choice::{last_within_limit, next_of};
 use crate::reach::covered_to;
 use crate::reuse::{Found, Reuse, known_after, own_query};
-use olr_answers::{CoverageQuery, KnownQuery, Margin};
+use olr_answers::{CoverageQuery, KnownQuery};
 use olr_model::{Footprint, MapRead};
 use olr_route::{Dijkstra, Direction, GREATEST_LIMIT, Work};
 use std::alloc::{AllocError, Global};
@@ -46,27 +46,6 @@ pub struct Chosen {
     pub queries: Queries,
 }
 
-/// Settles a search as far as a coverage query is long, from where it begins. Without a margin this is the search that
-/// found the query.
-fn settle_query<M: MapRead>(
-    map: &M,
-    margin: Margin,
-    query: CoverageQuery,
-    search: &mut Dijkstra,
-) -> Result<(), AllocError>
-    requires small { query.within ≤ GREATEST_LIMIT }
-    requires found { margin.routes ≡ 0 → IsSearch (M.map map.now) (M.node_slot map.now) Along
-        ((query.from, 0) ∷ []) search.old × (limit_of search.old ≡ query.within) }
-    ensures search { OnOk result (IsSearch (M.map map.now) (M.node_slot map.now) Along ((query.from, 0) ∷ []) search.new) }
-    ensures limit { OnOk result (limit_of search.new ≡ query.within) }
-{
-    if margin.routes() == 0 {
-        return Ok(());
-    }
-    search.begin(map, Direction::Along, &[(query.from, 0)])?;
-    search.settle_to(map, query.within)
-}
-
 /// If `seen` is `Some`, adds the nodes that a coverage query reaches. Without a margin they are those that the search which
 /// found the query has settled.
 fn note_reached<M: MapRead>(
@@ -86,7 +65,10 @@ fn note_reached<M: MapRead>(
     let Some(seen) = seen else {
         return Ok(());
     };
-    settle_query(resolved.map, resolved.margin, query, search)?;
+    if resolved.margin.routes() > 0 {
+        search.begin(resolved.map, Direction::Along, &[(query.from, 0)])?;
+        search.settle_to(resolved.map, query.within)?;
+    }
     let nodes = search.nodes(alloc, resolved.map)?;
     seen.note_all(&nodes)
 }
@@ -166,8 +148,8 @@ fn reach_of<M: MapRead>(
 /// to the end; or the position after which there is no valid LRP (White Paper, intermediate points and the 15,000 m
 /// rule; which LRP is next is the profile's choice). From each LRP that two lines or more follow one search is made,
 /// no farther than is needed to find the next LRP, and none if the coverage query is known. If `seen` is `Some`, adds
-/// the nodes that the searched queries reach, for which a margin needs further searches. If an allocation fails, `seen` may have some of these nodes, and the search
-/// must be started again before its next use.
+/// the nodes that the searched queries reach, for which a margin needs further searches. If an allocation fails, `seen`
+/// may have some of these nodes, and the search must be started again before its next use.
 pub fn points<M: MapRead>(
     alloc: Global,
     resolved: &ResolvedPath<M>,
@@ -192,18 +174,14 @@ pub fn points<M: MapRead>(
     let mut last = 0;
     while last < resolved.lines.len() {
         let reach = reach_of(alloc, resolved, reuse, last, &mut queries, search, seen)?;
-        match next_of(resolved, last, reach) {
-            Some(next) => {
-                positions.push(next)?;
-                last = next;
-            }
-            None => {
-                return Ok(Chosen {
-                    choice: Choice::NoNext(last),
-                    queries,
-                });
-            }
-        }
+        let Some(next) = next_of(resolved, last, reach) else {
+            return Ok(Chosen {
+                choice: Choice::NoNext(last),
+                queries,
+            });
+        };
+        positions.push(next)?;
+        last = next;
     }
     Ok(Chosen {
         choice: Choice::Positions(positions),

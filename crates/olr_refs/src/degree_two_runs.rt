@@ -2,6 +2,7 @@
 //! and against them from the first.
 ghost use Rattle.std.specs.Prelude.{◌≡◌, ◌<◌, ◌≤◌, ◌+◌, ◌⊎◌, IsTrue, if◌then◌else◌, IfOk, IfSome, IfNone};
 ghost use Rattle.std.specs.Prelude.{◌≢◌, ℕ, MatchOption, length, reverse, [], ⊤};
+ghost use Rattle.std.specs.List.Sorted.{IsNonDecreasing};
 ghost use Rattle.olr_spec.specs.Map.{Map, has_line, has};
 ghost use Rattle.olr_spec.specs.Extension.{limit};
 ghost use Rattle.olr_route.specs.Distances.{near_end, far_end, lines_at, ends_at};
@@ -9,8 +10,8 @@ ghost use Rattle.olr_refs.specs.Runs.{outermost, in_order, GrowsBy, LiesBeyond, 
 ghost use Rattle.olr_route.specs.ResolvedLines.{IsResolved, record_of};
 ghost use Rattle.olr_refs.specs.ResolvedLines.{ids, AreRecords};
 
-use crate::line_set::LineSet;
 use crate::nodes::passing_at;
+use crate::resolved::ids_of;
 use olr_model::{LineEnd, LineId, MapRead, NodeId};
 use olr_route::{Direction, LEG_LIMIT, ResolvedLine, lines_from, resolve_line};
 use std::alloc::{AllocError, Global};
@@ -64,36 +65,18 @@ pub(crate) fn longest_run<M: MapRead>(
     ensures { IfOk result
         (λ run. IsRun (M.map map.now) (M.node_slot map.now) direction (ids records.now) run.records.items run.len run.valid) }
 {
-    let beyond = line_beyond(map, direction, outermost_of(direction, records));
-    if beyond.line.is_none() {
+    let mut at = line_beyond(map, direction, outermost_of(direction, records));
+    if at.line.is_none() {
         return Ok(DegreeTwoRun {
             records: Vec::new(alloc),
             len: 0,
-            valid: !beyond.passing,
+            valid: !at.passing,
         });
     }
-    grown_run(alloc, map, direction, records, beyond)
-}
-
-/// The longest run from these lines, built line by line, by what lies beyond the outermost of them.
-fn grown_run<M: MapRead>(
-    alloc: Global,
-    map: &M,
-    direction: Direction,
-    records: &[ResolvedLine],
-    beyond: Beyond,
-) -> Result<DegreeTwoRun, AllocError>
-    requires some { 0 < length records.now }
-    requires known { IsTrue (has_line (M.map map.now) (outermost direction (ids records.now))) }
-    requires beyond { LiesBeyond (M.map map.now) direction (outermost direction (ids records.now)) beyond.passing
-        beyond.line }
-    ensures { IfOk result
-        (λ run. IsRun (M.map map.now) (M.node_slot map.now) direction (ids records.now) run.records.items run.len run.valid) }
-{
-    let used = LineSet::of(alloc, records)?;
+    let mut used = ids_of(alloc, records)?;
+    used.sort_unstable();
     let mut run = Vec::new(alloc);
     let mut len = 0;
-    let mut at = beyond;
     while let Some(record) = next_within(map, at.line, len, &used) {
         run.push(record)?;
         len += record.len;
@@ -118,26 +101,35 @@ fn in_order(direction: Direction, mut run: Vec<ResolvedLine>) -> Vec<ResolvedLin
 }
 
 /// The line by which a run of the length `len` is extended, as the map has it. None if there is none, if it is in
-/// `used`, the list where the run begins, or if the run would exceed its limit. A run never reaches one of its own
-/// lines before one of the list.
+/// `used`, the sorted list where the run begins, or if the run would exceed its limit. A run never reaches one of its
+/// own lines before one of the list.
 fn next_within<M: MapRead>(
     map: &M,
     line: Option<LineId>,
     len: u32,
-    used: &LineSet,
+    used: &[LineId],
 ) -> Option<ResolvedLine>
     requires known { MatchOption line ⊤ (λ x. IsTrue (has_line (M.map map.now) x)) }
     requires within { len ≤ limit }
-    ensures some { IfSome result (GrowsBy (M.map map.now) (M.node_slot map.now) line len used.now.sorted.items) }
+    requires sorted { IsNonDecreasing used.now }
+    ensures some { IfSome result (GrowsBy (M.map map.now) (M.node_slot map.now) line len used.now) }
     ensures none { IfNone result (MatchOption line ⊤
-        (λ x. IsTrue (has used.now.sorted.items x) ⊎ (limit < len + (record_of (M.map map.now) (M.node_slot map.now) x).len))) }
+        (λ x. IsTrue (has used.now x) ⊎ (limit < len + (record_of (M.map map.now) (M.node_slot map.now) x).len))) }
 {
     let line = line?;
     let record = resolve_line(map, line).unwrap();
-    if used.has(line) || record.len > LEG_LIMIT - len {
+    if is_listed(used, line) || record.len > LEG_LIMIT - len {
         return None;
     }
     Some(record)
+}
+
+/// Whether a line is in a sorted list.
+fn is_listed(sorted: &[LineId], line: LineId) -> bool
+    requires { IsNonDecreasing sorted.now }
+    ensures { result ≡ has sorted.now line }
+{
+    sorted.binary_search(&line).is_ok()
 }
 
 /// The outermost of some lines: the last one along them, the first one against them.

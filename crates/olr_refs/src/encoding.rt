@@ -59,8 +59,7 @@ pub fn encode<M: MapRead>(
     ensures path { IsTrue (is_path path.now.lines) }
     ensures searches { IfOk result (λ e. e.work.searches ≡ saturated_count (length e.queries.items)) }
 {
-    let mut seen = None;
-    encode_noting(alloc, map, path, &[], margin, search, &mut seen)
+    encode_noting(alloc, map, path, &[], margin, search, &mut None)
 }
 
 /// The encoding of a path on a map, as `encode` returns it, but without searches for the coverage queries in `known`.
@@ -80,8 +79,7 @@ pub fn encode_again<M: MapRead>(
     ensures encoding { IfOk result (IsEncoding margin (M.map map.now) path.now) }
     ensures path { IsTrue (is_path path.now.lines) }
 {
-    let mut seen = None;
-    encode_noting(alloc, map, path, known, margin, search, &mut seen)
+    encode_noting(alloc, map, path, known, margin, search, &mut None)
 }
 
 /// The encoding of a path on a map, as `encode_again` returns it. If `seen` is `Some`, adds the nodes that the coverage

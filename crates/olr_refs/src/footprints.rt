@@ -1,5 +1,5 @@
 //! Footprints: the nodes on which an answer depends.
-ghost use Rattle.std.specs.Prelude.{◌≡◌, ℕ, ◌+◌, ◌*◌, ◌^◌, ◌<◌, ◌≤◌, ◌↔◌, ◌⊎◌, IfOk, OnOk, OnErr, MatchOption};
+ghost use Rattle.std.specs.Prelude.{◌≡◌, ℕ, ◌+◌, ◌*◌, ◌^◌, ◌<◌, ◌≤◌, ◌↔◌, IfOk, OnOk, OnErr};
 ghost use Rattle.std.specs.Prelude.{Contains, length};
 ghost use Rattle.olr_spec.specs.Map.{Map, IsMap, Agree};
 ghost use Rattle.olr_spec.specs.Encoding.{Encodes, EncodesWith};
@@ -14,18 +14,6 @@ use olr_answers::{Answer, Margin, Path};
 use olr_model::{Footprint, MapRead};
 use olr_route::{Dijkstra, Work};
 use std::alloc::{AllocError, Global};
-
-/// A path's footprint: its traversed nodes, and the nodes that its searches settled.
-fn with_seen(mut footprint: Footprint, seen: Option<Footprint>) -> Result<Footprint, AllocError>
-    ensures { IfOk result
-        (λ f. (v : ℕ) → Contains f v ↔ (Contains footprint v ⊎ MatchOption seen ⊥ (λ s. Contains s v))) }
-{
-    let Some(seen) = seen else {
-        return Ok(footprint);
-    };
-    footprint.note_all(seen.as_slice())?;
-    Ok(footprint)
-}
 
 /// The answer of a path on a map, and its footprint: the nodes on which the answer depends. On any sound map that is
 /// the same around these nodes, and has the same lines of the path, the answer is the same. On this map every decoder
@@ -81,12 +69,13 @@ pub fn refer_with<M: MapRead>(
     ensures err_work { OnErr result (work.new ≡ work.old) }
 {
     let mut seen = Some(Footprint::new(alloc));
-    let (answer, traversed, done) = {
+    let (answer, mut footprint, done) = {
         let mut search = Dijkstra::new(alloc);
         let encoding = encode_noting(alloc, map, path, &[], margin, &mut search, &mut seen)?;
         (encoding.answer, encoding.traversed, encoding.work)
     };
-    let footprint = with_seen(traversed, seen)?;
+    let seen = seen.unwrap();
+    footprint.note_all(seen.as_slice())?;
     *work = work.plus(done);
     Ok((answer, footprint))
 }

@@ -9,7 +9,6 @@ mod degree_two_runs;
 mod encoding;
 mod extension;
 mod footprints;
-mod line_set;
 mod lrp_fields;
 mod nodes;
 mod path_fault;

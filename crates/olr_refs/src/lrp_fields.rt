@@ -1,15 +1,11 @@
 //! The fields of a reference: of the location reference points (LRPs) of an extended path, and of its offsets (White
 //! Paper, location reference points and their attributes).
-ghost use Rattle.std.specs.Prelude.{◌≡◌, ℕ, ◌+◌, ◌<◌, ◌≤◌, IsTrue, IfOk};
-ghost use Rattle.olr_spec.specs.Coordinates.{fits16, relative};
-ghost use Rattle.olr_coords.specs.Bounds.{is_degrees};
-ghost use Rattle.olr_spec.specs.Map.{has_line, has_node, is_good, line_at, coord_at};
+ghost use Rattle.std.specs.Prelude.{◌≡◌, ◌<◌, IsTrue, IfOk, fold, map, max};
+ghost use Rattle.olr_spec.specs.Coordinates.{relative};
+ghost use Rattle.olr_spec.specs.Map.{has_node, coord_at};
 ghost use Rattle.olr_spec.specs.Points.{fit16, CandidateWith};
-ghost use Rattle.olr_spec.specs.Extension.{limit, AreJoined};
-ghost use Rattle.olr_spec.specs.Reference.{attrs_with, first_point_with, last_point, legs, middle_point_with, offset, position};
-ghost use Rattle.olr_refs.specs.Along.{AreDistances};
-ghost use Rattle.olr_refs.specs.Fields.{lowest_class, middle_points_of};
-ghost use Rattle.olr_refs.specs.KeptPoints.{AreKept};
+ghost use Rattle.olr_spec.specs.Reference.{attrs_with, dm_between, first_point_with, last_point, legs, middle_point_with, offset};
+ghost use Rattle.olr_refs.specs.KeptPoints.{AreKept, middle_points_of};
 
 use crate::along::{ResolvedPath, coord_of};
 use olr_bearing::{Ends, bearing_back, bearing_out};
@@ -37,37 +33,25 @@ fn ends_of<M: MapRead>(map: &M, line: &Line) -> Ends
     }
 }
 
-/// The difference between two longitudes, or two latitudes, in relative steps. It fits 16 bits.
-fn difference(from: i64, to: i64) -> i16
-    requires from { IsTrue (is_degrees from) }
-    requires to { IsTrue (is_degrees to) }
-    requires fits { IsTrue (fits16 (relative from to)) }
-    ensures { result ≡ relative from to }
-{
-    rel16(from, to).unwrap()
-}
-
-/// The differences of longitude and latitude from one coordinate to another, in relative steps.
+/// The differences of longitude and latitude from one coordinate to another, in relative steps. They fit 16 bits.
 fn differences(from: Coord, to: Coord) -> (i16, i16)
     requires { IsTrue (fit16 from to) }
     ensures lon { result.0 ≡ relative from.lon to.lon }
     ensures lat { result.1 ≡ relative from.lat to.lat }
 {
-    (
-        difference(from.lon(), to.lon()),
-        difference(from.lat(), to.lat()),
-    )
+    let lon = rel16(from.lon(), to.lon()).unwrap();
+    let lat = rel16(from.lat(), to.lat()).unwrap();
+    (lon, lat)
 }
 
 /// The lowest functional road class of some lines, which is the greatest number.
 fn lowest_class(records: &[ResolvedLine]) -> u8
-    ensures { result ≡ lowest_class records.now }
+    ensures { result ≡ fold max 0 (map (λ r. r.frc) records.now) }
 {
-    let mut lowest = 0;
-    for record in records {
-        lowest = record.frc.max(lowest);
-    }
-    lowest
+    records
+        .iter()
+        .map(|record| record.frc)
+        .fold(0, |lowest, class| lowest.max(class))
 }
 
 /// The attributes of the LRP at position `i`, where the next one is at position `j`.
@@ -148,16 +132,17 @@ pub fn middle_points<M: MapRead>(
     Ok(middle)
 }
 
-/// The remainder of an offset, in 256ths of the leg on which it ends, rounded down; both are in decimetres. None if the
-/// remainder is 0 (White Paper, binary format; rounding: profile).
-pub fn offset(left: u128, stretch: u128) -> Option<u8>
-    requires within { left < stretch }
-    requires short { stretch ≤ limit }
-    ensures { result ≡ offset left stretch }
+/// The remainder of an offset, in decimetres, in 256ths of the leg from position `i` to position `j`, rounded down. None
+/// if the remainder is 0 (White Paper, binary format; rounding: profile).
+pub fn offset<M: MapRead>(resolved: &ResolvedPath<M>, left: u128, i: usize, j: usize) -> Option<u8>
+    requires candidate { CandidateWith resolved.now.margin (M.map resolved.now.map.now) resolved.now.lines.now i j }
+    requires within { left < dm_between (legs (M.map resolved.now.map.now) resolved.now.lines.now) i j }
+    ensures { result ≡ offset left (dm_between (legs (M.map resolved.now.map.now) resolved.now.lines.now) i j) }
 {
+    let leg = resolved.between(i, j);
     if left == 0 {
         None
     } else {
-        Some((OFFSET_PARTS * left / stretch) as u8)
+        Some((OFFSET_PARTS * left / leg) as u8)
     }
 }

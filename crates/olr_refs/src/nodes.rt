@@ -1,5 +1,5 @@
 //! Degree-two nodes, at which nothing turns off.
-ghost use Rattle.std.specs.Prelude.{◌≡◌, IsTrue, map, [], ◌∷◌};
+ghost use Rattle.std.specs.Prelude.{◌≡◌, IsTrue, map};
 ghost use Rattle.olr_spec.specs.Map.{has_node};
 ghost use Rattle.olr_spec.specs.Extension.{passing, passes_between, apart};
 
@@ -33,29 +33,15 @@ pub(crate) fn passing_at<M: MapRead>(map: &M, node: NodeId, slot: u32) -> bool
 fn passes_between(slot: u32, entering: &[LineEnd], leaving: &[LineEnd]) -> bool
     ensures { result ≡ passes_between slot (map (λ e. e.slot) entering.now) (map (λ e. e.slot) leaving.now) }
 {
-    if entering.len() != leaving.len() {
-        return false;
-    }
-    match entering.len() {
-        1 => are_apart(slot, entering[0].slot, leaving[0].slot),
-        2 => connects(
-            slot,
-            entering[0].slot,
-            entering[1].slot,
-            leaving[0].slot,
-            leaving[1].slot,
-        ),
+    match (entering, leaving) {
+        ([one], [other]) => are_apart(slot, one.slot, other.slot),
+        ([one, other], [first, second]) => {
+            let (one, other, first, second) = (one.slot, other.slot, first.slot, second.slot);
+            are_apart(slot, one, other)
+                && ((first == one && second == other) || (first == other && second == one))
+        }
         _ => false,
     }
-}
-
-/// Whether lines that enter a node from `one` and `other`, and leave it for `first` and `second`, connect two nodes that
-/// differ from each other and from the node, once each way. The nodes are given by their slots.
-fn connects(slot: u32, one: u32, other: u32, first: u32, second: u32) -> bool
-    ensures { result ≡ passes_between slot (one ∷ other ∷ []) (first ∷ second ∷ []) }
-{
-    are_apart(slot, one, other)
-        && ((first == one && second == other) || (first == other && second == one))
 }
 
 /// Whether two slots are different, and neither of them is `slot`.

@@ -2,11 +2,8 @@
 ghost use Rattle.std.specs.Prelude.{◌≡◌, ◌+◌, ◌-◌, ◌<◌, IfOk, length, slice_index};
 ghost use Rattle.olr_spec.specs.Recovery.{own_lines};
 ghost use Rattle.olr_spec.specs.Routes.{dm_of};
-ghost use Rattle.olr_spec.specs.Points.{CandidateWith};
-ghost use Rattle.olr_spec.specs.Reference.{legs, dm_between, kept_points, offset, reference_with, reference_by_with};
+ghost use Rattle.olr_spec.specs.Reference.{legs, dm_between, kept_points, reference_with, reference_by_with};
 ghost use Rattle.olr_spec.specs.Bytes.{IsReference};
-ghost use Rattle.olr_refs.specs.Along.{AreDistances};
-ghost use Rattle.olr_spec.specs.Extension.{AreJoined};
 ghost use Rattle.olr_refs.specs.KeptPoints.{later, AreKept, ArePoints};
 
 use crate::along::ResolvedPath;
@@ -38,8 +35,8 @@ fn reference_by<M: MapRead>(
     let last = kept.len() - 1;
     let (start, next) = (kept[0], kept[1]);
     let (before, end) = (kept[last - 1], kept[last]);
-    let pos = offset_along(resolved, trimmed.pos, start, next);
-    let neg = offset_along(resolved, trimmed.neg, before, end);
+    let pos = offset(resolved, trimmed.pos, start, next);
+    let neg = offset(resolved, trimmed.neg, before, end);
     let middle = middle_points(alloc, resolved, kept)?;
     Ok(Reference {
         first: first_point(resolved, start, next),
@@ -48,20 +45,6 @@ fn reference_by<M: MapRead>(
         pos,
         neg,
     })
-}
-
-/// The remainder of an offset, in decimetres, on the leg from position `i` to position `j`, as a reference has it.
-fn offset_along<M: MapRead>(
-    resolved: &ResolvedPath<M>,
-    left: u128,
-    i: usize,
-    j: usize,
-) -> Option<u8>
-    requires candidate { CandidateWith resolved.now.margin (M.map resolved.now.map.now) resolved.now.lines.now i j }
-    requires within { left < dm_between (legs (M.map resolved.now.map.now) resolved.now.lines.now) i j }
-    ensures { result ≡ offset left (dm_between (legs (M.map resolved.now.map.now) resolved.now.lines.now) i j) }
-{
-    offset(left, resolved.between(i, j))
 }
 
 /// Line `k` of these.

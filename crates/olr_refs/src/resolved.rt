@@ -5,18 +5,23 @@ ghost use Rattle.olr_spec.specs.Map.{has_line};
 ghost use Rattle.olr_route.specs.ResolvedLines.{record_of};
 ghost use Rattle.olr_refs.specs.ResolvedLines.{AreRecords, records_of, ids};
 
-use olr_model::{LineId, MapRead, NodeId};
+use olr_model::{LineId, MapRead};
 use olr_route::{ResolvedLine, resolve_line};
 use std::alloc::{AllocError, Global};
 
-/// A line as the map has it, where a node and its slot are known at which it may begin. None if it is not on the map.
-fn resolve_from<M: MapRead>(map: &M, node: NodeId, slot: u32, id: LineId) -> Option<ResolvedLine>
-    requires { M.node_slot map.now node ≡ slot }
+/// A line as the map has it, by those before it on a path: it begins where the last of them ends, in most cases. None if
+/// it is not on the map.
+#[tactic(auto, using(crate::proofs::Resolving::end_placed))]
+fn resolve_after<M: MapRead>(map: &M, before: &[ResolvedLine], id: LineId) -> Option<ResolvedLine>
+    requires { AreRecords (M.map map.now) (M.node_slot map.now) before.now }
     ensures { SomeIff result (IsTrue (has_line (M.map map.now) id))
         (record_of (M.map map.now) (M.node_slot map.now) id) }
 {
+    let Some(last) = before.last() else {
+        return resolve_line(map, id);
+    };
     let line = map.line(id)?;
-    if line.from != node {
+    if line.from != last.to {
         return resolve_line(map, id);
     }
     let to_slot = map.slot_of(line.to)?;
@@ -24,25 +29,12 @@ fn resolve_from<M: MapRead>(map: &M, node: NodeId, slot: u32, id: LineId) -> Opt
         id,
         from: line.from,
         to: line.to,
-        from_slot: slot,
+        from_slot: last.to_slot,
         to_slot,
         len: line.len,
         frc: line.frc,
         fow: line.fow,
     })
-}
-
-/// A line as the map has it, by those before it on a path: it begins where the last of them ends, in most cases. None if
-/// it is not on the map.
-fn resolve_after<M: MapRead>(map: &M, before: &[ResolvedLine], id: LineId) -> Option<ResolvedLine>
-    requires { AreRecords (M.map map.now) (M.node_slot map.now) before.now }
-    ensures { SomeIff result (IsTrue (has_line (M.map map.now) id))
-        (record_of (M.map map.now) (M.node_slot map.now) id) }
-{
-    match before.last() {
-        Some(last) => resolve_from(map, last.to, last.to_slot, id),
-        None => resolve_line(map, id),
-    }
 }
 
 /// These lines as the map has them, or the first of them that is not on the map.

@@ -1,7 +1,9 @@
-use Rattle.olr_spec.proofs.Common.{◌≡◌, ◌∙◌, ℤ, pos, Bool, true, not, ◌&&◌, int_le, ap, sym, w128, Vector, beyond, to_z-of_z, lies_between}
+use Rattle.olr_spec.proofs.Common.{◌≡◌, ◌∙◌, ◌+◌, ◌/◌, ◌%◌, ℤ, pos, Bool, true, not, ◌&&◌, int_le, ap, sym, w128, Vector, beyond, to_z-of_z, lies_between}
 use Rattle.std.proofs.Common.{int_lt}
 use Rattle.olr_spec.specs.Directions.{margin_start, margin_end}
+use Rattle.olr_bearing.proofs.Quarters.{start_is, end_is}
 use Rattle.olr_bearing.proofs.Scaling.{held}
+use Rattle.olr_bearing.specs.Turned.{turned}
 use Rattle.olr_bearing.proofs.margins.is_beyond.Goals.{then-start-ge0, else-start-ge0}
 use Rattle.olr_bearing.proofs.margins.is_beyond.Goals as goal
 
@@ -11,10 +13,10 @@ returns-after-start-ge0 c =
     let k = c.args.sector in
     let start : held w128 c.beyond-start.result ≡ beyond (margin_start k) v =
     to_z-of_z w128 _ (record { sfits = c.beyond-start.type_inv }) ∙ c.beyond-start.ensures
-    ∙ ap (λ (b : Vector). beyond b v) c.margin_start.ensures.value in
+    ∙ ap (λ (b : Vector). beyond b v) (c.turned.ensures.value ∙ ap (turned (k / 8)) c.first_start.ensures.value ∙ start_is k c.requires.below) in
     let end : held w128 c.beyond-end.result ≡ beyond (margin_end k) v =
     to_z-of_z w128 _ (record { sfits = c.beyond-end.type_inv }) ∙ c.beyond-end.ensures
-    ∙ ap (λ (b : Vector). beyond b v) c.margin_end.ensures.value in
+    ∙ ap (λ (b : Vector). beyond b v) (c.turned-2.ensures.value ∙ ap (turned ((k + 1) % 32 / 8)) c.first_end.ensures.value ∙ end_is k c.requires.below) in
     let inside : c.if-start-ge0.result ≡ lies_between (margin_start k) (margin_end k) v =
     elim c.if-start-ge0.branch [
       | then-start-ge0 w ↦

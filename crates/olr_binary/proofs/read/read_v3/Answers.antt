@@ -1,7 +1,6 @@
 use Rattle.olr_binary.proofs.Common.{◌≡◌, ◌∙◌, ◌+◌, ◌*◌, List, slice_range, arith, rules, flat_map, Reference, IsReference}
 use Rattle.olr_binary.proofs.Common.{middle_bytes, ap, sym, ◌++◌, length, stretch_parts, encoded_passes}
 use Rattle.olr_spec.proofs.Common.{ℕ, length-drop, length-take}
-use Rattle.olr_binary.specs.Parts.{reference_from}
 use Rattle.olr_binary.proofs.LayoutLemmas.{last_bytes, no_fault}
 use Rattle.olr_binary.proofs.PointLemmas.{reference_bytes-parts}
 use Rattle.olr_binary.proofs.read.read_v3.Goals as goal
@@ -26,8 +25,13 @@ returns-clause-ok c =
     let size = c.in_ok-layout.ensures.ok.size in
     let points = c.in_ok-middle.middle.items in
     let r : Reference =
-    reference_from c.read_first-first.result points c.read_last-last.result.0 c.read_last-last.result.1
-    c.read_last-last.result.2 in
+    record {
+      first = c.read_first-first.result;
+      middle = points;
+      last = c.read_last-last.result.0;
+      pos = c.read_last-last.result.1;
+      neg = c.read_last-last.result.2;
+    } in
     let fit : IsReference r = search rules in
     let middle : flat_map middle_bytes points ≡ slice_range b 10 (10 + 7 * m) = search rules in
     let k = 10 + 7 * m in

@@ -5,15 +5,15 @@ use Rattle.olr_refs.proofs.chosen.points.Goals as goal
 
 pub loop-last-preserved : goal.loop-last-preserved
 loop-last-preserved g c = gone_more _ _ _ _
-    c.loop-last.positions.items c.push-in-Some.new.self.items c.loop-last.last c.in-Some.next _ _ _ _ _
-    c.loop-last.invariant c.in_ok-reach.ensures.queried c.in-Some.ensures c.in_ok-push-in-Some.ensures.items
+    c.loop-last.positions.items c.push-in-loop-last.new.self.items c.loop-last.last c.in-Some.next _ _ _ _ _
+    c.loop-last.invariant c.in_ok-reach.ensures.queried c.in-Some.ensures c.in_ok-push-2.ensures.items
 
-pub returns-in-None : goal.returns-in-None
-returns-in-None g c =
+pub returns-in_default : goal.returns-in_default
+returns-in_default g c =
     let M = g.M.MapRead.map c.args.resolved.now.map.now in
     let ls = c.args.resolved.now.lines.now in
     let s = c.loop-last.invariant in
-    let led = led_end _ M ls s.points c.loop-last.last s.led c.in-None.ensures in
+    let led = led_end _ M ls s.points c.loop-last.last s.led c.in_default.ensures in
     record {
       choice = (s.points, led.0, ((λ e. omega arith), sym led.1));
       queried = (

@@ -1,6 +1,6 @@
 use Rattle.olr_refs.proofs.Common.{◌-◌, reverse, limit, ids}
 use Rattle.olr_refs.proofs.Runs.{Grows}
-use Rattle.olr_refs.proofs.degree_two_runs.grown_run.Given as goal
+use Rattle.olr_refs.proofs.degree_two_runs.longest_run.Given as goal
 
 -- the run is stored from the list outwards
 abbrev pub invariant-loop-record : goal.invariant-loop-record
