@@ -1,7 +1,7 @@
 pub mod Common
 pub mod Lookups
 pub mod SlotLemmas
-pub mod Blocking
+pub mod SlotsByNumber
 pub mod ColumnLemmas
 pub mod Indexing
 pub mod LineRecords
