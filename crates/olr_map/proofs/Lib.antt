@@ -1,4 +1,5 @@
 pub mod Common
+pub mod Turning
 pub mod Lookups
 pub mod SlotLemmas
 pub mod SlotsByNumber
