@@ -11,7 +11,7 @@ pub use Rattle.olr_map.specs.SlotIndexes.{pairs_of, slot_by, spare_of, number_be
 pub use Rattle.olr_map.specs.Slotted.{IsInserted, IsRemoved, IsReplaced, IsSlotted, IsWritten, at, in_slot, present}
 pub use Rattle.olr_map.specs.Tables.{AreTables, IsIndexed, IsListed, end_at, far, lines_at, links_in, map_from, near, node_in}
 pub use Rattle.olr_map.specs.Tables.{node_slot, sides, coord_in}
-pub use Rattle.olr_map.specs.Undos.{CanMakeAll, made_all, log_changes}
+pub use Rattle.olr_map.specs.RoadMaps.{CanMakeAll, made_all, log_changes}
 pub use Rattle.olr_map.specs.declared.change.TableChange.TheVariants.{PutLine, SetLine, TakeLine, MoveNode, PutNode, TakeNode}
 pub use Rattle.olr_map.specs.declared.change.TableChange.{TableChange}
 pub use Rattle.olr_map.specs.declared.number_table.NumberTable.{NumberTable}

@@ -8,5 +8,4 @@ pub mod Columns
 pub mod Tables
 pub mod EditPlans
 pub mod Changes
-pub mod Undos
 pub mod RoadMaps
