@@ -5,19 +5,19 @@ use Rattle.olr_map.proofs.Common.{true, cond, Some, None, refl, subst, arith, Co
 use Rattle.olr_map.proofs.Common.{sym, ap, ◌∙◌, Map, Line, held, Room, Side, Out, In, pairs_of, spare_of, all_held}
 use Rattle.olr_map.proofs.Common.{links_at, lines_on, lines_at, links_in, map_from, length, FinMap, lookup, eq-eqb, slot_by}
 use Rattle.olr_map.proofs.Common.{in_slot, IsListed, room_of, room_at, RoadMap, eqb-true, node_room, node_slot}
-use Rattle.olr_map.proofs.Common.{IsIndexed, AreTables, NodeSlots, LineTable, from_entries, empty_map, empty_sound, coord_in}
+use Rattle.olr_map.proofs.Common.{IsIndexed, AreTables, NodeSlots, NumberTable, from_entries, empty_map, empty_sound, coord_in}
 use Rattle.olr_map.proofs.Common.{and_parts, IsRoomier}
 use Rattle.std.specs.Ordering.{nat_cmp}
 use Rattle.olr_map.proofs.ColumnLemmas.{few_nodes}
 use Rattle.olr_map.proofs.Lookups.{all_get, same_answers}
-use Rattle.olr_map.proofs.Blocking.{listed_found}
+use Rattle.olr_map.proofs.SlotsByNumber.{listed_found}
 use Rattle.olr_map.proofs.Indexing.{one_node, same_side, Relisted, relisted}
 use Rattle.olr_map.proofs.Reading.{got_node, got_line, kept_from}
 use Rattle.olr_spec.specs.Map as maps
 
 -- ---- empty tables
 
-pub kept_none : (b : SlotIndex) (s : NodeSlots) (ls : LineTable) → pairs_of b ≡ [] → node_slots s ≡ [] →
+pub kept_none : (b : SlotIndex) (s : NodeSlots) (ls : NumberTable Line) → pairs_of b ≡ [] → node_slots s ≡ [] →
     ls.by_number.entries ≡ [] → AreTables b (node_slots s) (all_held ls)
 kept_none b s ls no_nodes no_slots no_lines =
     let none : (v : ℕ) → slot_by b v ≡ None = λ v. sym (listed_found b v) ∙ ap (lookup (λ q. v == q)) no_nodes in
@@ -60,7 +60,7 @@ both_fit s mid new x l p q slots first second out into In = into l.to (first.slo
 
 -- ---- more capacity for numbers
 
-module _ (t : RoadMap) (b' : SlotIndex) (ls' : LineTable) (slots : (k : ℕ) → slot_by b' k ≡ slot_by t.index k)
+module _ (t : RoadMap) (b' : SlotIndex) (ls' : NumberTable Line) (slots : (k : ℕ) → slot_by b' k ≡ slot_by t.index k)
     (same : (k : ℕ) → held ls' k ≡ held t.lines k) where
   same_indexed : IsIndexed b' (node_slots t.nodes)
   same_indexed = grind (arith, common_steps, t.kept.indexed.filled, t.kept.indexed.named, slots)

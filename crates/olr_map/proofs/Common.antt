@@ -1,21 +1,20 @@
 -- The names that most proofs of olr_map cite, passed on from one place. Declares nothing.
-pub use Rattle.olr_map.specs.Blocked.{slot_in, all_in, number_before, slot_at, found_in, IsBlank, AreUsed, from}
 pub use Rattle.olr_map.specs.Changes.{IsRoomWithin, room_at, room_of, tables_map, AddsNoNode, all_node_puts, node_numbers}
 pub use Rattle.olr_map.specs.Changes.{KeepsSlots, change_edit, changed_at, line_puts, map_after, node_puts, room_after}
 pub use Rattle.olr_map.specs.Changes.{line_numbers, all_line_puts, HasRoomFor, IsReserved, Room, CanMake, IsChangeMade, IsWhole}
 pub use Rattle.olr_map.specs.Columns.{node_room, node_slots, rows, entry_of}
-pub use Rattle.olr_map.specs.LineTables.{all_held, held, spare_numbers}
+pub use Rattle.olr_map.specs.NumberTables.{all_held, held, spare_numbers}
 pub use Rattle.olr_map.specs.Linked.{IsPut, lines_on, links_room, IsRoomier, ends_on}
 pub use Rattle.olr_map.specs.NodeLinks.{IsRelinked, links_at, with_links, CanPutEnd}
 pub use Rattle.olr_map.specs.Slabs.{slots_of, Fills}
-pub use Rattle.olr_map.specs.SlotIndexes.{pairs_of, slot_by, spare_of}
+pub use Rattle.olr_map.specs.SlotIndexes.{pairs_of, slot_by, spare_of, number_before, from, dense_slot}
 pub use Rattle.olr_map.specs.Slotted.{IsInserted, IsRemoved, IsReplaced, IsSlotted, IsWritten, at, in_slot, present}
 pub use Rattle.olr_map.specs.Tables.{AreTables, IsIndexed, IsListed, end_at, far, lines_at, links_in, map_from, near, node_in}
 pub use Rattle.olr_map.specs.Tables.{node_slot, sides, coord_in}
-pub use Rattle.olr_map.specs.Undos.{CanMakeAll, made_all, log_changes}
+pub use Rattle.olr_map.specs.RoadMaps.{CanMakeAll, made_all, log_changes}
 pub use Rattle.olr_map.specs.declared.change.TableChange.TheVariants.{PutLine, SetLine, TakeLine, MoveNode, PutNode, TakeNode}
 pub use Rattle.olr_map.specs.declared.change.TableChange.{TableChange}
-pub use Rattle.olr_map.specs.declared.line_table.LineTable.{LineTable}
+pub use Rattle.olr_map.specs.declared.number_table.NumberTable.{NumberTable}
 pub use Rattle.olr_map.specs.declared.links.Links.{Links}
 pub use Rattle.olr_map.specs.declared.road_map.RoadMap.{RoadMap}
 pub use Rattle.olr_map.specs.declared.slot_index.SlotIndex.{SlotIndex}

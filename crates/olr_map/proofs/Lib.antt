@@ -1,7 +1,8 @@
 pub mod Common
+pub mod Turning
 pub mod Lookups
 pub mod SlotLemmas
-pub mod Blocking
+pub mod SlotsByNumber
 pub mod ColumnLemmas
 pub mod Indexing
 pub mod LineRecords

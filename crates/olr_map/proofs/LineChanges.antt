@@ -2,7 +2,7 @@
 use Rattle.olr_map.proofs.Common.{has-lines_where, spare_numbers, IsRoomWithin, common_steps, option_map}
 use Rattle.olr_map.proofs.Common.{TableChange, node_slots, IsRelinked, links_room, tables_map, HasRoomFor, cond-true, ℕ}
 use Rattle.olr_map.proofs.Common.{same_Some, node_room, node_slot, IsIndexed, AreTables, SlotIndex, NodeSlots, eqb-true}
-use Rattle.olr_map.proofs.Common.{LineTable, has_line, all_held, links_at, lines_on, lines_at, links_in, map_from, ◌==◌}
+use Rattle.olr_map.proofs.Common.{NumberTable, has_line, all_held, links_at, lines_on, lines_at, links_in, map_from, ◌==◌}
 use Rattle.olr_map.proofs.Common.{IsListed, TakeLine, line_at, some_of, back_of, slot_by, is_some, node_in, ap}
 use Rattle.olr_map.proofs.Common.{room_of, room_at, LineEnd, RoadMap, PutLine, SetLine, Option, length, FinMap, eq-eqb, false}
 use Rattle.olr_map.proofs.Common.{subst, arith, IsMap, IsPut, sides, Links, true, cond, Some, None, refl, Line, held, near}
@@ -80,7 +80,7 @@ is_held t x n known same = ap (λ k. is_some (held t.lines k)) same ∙ ap (λ o
 
 -- ---- line x has the record w in place of o
 
-pub record LineWritten (t : RoadMap) (nodes' : NodeSlots) (lines' : LineTable) (x : ℕ) (ends : Line)
+pub record LineWritten (t : RoadMap) (nodes' : NodeSlots) (lines' : NumberTable Line) (x : ℕ) (ends : Line)
     (o w : Option Line) : Type 0 where
   pub indexed : IsIndexed t.index (node_slots nodes')
   pub places : (k : ℕ) → option_map place_of (node_in t.index (node_slots nodes') k)
@@ -96,7 +96,7 @@ pub record LineWritten (t : RoadMap) (nodes' : NodeSlots) (lines' : LineTable) (
   pub ends_now : (side : Side) (l : Line) → w ≡ Some l → near side l ≡ near side ends
   pub put : (side : Side) → IsPut (old side) (new side) x (option_map (seen side (node_slot t.index)) w)
 
-module _ {t : RoadMap} {nodes' : NodeSlots} {lines' : LineTable} {x : ℕ} {ends : Line} {o w : Option Line}
+module _ {t : RoadMap} {nodes' : NodeSlots} {lines' : NumberTable Line} {x : ℕ} {ends : Line} {o w : Option Line}
     (r : LineWritten t nodes' lines' x ends o w) where
   abbrev M : Map
   M = tables_map t
@@ -168,7 +168,7 @@ same_near Out k l h = h.0
 same_near In k l h = h.1
 
 -- both lists were changed, first that of the node where the line begins
-module _ (t : RoadMap) (mid nodes' : NodeSlots) (lines' : LineTable) (n x p q : ℕ) (number : n ≡ x) (ends : Line)
+module _ (t : RoadMap) (mid nodes' : NodeSlots) (lines' : NumberTable Line) (n x p q : ℕ) (number : n ≡ x) (ends : Line)
     (here : slot_by t.index ends.from ≡ Some p) (there : slot_by t.index ends.to ≡ Some q) (e d : Option LineEnd)
     (out : IsRelinked (node_slots t.nodes) (node_slots mid) Out p (λ a b. IsPut a b x e))
     (into : IsRelinked (node_slots mid) (node_slots nodes') In q (λ a b. IsPut a b x d)) where

@@ -1,8 +1,8 @@
 -- An accepted change has a map as its result, and the change that undoes it can be made there.
 use Rattle.olr_map.proofs.Common.{◌≡◌, ℕ, ◌+◌, ◌≤◌, Result, Ok, IsOk, sym, ap, ◌∙◌, subst, arith, eqb-true, Map, IsMap, edited}
 use Rattle.olr_map.proofs.Common.{back_of, spare_of, spare_numbers, tables_map, room_of, HasRoomFor, IsRoomWithin, TableChange}
-use Rattle.olr_map.proofs.Common.{RoadMap, common_steps, HasCoord, takes_back, is_ok_of, SlotIndex, NodeSlots, LineTable, Room}
-use Rattle.olr_map.proofs.Common.{AreTables, node_slots, all_held, node_room, has_node, links_room, links_in, map_from}
+use Rattle.olr_map.proofs.Common.{RoadMap, common_steps, HasCoord, takes_back, is_ok_of, SlotIndex, NodeSlots, NumberTable, Room}
+use Rattle.olr_map.proofs.Common.{AreTables, Line, node_slots, all_held, node_room, has_node, links_room, links_in, map_from}
 use Rattle.olr_map.proofs.Common.{node_slot, option_map_or, true, change_edit, changed_at, map_after, room_after, CanMake}
 use Rattle.olr_map.proofs.Common.{IsWhole, IsChangeMade, node_puts, line_puts, Made, made_by, edits_keep}
 use Rattle.std.specs.Result.{result_unwrap_or}
@@ -35,13 +35,13 @@ room_in b s =
     record { nodes = node_room s; lines = λ side v. option_map_or (λ l. links_room l) (links_in side b (node_slots s) v) 0 }
 
 -- the tables after a change are tables, and the change was made
-pub record TablesMade (t : RoadMap) (b' : SlotIndex) (nodes' : NodeSlots) (lines' : LineTable)
+pub record TablesMade (t : RoadMap) (b' : SlotIndex) (nodes' : NodeSlots) (lines' : NumberTable Line)
     (c back : TableChange) : Type 0 where
   pub kept : AreTables b' (node_slots nodes') (all_held lines')
   pub made : (kept' : AreTables b' (node_slots nodes') (all_held lines'))
       → IsChangeMade t (record { index = b'; nodes = nodes'; lines = lines'; kept = kept' }) c back
 
-module _ (t : RoadMap) (b' : SlotIndex) (nodes' : NodeSlots) (lines' : LineTable) (c : TableChange) where
+module _ (t : RoadMap) (b' : SlotIndex) (nodes' : NodeSlots) (lines' : NumberTable Line) (c : TableChange) where
   abbrev M : Map
   M = tables_map t
 

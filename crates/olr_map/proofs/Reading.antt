@@ -9,7 +9,7 @@ use Rattle.std.proofs.lemmas.Map.Made.{lookup-map_values}
 use Rattle.std.specs.Ordering.{nat_cmp}
 use Rattle.olr_model.specs.Ends.{HaveSlotsApart}
 use Rattle.olr_map.proofs.Lookups.{all_get}
-use Rattle.olr_map.proofs.Blocking.{listed_found}
+use Rattle.olr_map.proofs.SlotsByNumber.{listed_found}
 use Rattle.olr_map.proofs.SlotLemmas.{holds_within}
 use Rattle.olr_map.proofs.Indexing.{id_of, place_of, entry_of, one_node}
 use Rattle.olr_map.proofs.Listing.{absent_lines}

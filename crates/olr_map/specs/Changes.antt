@@ -14,7 +14,7 @@ use Rattle.std.specs.Result.{result_unwrap_or}
 use Rattle.olr_spec.specs.Map as map
 use Rattle.olr_spec.specs.Map.{Map, has_node, start, end, edited, HasCoord}
 use Rattle.olr_map.specs.SlotIndexes.{slot_by, spare_of}
-use Rattle.olr_map.specs.LineTables.{all_held, spare_numbers}
+use Rattle.olr_map.specs.NumberTables.{all_held, spare_numbers}
 use Rattle.olr_map.specs.Linked.{lines_kept, room_kept, links_room}
 use Rattle.olr_map.specs.Columns.{node_slots, node_room}
 use Rattle.olr_map.specs.Tables.{near, sides, lines_at, map_from, node_slot, links_in}

@@ -1,15 +1,11 @@
-pub mod SetAt
-pub mod Blocked
-pub mod BlockSlots
+pub mod NumberTables
 pub mod SlotIndexes
 pub mod Linked
 pub mod Slotted
 pub mod NodeLinks
 pub mod Slabs
 pub mod Columns
-pub mod LineTables
 pub mod Tables
 pub mod EditPlans
 pub mod Changes
-pub mod Undos
 pub mod RoadMaps

@@ -17,7 +17,7 @@ impl RoadMap {
     ghost use Rattle.olr_map.specs.Changes.{tables_map, room_of, change_edit, node_puts, line_puts, node_numbers};
     ghost use Rattle.olr_map.specs.Changes.{line_numbers, HasRoomFor, HasNumbers, IsWhole, CanMake, IsReserved};
     ghost use Rattle.olr_map.specs.Changes.{IsChanged, IsChangeMade, KeepsSlots, AddsNoNode};
-    ghost use Rattle.olr_map.specs.Undos.{log_changes, dropped_nodes};
+    ghost use Rattle.olr_map.specs.RoadMaps.{log_changes, dropped_nodes};
 
     /// The slots of the nodes that a change touches and that exist before it.
     fn slots_for(&self, change: &TableChange) -> (u32, u32)
@@ -69,26 +69,6 @@ impl RoadMap {
         }
     }
 
-    /// Makes a change at these slots that is never undone, and frees what it removes. Inlined, as `make_change` is.
-    #[inline(always)]
-    fn make_for_good(&mut self, change: TableChange, slots: (u32, u32))
-        requires can { CanMake (tables_map self.old) (room_of self.old) change }
-        requires slots { AreSlots self.old.index (tables_map self.old) slots (change_edit change) }
-        requires numbers { HasNumbers self.old (node_puts change) (line_puts change) }
-        ensures { IsChanged self.old self.new change }
-    {
-        match change {
-            TableChange::PutNode(id, place, outs, ins) => self.put_node(id, place, outs, ins),
-            TableChange::MoveNode(id, place) => {
-                self.move_node(id, place, slots.0);
-            }
-            TableChange::TakeNode(id) => drop(self.take_node(id)),
-            TableChange::PutLine(id, line) => self.put_line(id, line, slots.0, slots.1),
-            TableChange::SetLine(id, line) => drop(self.set_line(id, line, slots.0, slots.1)),
-            TableChange::TakeLine(id) => drop(self.take_line(id, slots.0, slots.1)),
-        }
-    }
-
     /// Makes a change that undoes an edit, and frees what the edit added.
     fn take_back(&mut self, change: TableChange)
         requires can { CanMake (tables_map self.old) (room_of self.old) change }
@@ -96,7 +76,7 @@ impl RoadMap {
         ensures { IsChanged self.old self.new change }
     {
         let slots = self.slots_for(&change);
-        self.make_for_good(change, slots);
+        drop(self.make_change(change, slots));
     }
 
     /// Reserves capacity for what an edit adds at these slots and for its undo, in addition to the numbers of nodes and
@@ -216,7 +196,7 @@ impl RoadMap {
     {
         self.make_room(&edit, plan.slots, 0, 0)?;
         let change = self.change_for(edit, plan.nodes);
-        self.make_for_good(change, plan.slots);
+        drop(self.make_change(change, plan.slots));
         Ok(())
     }
 
@@ -283,12 +263,7 @@ impl RoadMap {
         ensures map { map_of self.new ≡ map_before self.old log }
         ensures slots { dropped_nodes log ≡ 0 → AddsNoNode self.old self.new }
     {
-        let UndoLog {
-            changes,
-            nodes: _,
-            lines: _,
-        } = log;
-        let mut changes = changes;
+        let UndoLog { mut changes, .. } = log;
         while let Some(change) = changes.pop() {
             self.take_back(change);
         }

@@ -1,7 +1,5 @@
 //! Up to four lines of a node, each with its far end, in the value itself.
-ghost use Rattle.std.specs.Prelude.{◌≡◌, ◌+◌, ◌-◌, ◌<◌, ◌≤◌, List, [], ◌∷◌, ◌++◌, length, take, insert, remove, set};
-ghost use Rattle.std.specs.Prelude.{slice_range};
-ghost use Rattle.std.specs.List.{remove_range};
+ghost use Rattle.std.specs.Prelude.{◌≡◌, ◌+◌, ◌-◌, ◌<◌, ◌≤◌, length, take, insert, remove};
 
 use olr_model::{LineEnd, LineId, NodeLines};
 
@@ -69,16 +67,6 @@ impl Inline {
         take_out(&mut self.ends, count, at);
         self.count -= 1;
     }
-
-    /// Sets another far end for the line at this position.
-    pub fn set_end(&mut self, at: usize, end: LineEnd)
-        requires { at < self.old.count }
-        ensures count { self.new.count ≡ self.old.count }
-        ensures lines { self.new.lines ≡ self.old.lines }
-        ensures ends { take self.new.count self.new.ends ≡ set (take self.old.count self.old.ends) at end }
-    {
-        self.ends[at] = end;
-    }
 }
 
 /// Inserts a value at a position among the first `count` values. The slice is longer than `count`.
@@ -89,7 +77,7 @@ fn put_in<T: Copy>(values: &mut [T], count: usize, at: usize, value: T)
     ensures put { take (count + 1) values.new ≡ insert (take count values.old) at value }
 {
     values[count] = value;
-    last_to(&mut values[..count + 1], at);
+    values[at..count + 1].rotate_right(1);
 }
 
 /// Removes the value at a position among the first `count` values.
@@ -99,24 +87,5 @@ fn take_out<T>(values: &mut [T], count: usize, at: usize)
     ensures len { length values.new ≡ length values.old }
     ensures taken { take (count - 1) values.new ≡ remove (take count values.old) at }
 {
-    move_to_end(&mut values[..count], at, at + 1);
-}
-
-/// Moves the last value to a position, and the values from that position on one further.
-fn last_to<T>(values: &mut [T], at: usize)
-    requires { at < length values.old }
-    ensures len { length values.new ≡ length values.old }
-    ensures put { (front : List T) (last : T) → values.old ≡ front ++ last ∷ [] → values.new ≡ insert front at last }
-{
-    values[at..].rotate_right(1);
-}
-
-/// Moves the values from `start` up to `end` to the end of the slice.
-fn move_to_end<T>(values: &mut [T], start: usize, end: usize)
-    requires start_le_end { start ≤ end }
-    requires in_bounds { end ≤ length values.old }
-    ensures len { length values.new ≡ length values.old }
-    ensures moved { values.new ≡ remove_range values.old start end ++ slice_range values.old start end }
-{
-    values[start..].rotate_left(end - start);
+    values[at..count].rotate_left(1);
 }

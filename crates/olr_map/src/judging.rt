@@ -1,11 +1,11 @@
 //! Why a map rejects an edit, or what the edit touches, for every `MapRead`.
 ghost use Rattle.std.specs.Prelude.{◌≡◌, Some, None, Err, false, IsOk, IfOk, MatchResult};
 ghost use Rattle.std.specs.FinMap.{get};
-ghost use Rattle.olr_spec.specs.Map.{edited, Drop_node, Add_line, Set_line};
+ghost use Rattle.olr_spec.specs.Map.{edited, Drop_node, Add_line};
 ghost use Rattle.olr_model.specs.Edits.{edit_of, edit_fault_of};
 ghost use Rattle.olr_map.specs.EditPlans.{IsEditPlan};
 
-use olr_model::{Edit, EditFault, Line, LineId, MapRead, NodeId, Shape, has_good_fields};
+use olr_model::{Edit, EditFault, Line, LineId, MapRead, NodeId, has_good_fields};
 
 /// What an edit touches on a map that accepts it.
 #[derive(Clone, Copy)]
@@ -51,7 +51,14 @@ pub fn judge<M: MapRead>(map: &M, edit: &Edit) -> Result<EditPlan, EditFault>
             fow,
             len,
             shape,
-        } => judge_line_set(map, *id, *frc, *fow, *len, shape),
+        } => {
+            let was = map.line(*id).ok_or(EditFault::NoLine)?;
+            if !has_good_fields(*frc, *fow, *len, shape) {
+                return Err(EditFault::BadShape);
+            }
+            let least = was.len.min(*len);
+            Ok(line_plan(map, *id, was, least, was.len != *len))
+        }
         Edit::DropLine(id) => {
             let was = map.line(*id).ok_or(EditFault::NoLine)?;
             Ok(line_plan(map, *id, was, was.len, true))
@@ -94,26 +101,6 @@ fn judge_line_added<M: MapRead>(map: &M, id: LineId, line: &Line) -> Result<Edit
         len: line.len,
         changes_routes: true,
     })
-}
-
-/// A line can be set only if it is on the map, and if it is good afterwards.
-fn judge_line_set<M: MapRead>(
-    map: &M,
-    id: LineId,
-    frc: u8,
-    fow: u8,
-    len: u32,
-    shape: &[Shape],
-) -> Result<EditPlan, EditFault>
-    ensures fault { MatchResult (edited (M.map map.now) (Set_line id frc fow len shape.now))
-        (λ _. IsOk result) (λ f. result ≡ Err (edit_fault_of f)) }
-    ensures plan { IfOk result (IsEditPlan (M.map map.now) (M.node_slot map.now) (Set_line id frc fow len shape.now)) }
-{
-    let was = map.line(id).ok_or(EditFault::NoLine)?;
-    if !has_good_fields(frc, fow, len, shape) {
-        return Err(EditFault::BadShape);
-    }
-    Ok(line_plan(map, id, was, was.len.min(len), was.len != len))
 }
 
 /// What an edit touches that adds, moves or removes a node.

@@ -2,14 +2,12 @@
 //! of (`olr_model`) is exported under the same names.
 #![tactic(auto)]
 
-mod block;
-mod blocks;
 mod change;
 mod history;
 mod inline;
 pub mod judging;
-mod line_table;
 mod links;
+mod number_table;
 pub mod road_map;
 mod slab;
 mod slot_index;

@@ -125,7 +125,13 @@ impl Links {
     {
         match self {
             Links::Inline(inline) => inline.insert(at, id, end),
-            Links::Spilled(spilled) => spilled.insert(at, id, end),
+            Links::Spilled(spilled) => {
+                let vectors = &mut **spilled;
+                let lines: Result<_, _> = vectors.lines.insert(at, id);
+                let ends: Result<_, _> = vectors.ends.insert(at, end);
+                lines.unwrap();
+                ends.unwrap();
+            }
         }
     }
 
@@ -139,7 +145,11 @@ impl Links {
     {
         match self {
             Links::Inline(inline) => inline.remove(at),
-            Links::Spilled(spilled) => spilled.remove(at),
+            Links::Spilled(spilled) => {
+                let vectors = &mut **spilled;
+                let _ = vectors.lines.remove(at);
+                let _ = vectors.ends.remove(at);
+            }
         }
     }
 
@@ -151,40 +161,9 @@ impl Links {
         ensures room { links_room self.new ≡ links_room self.old }
     {
         match self {
-            Links::Inline(inline) => inline.set_end(at, end),
-            Links::Spilled(spilled) => {
-                spilled.ends[at] = end;
-            }
+            Links::Inline(inline) => inline.ends[at] = end,
+            Links::Spilled(spilled) => spilled.ends[at] = end,
         }
-    }
-}
-
-impl Spilled {
-    ghost use Rattle.olr_map.specs.Linked.{vectors_room};
-
-    /// Inserts a line at this position. Capacity for it is reserved.
-    fn insert(&mut self, at: usize, id: LineId, end: LineEnd)
-        requires within { at ≤ length self.old.lines.items }
-        requires room { length self.old.lines.items < vectors_room self.old }
-        ensures lines { self.new.lines.items ≡ insert self.old.lines.items at id }
-        ensures ends { self.new.ends.items ≡ insert self.old.ends.items at end }
-        ensures room { vectors_room self.new ≡ vectors_room self.old }
-    {
-        let lines: Result<_, _> = self.lines.insert(at, id);
-        let ends: Result<_, _> = self.ends.insert(at, end);
-        lines.unwrap();
-        ends.unwrap();
-    }
-
-    /// Removes the line at this position.
-    fn remove(&mut self, at: usize)
-        requires { at < length self.old.lines.items }
-        ensures lines { self.new.lines.items ≡ remove self.old.lines.items at }
-        ensures ends { self.new.ends.items ≡ remove self.old.ends.items at }
-        ensures room { vectors_room self.new ≡ vectors_room self.old }
-    {
-        let _ = self.lines.remove(at);
-        let _ = self.ends.remove(at);
     }
 }
 

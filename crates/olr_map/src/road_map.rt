@@ -1,10 +1,10 @@
 //! The road map: nodes and lines are found by hash.
 ghost use Rattle.std.specs.Prelude.{◌≡◌};
-ghost use Rattle.olr_map.specs.LineTables.{all_held};
+ghost use Rattle.olr_map.specs.NumberTables.{all_held};
 ghost use Rattle.olr_map.specs.Columns.{node_slots};
 ghost use Rattle.olr_map.specs.Tables.{AreTables, AreTables-prop};
 
-use crate::line_table::LineTable;
+use crate::number_table::NumberTable;
 use crate::slot_index::SlotIndex;
 use crate::slots::{NodeSlots, Side};
 use crate::undo::{Undo, UndoLog};
@@ -17,7 +17,7 @@ use std::alloc::Global;
 pub struct RoadMap {
     pub(crate) index: SlotIndex,
     pub(crate) nodes: NodeSlots,
-    pub(crate) lines: LineTable,
+    pub(crate) lines: NumberTable<Line>,
     pub ghost kept: { AreTables index (node_slots nodes) (all_held lines) } by { AreTables-prop index (node_slots nodes) (all_held lines) },
 }
 
@@ -106,7 +106,7 @@ impl RoadMap {
         RoadMap {
             index: SlotIndex::new(alloc),
             nodes: NodeSlots::new(alloc),
-            lines: LineTable::new(alloc),
+            lines: NumberTable::new(alloc),
         }
     }
 

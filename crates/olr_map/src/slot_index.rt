@@ -1,9 +1,8 @@
-//! Slots by number: an array for low numbers, and blocks that are found by hash for the others.
+//! Slots by number: an array for low numbers, and a table for the others.
 ghost use Rattle.std.specs.Prelude.{◌≡◌, ◌<◌, ℕ, None, length};
-ghost use Rattle.olr_map.specs.BlockSlots.{block_slot};
-ghost use Rattle.olr_map.specs.SetAt.{IsSetAt};
+ghost use Rattle.olr_map.specs.NumberTables.{held, IsSetAt};
 
-use crate::blocks::Blocks;
+use crate::number_table::NumberTable;
 use std::alloc::{AllocError, Global};
 
 /// The array may have this many numbers in any case, and `reserve` reserves capacity for as many more.
@@ -16,14 +15,14 @@ pub struct SlotIndex {
     /// For each number below its length the slot plus one, or 0.
     pub dense: Vec<u32>,
     /// The slots of the other numbers.
-    pub sparse: Blocks,
+    pub sparse: NumberTable<u32>,
     /// How many numbers have slots. It only decides how long the array may be.
     count: usize,
-    ghost apart: { (k : ℕ) → k < length dense.items → block_slot sparse k ≡ None },
+    ghost apart: { (k : ℕ) → k < length dense.items → held sparse k ≡ None },
 }
 
 impl SlotIndex {
-    ghost use Rattle.std.specs.Prelude.{◌+◌, ◌^◌, ◌≤◌, ◌↔◌, [], IsSome, IsTrue, Some, OnOk, false};
+    ghost use Rattle.std.specs.Prelude.{◌+◌, ◌^◌, ◌≤◌, ◌↔◌, [], IsSome, IsTrue, Some, OnOk};
     ghost use Rattle.olr_map.specs.SlotIndexes.{slot_by, spare_of, pairs_of};
 
     /// No slots. Does not allocate.
@@ -32,24 +31,24 @@ impl SlotIndex {
     {
         SlotIndex {
             dense: Vec::new(alloc),
-            sparse: Blocks::new(alloc),
+            sparse: NumberTable::new(alloc),
             count: 0,
         }
     }
 
     /// The slot of this number.
-    #[tactic(auto, using(crate::proofs::Blocking::slot_of_either, crate::proofs::Blocking::or_none))]
+    #[tactic(auto, using(crate::proofs::SlotsByNumber::slot_of_either, crate::proofs::SlotsByNumber::or_none))]
     pub fn get(&self, number: u32) -> Option<u32>
         ensures { result ≡ slot_by self.now number }
     {
         match self.dense.get(number as usize) {
             Some(slot) => slot.checked_sub(1),
-            None => self.sparse.get(number),
+            None => self.sparse.get(number).copied(),
         }
     }
 
     /// Reserves capacity for `additional` more numbers.
-    #[tactic(auto, using(crate::proofs::Blocking::slot_of_either))]
+    #[tactic(auto, using(crate::proofs::SlotsByNumber::slot_of_either))]
     pub fn reserve(&mut self, additional: usize) -> Result<(), AllocError>
         ensures same { (k : ℕ) → slot_by self.new k ≡ slot_by self.old k }
         ensures more { spare_of self.old ≤ spare_of self.new }
@@ -59,46 +58,27 @@ impl SlotIndex {
         self.sparse.reserve(additional)
     }
 
-    /// Makes the array longer by one number, which has no slot. Returns false, and changes nothing, if there is no capacity for
-    /// it, or the number has a slot in a block.
-    #[tactic(auto, using(crate::proofs::Blocking::lengthened))]
-    fn lengthen(&mut self) -> bool
-        ensures slots { (k : ℕ) → slot_by self.new k ≡ slot_by self.old k }
-        ensures sparse { self.new.sparse ≡ self.old.sparse }
-        ensures longer { IsTrue result → length self.new.dense.items ≡ length self.old.dense.items + 1 }
-        ensures same { result ≡ false → self.new.dense.items ≡ self.old.dense.items }
-    {
-        let next = self.dense.len();
-        if next == self.dense.capacity()
-            || next > u32::MAX as usize
-            || self.sparse.get(next as u32).is_some()
-        {
-            return false;
-        }
-        self.dense.push_reserved(0);
-        true
-    }
-
     /// Makes the array longer, up to this number, as far as it may be and has capacity. Returns whether the number is in it.
+    #[tactic(auto, using(crate::proofs::SlotsByNumber::lengthened))]
     fn cover(&mut self, number: u32) -> bool
         ensures slots { (k : ℕ) → slot_by self.new k ≡ slot_by self.old k }
         ensures sparse { self.new.sparse ≡ self.old.sparse }
         ensures covered { IsTrue result ↔ (number < length self.new.dense.items) }
     {
         let number = number as usize;
-        if number >= self.count.saturating_mul(4).max(LEAST) {
-            return number < self.dense.len();
-        }
-        while self.dense.len() <= number {
-            if !self.lengthen() {
-                return false;
+        if number < self.count.saturating_mul(4).max(LEAST) {
+            while self.dense.len() <= number
+                && self.dense.len() < self.dense.capacity()
+                && self.sparse.get(self.dense.len() as u32).is_none()
+            {
+                self.dense.push_reserved(0);
             }
         }
-        true
+        number < self.dense.len()
     }
 
     /// Stores the slot of a number that has none. Capacity for it is reserved.
-    #[tactic(auto, using(crate::proofs::Blocking::changed_there, crate::proofs::Blocking::changed_beyond))]
+    #[tactic(auto, using(crate::proofs::SlotsByNumber::changed_there, crate::proofs::SlotsByNumber::changed_beyond))]
     pub fn put(&mut self, number: u32, slot: u32)
         requires fits { slot + 1 < 2 ^ 32 }
         requires room { 0 < spare_of self.old }
@@ -114,7 +94,7 @@ impl SlotIndex {
     }
 
     /// Removes the slot of a number, and returns it.
-    #[tactic(auto, using(crate::proofs::Blocking::slot_of_either, crate::proofs::Blocking::beyond, crate::proofs::Blocking::changed_there, crate::proofs::Blocking::changed_beyond))]
+    #[tactic(auto, using(crate::proofs::SlotsByNumber::slot_of_either, crate::proofs::SlotsByNumber::beyond, crate::proofs::SlotsByNumber::changed_there, crate::proofs::SlotsByNumber::changed_beyond))]
     pub fn take(&mut self, number: u32) -> u32
         requires { IsSome (slot_by self.old number) }
         ensures was { slot_by self.old number ≡ Some result }

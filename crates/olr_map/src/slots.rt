@@ -21,18 +21,6 @@ pub struct NodeEntry {
     pub place: Coord,
 }
 
-/// The numbers of the nodes in these slots, in the order of the slots.
-#[tactic(auto, using(crate::proofs::AllIds::ids_more))]
-fn ids_of(alloc: Global, slots: &[Option<NodeId>]) -> Result<Vec<NodeId>, AllocError>
-    ensures { IfOk result (λ ids. ids.items ≡ present slots.now) }
-{
-    let mut ids = Vec::with_capacity(alloc, slots.len())?;
-    for slot in slots {
-        push_id(&mut ids, *slot)?;
-    }
-    Ok(ids)
-}
-
 /// Appends the number of the node in a slot, if it is not free.
 fn push_id(ids: &mut Vec<NodeId>, slot: Option<NodeId>) -> Result<(), AllocError>
     ensures { OnOk result (ids.new.items ≡ ids.old.items ++ present (slot ∷ [])) }
@@ -84,10 +72,15 @@ impl NodeSlots {
     }
 
     /// The numbers of all nodes, in the order of their slots.
+    #[tactic(auto, using(crate::proofs::AllIds::ids_more))]
     pub fn ids(&self, alloc: Global) -> Result<Vec<NodeId>, AllocError>
         ensures { IfOk result (λ ids. ids.items ≡ present (slots_of self.now.ids)) }
     {
-        ids_of(alloc, &self.ids.entries)
+        let mut ids = Vec::with_capacity(alloc, self.ids.entries.len())?;
+        for slot in &self.ids.entries {
+            push_id(&mut ids, *slot)?;
+        }
+        Ok(ids)
     }
 
     /// The number of the node in a slot. None if the slot is free, or if there is no such slot.

@@ -26,7 +26,7 @@ impl RoadMap {
     ghost use Rattle.olr_spec.specs.Coordinates.{Coord as Place};
     ghost use Rattle.olr_spec.specs.Map.{has_node, has_line, start, end, lines_out};
     ghost use Rattle.olr_map.specs.SlotIndexes.{slot_by, spare_of};
-    ghost use Rattle.olr_map.specs.LineTables.{spare_numbers};
+    ghost use Rattle.olr_map.specs.NumberTables.{spare_numbers};
     ghost use Rattle.olr_map.specs.Tables.{lines_at};
     ghost use Rattle.olr_map.specs.Changes.{tables_map, room_of, room_at, node_puts, line_puts, IsReserved};
     ghost use Rattle.olr_map.specs.Changes.{HasNumbers, CanMake, IsChangeMade};

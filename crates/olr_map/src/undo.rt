@@ -27,7 +27,7 @@ impl UndoLog {
     ghost use Rattle.std.specs.Prelude.{◌<◌, ◌+◌, ◌∷◌, ◌↔◌, [], OnOk, IsTrue};
     ghost use Rattle.std.specs.Vec.{vec_capacity};
     ghost use Rattle.olr_map.specs.Changes.{node_puts, line_puts};
-    ghost use Rattle.olr_map.specs.Undos.{log_changes, dropped_nodes};
+    ghost use Rattle.olr_map.specs.RoadMaps.{log_changes, dropped_nodes};
 
     /// A log of no edits. Does not allocate.
     pub fn new(alloc: Global) -> UndoLog

@@ -27,7 +27,7 @@ pub use Rattle.olr_commands.specs.declared.fault.CommandFault.{CommandFault}
 pub use Rattle.olr_commands.specs.declared.reply.Reply.{Reply}
 pub use Rattle.olr_map.specs.Changes.{AddsNoNode, KeepsSlots, all_line_puts, all_node_puts, room_of}
 pub use Rattle.olr_map.specs.RoadMaps.{CanUndoAll, map_before, map_of, slot_of}
-pub use Rattle.olr_map.specs.Undos.{CanMakeAll, dropped_nodes, log_changes, made_all}
+pub use Rattle.olr_map.specs.RoadMaps.{CanMakeAll, dropped_nodes, log_changes, made_all}
 pub use Rattle.olr_map.specs.declared.road_map.RoadMap.{RoadMap}
 pub use Rattle.olr_model.specs.Edits.{edit_fault_of, edit_of}
 pub use Rattle.olr_paths.proofs.Alls.{all_more, at_position}

@@ -277,13 +277,6 @@ impl Dijkstra {
         Ok(nodes)
     }
 
-    /// Whether `other`, as seen from where it ends, is not `line`, and leads there within a length in decimetres.
-    fn is_other(&self, line: LineId, other: LineId, end: &LineEnd, length: u32) -> bool
-        ensures { IsTrue result ↔ ((other ≢ line) × (label_of self.now.frontier end.now.slot + end.now.len ≤ length)) }
-    {
-        other != line && end.len <= length && self.frontier.label(end.slot) <= length - end.len
-    }
-
     /// Whether none of the lines that enter a node but this one leads there within a length in decimetres.
     fn is_only_predecessor(
         &self,
@@ -297,7 +290,10 @@ impl Dijkstra {
             → (IsTrue result ↔ IsOnlyPredecessor M node_slot self.now.frontier line v within) }
     {
         for (index, end) in ends.iter().enumerate() {
-            if self.is_other(line, lines[index], end, within) {
+            if lines[index] != line
+                && end.len <= within
+                && self.frontier.label(end.slot) <= within - end.len
+            {
                 return false;
             }
         }

@@ -64,10 +64,7 @@ impl Frontier {
     pub fn label(&self, slot: u32) -> u32
         ensures { result ≡ label_of self.now slot }
     {
-        match self.table.get(slot as usize) {
-            None => UNREACHED,
-            Some(label) => *label,
-        }
+        self.table.get(slot as usize).copied().unwrap_or(UNREACHED)
     }
 
     /// The slots of the labelled nodes, each once.

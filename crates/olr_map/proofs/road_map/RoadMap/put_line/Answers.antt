@@ -1,8 +1,7 @@
-use Rattle.olr_map.proofs.Common.{tables_map, refl, ap, ◌∙◌, node_slots, held, PutLine, TakeLine, Out, In, Some}
+use Rattle.olr_map.proofs.Common.{refl, ap, ◌∙◌, node_slots, PutLine, TakeLine, Out, In, Some}
 use Rattle.olr_map.proofs.Indexing.{relisted}
 use Rattle.olr_map.proofs.LineChanges.{can_put, line_put}
-use Rattle.olr_map.proofs.Making.{made_as, TablesMade}
-use Rattle.olr_map.proofs.Reading.{line_missing}
+use Rattle.olr_map.proofs.Making.{TablesMade}
 use Rattle.olr_map.proofs.road_map.RoadMap.put_line.Goals as goal
 
 pub put_end-requires : goal.put_end-requires
@@ -18,12 +17,6 @@ put_end-requires-2 c =
     relisted t.index (node_slots t.nodes) t.kept.indexed _ Out c.args.from _ c.put_end.ensures.turns c.requires.begin in
     can_put t (node_slots c.put_end.new.self) r.indexed In (r.now In) c.args.line.to c.args.to c.args.id c.requires.end
     (λ _. c.requires.can.fits In)
-
-pub put-requires-clause-absent : goal.put-requires-clause-absent
-put-requires-clause-absent c =
-    ap (held c.args.self.now.lines) c.number.ensures.same
-    ∙ line_missing c.args.self.now c.args.id (made_as (tables_map c.args.self.now)
-    (PutLine c.args.id c.args.line) c.requires.can.accepted).0
 
 all : (c : goal.After-put) → TablesMade c.args.self.now c.args.self.now.index c.put_end-2.new.self c.put.new.self
     (PutLine c.args.id c.args.line) (TakeLine c.args.id)

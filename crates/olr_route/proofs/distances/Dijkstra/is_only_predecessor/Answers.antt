@@ -3,8 +3,8 @@ use Rattle.olr_route.proofs.ReadLemmas.{found_at}
 use Rattle.olr_route.proofs.WayLemmas.{entry_is, as_many}
 use Rattle.olr_route.proofs.distances.Dijkstra.is_only_predecessor.Goals as goal
 
-pub returns-then-is_other : goal.returns-then-is_other
-returns-then-is_other c = λ M slot v lines ends.
+pub returns-then-label-within : goal.returns-then-label-within
+returns-then-label-within c = λ M slot v lines ends.
     let e = entry_is M slot Against v _ _ lines ends c.loop-index.index c.loop-index-test.true in
     grind (arith, get_or_default_zero, label_of)
 

@@ -1,5 +1,0 @@
-use Rattle.olr_map.proofs.Common.{◌≡◌, take, present}
-use Rattle.olr_map.proofs.slots.ids_of.Given as goal
-
-abbrev pub invariant-loop-slot : goal.invariant-loop-slot
-invariant-loop-slot l = l.ids.items ≡ present (take l.slot-index l.slots)
