@@ -10,12 +10,6 @@ use Rattle.olr_ambiguity.proofs.Lists.{close, rival_known}
 in_window : (p : ℤ × ℤ) (c d : Coord) (w : Window) → IsWindow p c w → IsFalse (is_farther usual_slack p c d) → IsTrue (is_in w d)
 in_window p c d w h near = grind (arith, h.rows d near, h.columns d near, le-leb, and_from)
 
--- a coordinate in one of the windows so far, which are in the hull, or in the next one
-pub in_next : (ws : List Window) (k : ℕ) (w hull : Window) (d : Coord) → k < length ws → w ≡ get_or ws k w →
-    (IsTrue (list_any (λ u. is_in u d) (take k ws)) → IsTrue (is_in hull d)) →
-    IsTrue (list_any (λ u. is_in u d) (take (k + 1) ws)) → IsTrue (is_in hull d) ⊎ IsTrue (is_in w d)
-in_next ws k w hull d lt at inside h = grind (arith, or_cases, list_any_more (λ (u : Window). is_in u d) ws k w lt)
-
 module _ (M : Map) (ids : List (Option ℕ)) (places : List Coord) (beside : length ids ≡ length places) (nodes : AreNodes M ids places) where
   pub in_slot : (k v : ℕ) → slice_get ids k ≡ Some (Some v) → IsTrue (has_node M v)
   in_slot k v at =
