@@ -1,6 +1,6 @@
 -- Index entries that are added and removed one by one, and results to be stored at positions.
 use Rattle.olr_paths.proofs.Common.{option_to_list, CoverageQuery, All-contains, ArePublished, set_value_at, LackQueries}
-use Rattle.olr_paths.proofs.Common.{path_ids_of, option_map, NamedNoted, IsNoted, keys_by, named_keys, AreNotedAt, map-append}
+use Rattle.olr_paths.proofs.Common.{path_ids_of, option_map, IsNoted, keys_by, named_keys, AreNotedAt, map-append}
 use Rattle.olr_paths.proofs.Common.{AreEncoded, nat_tests, slice_get, Published, NamedPath, values_of, Contains, AddsOnly}
 use Rattle.olr_paths.proofs.Common.{ChangesOnly, BeginsIn, PathList, made_of, made_of_named, all_put, puts_of, length, get_or}
 use Rattle.olr_paths.proofs.Common.{IsTrue, Option, Begins, Finder, String, Global, subst, arith, holds, Index, Grows, items}
@@ -8,7 +8,7 @@ use Rattle.olr_paths.proofs.Common.{◌==◌, List, ◌||◌, ◌&&◌, [], take
 use Rattle.olr_paths.proofs.Common.{◌+◌, ◌<◌, not, All, suc, ◌∷◌, sym, ◌∙◌, has, ◌≤◌, Put, put, ap, Rc, ℕ}
 use Rattle.olr_paths.proofs.Alls.{all_more, at_position}
 use Rattle.olr_paths.proofs.NamedEntries.{Entries, item_of, items_of, item_at}
-use Rattle.olr_paths.proofs.PathIdLemmas.{noted_grown}
+use Rattle.olr_paths.proofs.PathIdLemmas.{NamedNoted, noted_grown}
 
 -- after this many of the numbers
 pub record Noted {A : Type 0} (number : A → ℕ) (path_id : ℕ) (old now : Index) (xs : List A) : Type 0 where

@@ -1,7 +1,8 @@
 //! A list of named paths, in order.
 ghost use Rattle.std.specs.Prelude.{◌≡◌, IfOk, option_map, ◌≢◌, ◌<◌, ℕ, None, length, get_or, IsFalse};
 ghost use Rattle.std.specs.List.Sorted.{IsStrictlyIncreasing};
-ghost use Rattle.olr_paths.specs.Finders.{AreNoted, AreNoted-prop, ArePublished, ArePublished-prop};
+ghost use Rattle.std.proofs.Props.{props};
+ghost use Rattle.olr_paths.specs.Finders.{AreNoted, ArePublished};
 
 use crate::finder::Finder;
 use crate::keys::Keys;
@@ -76,8 +77,8 @@ pub struct PathList {
     pub held: bool,
     ghost long: { length path_ids.items ≡ length paths.entries },
     ghost ascend: { IsStrictlyIncreasing path_ids.items },
-    ghost noted: { AreNoted paths.entries path_ids.items finder } by { AreNoted-prop paths.entries path_ids.items finder },
-    ghost encoded: { IsFalse held → ArePublished paths.entries } by { ArePublished-prop held paths.entries },
+    ghost noted: { AreNoted paths.entries path_ids.items finder } by { Prim.hlevel props },
+    ghost encoded: { IsFalse held → ArePublished paths.entries } by { Prim.hlevel props },
 }
 
 // Written out: a derived drop is proved again in each crate that ends a list.
@@ -112,15 +113,6 @@ impl PathList {
             finder: Finder::new(alloc),
             held: false,
         }
-    }
-
-    /// The list without paths, to be filled without index entries. Takes no memory.
-    pub(crate) fn unindexed(alloc: Global) -> PathList
-        ensures { items result ≡ [] }
-    {
-        let mut list = PathList::new(alloc);
-        list.finder.indexed = false;
-        list
     }
 
     /// The number of paths. No name occurs twice.

@@ -1,7 +1,7 @@
 use Rattle.olr_paths.proofs.Common.{◌≢◌, ℕ, None, List, ◌∙◌, ◌++◌, ◌∷◌, [], arith, ap, map-append, string_eq, insert_entry}
-use Rattle.olr_paths.proofs.Common.{NamedNoted, IsNoted, subst, length_push, ascends_push}
+use Rattle.olr_paths.proofs.Common.{IsNoted, subst, length_push, ascends_push}
 use Rattle.olr_paths.proofs.NamedEntries.{Entries, item_of}
-use Rattle.olr_paths.proofs.PathIdLemmas.{insert_last, noted_below, each_push}
+use Rattle.olr_paths.proofs.PathIdLemmas.{NamedNoted, insert_last, noted_below, each_push}
 use Rattle.olr_paths.proofs.path_list.PathList.push.Goals as goal
 
 pub returns-clause-ok : goal.returns-clause-ok
