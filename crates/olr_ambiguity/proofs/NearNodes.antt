@@ -1,8 +1,8 @@
 -- The nodes in the windows of a reference's LRPs.
-use Rattle.olr_ambiguity.proofs.Common.{◌≡◌, ◌∙◌, ◌+◌, ◌⊎◌, or_cases, take, ◌<◌, subst, ℕ, ℤ, List, Option, Some, sym, ap}
+use Rattle.olr_ambiguity.proofs.Common.{◌≡◌, ◌∙◌, ◌<◌, subst, ℕ, ℤ, List, Option, Some, sym, ap}
 use Rattle.olr_ambiguity.proofs.Common.{slice_get, length, unwrap_or, Contains, IsTrue, IsFalse, le-leb, get_or, list_any_at}
 use Rattle.olr_ambiguity.proofs.Common.{is_some, Coord, Map, IsMap, Reference, coord_at, has_node, leg, coordinate_on, no_coord}
-use Rattle.olr_ambiguity.proofs.Common.{arith, and_from, slice_get-get_or, slice_get_within, list_any_more, get, list_any}
+use Rattle.olr_ambiguity.proofs.Common.{arith, and_from, slice_get-get_or, slice_get_within, get, list_any}
 use Rattle.olr_ambiguity.proofs.Common.{some_of, decoded_coord, is_farther, is_rival, side_at, usual_slack, Window, AreNodes}
 use Rattle.olr_ambiguity.proofs.Common.{AreWindows, IsWindow, is_in}
 use Rattle.olr_ambiguity.proofs.Lists.{close, rival_known}

@@ -1,5 +1,5 @@
 //! The nodes of a map by the cell of a grid in which they are.
-ghost use Rattle.std.specs.Prelude.{◌≡◌, ◌≤◌, ◌<◌, ◌*◌, ◌^◌, ◌-ℤ◌, ℤ, nat_abs, length, All, Contains, IfOk, IsTrue};
+ghost use Rattle.std.specs.Prelude.{◌≡◌, ◌≤◌, ◌<◌, ◌*◌, ◌^◌, ◌-ℤ◌, ℤ, nat_abs, All, Contains, IfOk, IsTrue};
 ghost use Rattle.std.specs.List.Sorted.{IsNonDecreasingBy};
 ghost use Rattle.olr_spec.specs.Ambiguity.{all_nodes};
 ghost use Rattle.olr_spec.specs.Map.{has_node};

@@ -3,7 +3,7 @@ ghost use Rattle.std.specs.Prelude.{◌≡◌, List, [], ◌∷◌, ◌++◌, ma
 ghost use Rattle.std.specs.Prelude.{OnErr};
 ghost use Rattle.olr_commands.specs.State.{NamesDiffer, path_named};
 ghost use Rattle.olr_paths.specs.Items.{Item, items, item_of, all_named};
-ghost use Rattle.olr_paths.specs.Overlaid.{RemovesNone, changes_in, overlay_changes, change_at, drops, under_change};
+ghost use Rattle.olr_paths.specs.Overlaid.{RemovesNone, changes_in, overlay_changes, change_at, under_change};
 ghost use Rattle.olr_paths.specs.Overlaid.{under_changes, under_overlay};
 
 use crate::path_list::{NamedPath, PathList};

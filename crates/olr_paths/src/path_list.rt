@@ -1,5 +1,5 @@
 //! A list of named paths, in order.
-ghost use Rattle.std.specs.Prelude.{◌≡◌, IfOk, option_map, ◌≢◌, ◌<◌, ℕ, None, length, get_or, IsFalse};
+ghost use Rattle.std.specs.Prelude.{◌≡◌, IfOk, option_map, ◌<◌, ℕ, None, length, get_or, IsFalse};
 ghost use Rattle.std.specs.List.Sorted.{IsStrictlyIncreasing};
 ghost use Rattle.std.proofs.Props.{props};
 ghost use Rattle.olr_paths.specs.Finders.{AreNoted, ArePublished};
@@ -225,7 +225,7 @@ impl PathList {
         self.paths.reserve(1)?;
         self.path_ids.reserve(1)?;
         self.finder.replace(path_id, Keys::none(), named.keys())?;
-        self.held = is_held(self.held, &named);
+        self.held = self.held || named.published.is_none();
         match self.paths.insert(name, named) {
             Ok(_) => (),
             Err(_) => unreachable!(),
@@ -253,7 +253,7 @@ impl PathList {
         };
         let path_id = self.path_ids[position];
         self.finder.replace(path_id, current.keys(), named.keys())?;
-        self.held = is_held(self.held, &named);
+        self.held = self.held || named.published.is_none();
         let place = self.paths.get_index_mut(position).unwrap();
         *place = named;
         Ok(())
@@ -267,13 +267,6 @@ impl PathList {
     {
         self.held = false;
     }
-}
-
-/// Whether there may be a path that is not encoded yet, when this one is added.
-fn is_held(held: bool, named: &NamedPath) -> bool
-    ensures { IsFalse result → IsFalse held × (named.now.published ≢ None) }
-{
-    held || named.published.is_none()
 }
 
 /// The id for one more path, greater than all others.

@@ -1,5 +1,4 @@
-use Rattle.olr_ambiguity.proofs.Common.{◌≡◌, ◌∙◌, ◌++◌, sym, get_or, get_or_from_slice_get, arith, decoded_coord}
-use Rattle.olr_ambiguity.proofs.Common.{obstacles_at, side_at, side_of, place_of}
+use Rattle.olr_ambiguity.proofs.Common.{◌∙◌, ◌++◌, sym, get_or_from_slice_get, arith, obstacles_at}
 use Rattle.olr_ambiguity.proofs.Lists.{one_more, numbered}
 use Rattle.olr_ambiguity.proofs.finding.obstacles_by.Goals as goal
 
