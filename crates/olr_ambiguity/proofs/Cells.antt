@@ -1,8 +1,13 @@
 -- The nodes of a range of cells, and of a window.
-use Rattle.olr_ambiguity.proofs.Common.{◌≡◌, length, get_or, IsTrue, arith, Placed, Window, Starts, cell_at, IsWindow, AreAdded}
+use Rattle.olr_ambiguity.proofs.Common.{◌≡◌, length, get_or, IsTrue, arith, Placed, Window, cell_at, IsWindow, AreAdded, nat_lt, true, false}
 use Rattle.olr_ambiguity.proofs.Common.{ℕ, ◌+◌, ◌-◌, ◌<◌, ◌≤◌, inl, inr, ℤ, Bool, List, take, drop, ◌∙◌, subst, Map, Coord}
 use Rattle.olr_ambiguity.proofs.Common.{Contains, ap, cases_lt, ltb-true, ltb-false, coord_at, cells_from, lowest_lat, IsGridOf}
 use Rattle.olr_ambiguity.proofs.Common.{IsFalse, get_or-drop, get_or-take, length-drop, length-take-le, is_farther, usual_slack}
+use Rattle.std.specs.List.Sorted.{IsPartitionPoint}
+
+-- the position of the first element in the cell `first` or a later one
+abbrev pub Starts : List Placed → ℕ → ℕ → Type 0
+Starts es first i = IsPartitionPoint (λ e. nat_lt e.cell first ≡ true) (λ e. nat_lt e.cell first ≡ false) es i
 
 -- an element whose cell is within is between the two positions
 between : (es : List Placed) (first end i j k : ℕ) (e : Placed) → Starts es first i → Starts es end j → k < length es →

@@ -1,5 +1,5 @@
 -- The names that most proofs of olr_ambiguity cite, passed on from one place. Declares nothing.
-pub use Rattle.olr_ambiguity.specs.Grids.{AreAdded, AreNodes, ArePlaced, AreWindows, IsGridOf, IsWindow, Starts, cell_at}
+pub use Rattle.olr_ambiguity.specs.Grids.{AreAdded, AreNodes, ArePlaced, AreWindows, IsGridOf, IsWindow, cell_at}
 pub use Rattle.olr_ambiguity.specs.Grids.{cell_of, cells_from, is_in, lowest_lat, part_above}
 pub use Rattle.olr_ambiguity.specs.OwnLines.{side_of}
 pub use Rattle.olr_ambiguity.specs.Places.{place_of}

@@ -1,20 +1,14 @@
 -- The nodes in the windows of a reference's LRPs.
-use Rattle.olr_ambiguity.proofs.Common.{◌≡◌, ◌∙◌, ◌+◌, ◌⊎◌, or_cases, take, ◌<◌, subst, ℕ, ℤ, List, Option, Some, sym, ap}
+use Rattle.olr_ambiguity.proofs.Common.{◌≡◌, ◌∙◌, ◌<◌, subst, ℕ, ℤ, List, Option, Some, sym, ap}
 use Rattle.olr_ambiguity.proofs.Common.{slice_get, length, unwrap_or, Contains, IsTrue, IsFalse, le-leb, get_or, list_any_at}
 use Rattle.olr_ambiguity.proofs.Common.{is_some, Coord, Map, IsMap, Reference, coord_at, has_node, leg, coordinate_on, no_coord}
-use Rattle.olr_ambiguity.proofs.Common.{arith, and_from, slice_get-get_or, slice_get_within, list_any_more, get, list_any}
+use Rattle.olr_ambiguity.proofs.Common.{arith, and_from, slice_get-get_or, slice_get_within, get, list_any}
 use Rattle.olr_ambiguity.proofs.Common.{some_of, decoded_coord, is_farther, is_rival, side_at, usual_slack, Window, AreNodes}
 use Rattle.olr_ambiguity.proofs.Common.{AreWindows, IsWindow, is_in}
 use Rattle.olr_ambiguity.proofs.Lists.{close, rival_known}
 
 in_window : (p : ℤ × ℤ) (c d : Coord) (w : Window) → IsWindow p c w → IsFalse (is_farther usual_slack p c d) → IsTrue (is_in w d)
 in_window p c d w h near = grind (arith, h.rows d near, h.columns d near, le-leb, and_from)
-
--- a coordinate in one of the windows so far, which are in the hull, or in the next one
-pub in_next : (ws : List Window) (k : ℕ) (w hull : Window) (d : Coord) → k < length ws → w ≡ get_or ws k w →
-    (IsTrue (list_any (λ u. is_in u d) (take k ws)) → IsTrue (is_in hull d)) →
-    IsTrue (list_any (λ u. is_in u d) (take (k + 1) ws)) → IsTrue (is_in hull d) ⊎ IsTrue (is_in w d)
-in_next ws k w hull d lt at inside h = grind (arith, or_cases, list_any_more (λ (u : Window). is_in u d) ws k w lt)
 
 module _ (M : Map) (ids : List (Option ℕ)) (places : List Coord) (beside : length ids ≡ length places) (nodes : AreNodes M ids places) where
   pub in_slot : (k v : ℕ) → slice_get ids k ≡ Some (Some v) → IsTrue (has_node M v)

@@ -4,16 +4,15 @@
 --     ArePlaced M es      each is a node of the map, with its coordinate and its cell
 --     IsGridOf M F es, IsGrid M es      among them each of the nodes F, in ascending order of cells; of all nodes
 --     HasRivals M s p x es      a grid with each rival of line x at an LRP that is decoded as p
---     Starts es first i      where the cells from the first on start
 --     AreAdded rival es old new      those of these nodes that are rivals were added
 --     IsWindow p c w      each node that isn't farther from p than one at c, by more than the slack, is in these rows and columns
 --     is_in w c      a coordinate's cell is in these rows and columns
 --     AreWindows M r xs ws      those of the lines xs at the LRPs of r
 --     AreNodes M ids places      the nodes in their slots, and beside each its coordinate
-use Rattle.std.specs.Prelude.{◌≡◌, ℕ, ◌+◌, ◌*◌, ◌/◌, ◌≤◌, min, ℤ, pos, negsuc, ◌-ℤ◌, neg_ℤ, Bool, true, false, nat_lt, nat_le, ◌&&◌, List, Contains, ◌⊎◌, ◌↔◌, IsTrue, IsFalse}
+use Rattle.std.specs.Prelude.{◌≡◌, ℕ, ◌+◌, ◌*◌, ◌/◌, ◌≤◌, min, ℤ, pos, negsuc, ◌-ℤ◌, neg_ℤ, Bool, nat_le, ◌&&◌, List, Contains, ◌⊎◌, ◌↔◌, IsTrue, IsFalse}
 use Rattle.std.specs.Prelude.{Option, Some, slice_get}
 use Rattle.std.specs.FinMap.{get}
-use Rattle.std.specs.List.Sorted.{IsNonDecreasingBy, IsPartitionPoint}
+use Rattle.std.specs.List.Sorted.{IsNonDecreasingBy}
 use Rattle.olr_spec.specs.Coordinates.{Coord}
 use Rattle.olr_spec.specs.Map.{Map, has_node, coord_at}
 use Rattle.olr_spec.specs.Reference.{Reference, leg}
@@ -21,10 +20,6 @@ use Rattle.olr_spec.specs.Receiver.{Side, coordinate_on, decoded_coord}
 use Rattle.olr_spec.specs.Ambiguity.{is_farther, is_rival, side_at, usual_slack}
 use Rattle.olr_ambiguity.specs.declared.grid.Placed.{Placed}
 use Rattle.olr_ambiguity.specs.declared.rivals.Window.{Window}
-
--- 23 m of latitude, in units
-abbrev pub cell_size : ℕ
-cell_size = 67108864
 
 -- the number of cells in a row, and the last row and column
 abbrev pub columns : ℕ
@@ -37,8 +32,9 @@ abbrev pub part_above : ℤ → ℕ
 part_above (pos n) = n
 part_above (negsuc n) = 0
 
+-- a cell is 67,108,864 units wide, 23 m of latitude
 abbrev pub cells_from : ℤ → ℤ → ℕ
-cells_from low z = min (part_above (z -ℤ low) / cell_size) last_cell
+cells_from low z = min (part_above (z -ℤ low) / 67108864) last_cell
 
 abbrev pub lowest_lat : ℤ
 lowest_lat = neg_ℤ (pos 29491200000000)
@@ -66,10 +62,6 @@ IsGrid M es = IsGridOf M (λ v. IsTrue (has_node M v)) es
 
 abbrev pub HasRivals : Map → Side → ℤ × ℤ → ℕ → List Placed → Type 0
 HasRivals M s p x es = IsGridOf M (λ v. IsTrue (is_rival M s p x v)) es
-
--- the position of the first element in the cell `first` or a later one
-abbrev pub Starts : List Placed → ℕ → ℕ → Type 0
-Starts es first i = IsPartitionPoint (λ e. nat_lt e.cell first ≡ true) (λ e. nat_lt e.cell first ≡ false) es i
 
 pub record IsWindow (p : ℤ × ℤ) (c : Coord) (w : Window) : Type 0 where
   pub rows : (d : Coord) → IsFalse (is_farther usual_slack p c d) →

@@ -2,7 +2,7 @@
 --     place_of p      a decoded coordinate as that of the specification
 --     IsPlaced p      so near to the map that no product exceeds 128 bits
 use Rattle.std.specs.Prelude.{◌^◌, ◌≤◌, ℤ, nat_abs}
-use Rattle.olr_ambiguity.specs.declared.decoded.DecodedPlace.{DecodedPlace}
+use Rattle.olr_ambiguity.specs.declared.measures.DecodedPlace.{DecodedPlace}
 
 abbrev pub place_of : DecodedPlace → ℤ × ℤ
 place_of p = (p.lon, p.lat)

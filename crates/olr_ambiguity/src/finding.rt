@@ -2,7 +2,6 @@
 ghost use Rattle.std.specs.Prelude.{◌≡◌, ◌<◌, ◌++◌, ◌+◌, ℕ, Some, map as list_map, filter, length, slice_get, IfOk, OnOk, IsTrue};
 ghost use Rattle.std.specs.List.{All};
 ghost use Rattle.olr_spec.specs.Map.{has_line};
-ghost use Rattle.olr_spec.specs.Reference.{Reference};
 ghost use Rattle.olr_spec.specs.Receiver.{decoded_coord, last_number};
 ghost use Rattle.olr_spec.specs.Ambiguity.{obstacles, obstacles_at, side_at};
 ghost use Rattle.olr_answers.specs.Ambiguities.{found_of};
@@ -11,13 +10,12 @@ ghost use Rattle.olr_ambiguity.specs.Grids.{AreNodes, HasRivals, IsGrid};
 ghost use Rattle.olr_ambiguity.specs.OwnLines.{IsOwnLine, side_of};
 ghost use Rattle.olr_ambiguity.specs.Places.{place_of};
 
-use crate::decoded::place_at;
 use crate::grid::Grid;
 use crate::near::{nodes_in, windows};
-use crate::own_line::{OwnLine, Side, is_twin_of, is_unclear, lines_on, own_line};
+use crate::own_line::{OwnLine, is_twin_of, is_unclear, lines_on, own_line};
 use crate::rivals::rivals;
 use olr_answers::{Found, Obstacle};
-use olr_binary::Reference as PublishedReference;
+use olr_binary::Reference;
 use olr_coords::Coord;
 use olr_model::{LineId, MapRead, NodeId};
 use std::alloc::{AllocError, Global};
@@ -57,18 +55,6 @@ fn push_lines<M: MapRead>(
     Ok(())
 }
 
-/// Which lines are candidates at LRP k of so many.
-pub(crate) fn side_at(k: usize, count: usize) -> Side
-    requires { k < count }
-    ensures { (r : Reference) → count ≡ last_number r + 1 → side_of result ≡ side_at r k }
-{
-    if k + 1 < count {
-        Side::Outgoing
-    } else {
-        Side::Incoming
-    }
-}
-
 /// Appends the ambiguities of a path's own line at an LRP.
 fn push_at<M: MapRead>(
     alloc: Global,
@@ -99,7 +85,7 @@ fn obstacles_by<M: MapRead>(
     alloc: Global,
     map: &M,
     grid: &Grid,
-    reference: &PublishedReference,
+    reference: &Reference,
     own: &[LineId],
 ) -> Result<Vec<Found>, AllocError>
     requires grid { (k x : ℕ) → slice_get own.now k ≡ Some x
@@ -110,9 +96,7 @@ fn obstacles_by<M: MapRead>(
 {
     let mut found = Vec::new(alloc);
     for k in 0..own.len() {
-        let place = place_at(reference, k);
-        let side = side_at(k, own.len());
-        let own = own_line(map, place, side, own[k]);
+        let own = own_line(map, reference, own, k);
         push_at(alloc, &mut found, map, grid, &own, k)?;
     }
     Ok(found)
@@ -125,7 +109,7 @@ pub fn obstacles<M: MapRead>(
     alloc: Global,
     map: &M,
     grid: &Grid,
-    reference: &PublishedReference,
+    reference: &Reference,
     own: &[LineId],
 ) -> Result<Vec<Found>, AllocError>
     requires grid { IsGrid (M.map map.now) grid.now.nodes.items }
@@ -143,7 +127,7 @@ pub fn obstacles_near<M: MapRead>(
     map: &M,
     ids: &[Option<NodeId>],
     places: &[Coord],
-    reference: &PublishedReference,
+    reference: &Reference,
     own: &[LineId],
 ) -> Result<Vec<Found>, AllocError>
     requires beside { length ids.now ≡ length places.now }

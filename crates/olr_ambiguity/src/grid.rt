@@ -1,9 +1,9 @@
 //! The nodes of a map by the cell of a grid in which they are.
-ghost use Rattle.std.specs.Prelude.{◌≡◌, ◌≤◌, ◌<◌, ◌*◌, ◌^◌, ◌-ℤ◌, ℤ, nat_abs, length, All, Contains, IfOk, IsTrue};
+ghost use Rattle.std.specs.Prelude.{◌≡◌, ◌≤◌, ◌<◌, ◌*◌, ◌^◌, ◌-ℤ◌, ℤ, nat_abs, All, Contains, IfOk, IsTrue};
 ghost use Rattle.std.specs.List.Sorted.{IsNonDecreasingBy};
 ghost use Rattle.olr_spec.specs.Ambiguity.{all_nodes};
 ghost use Rattle.olr_spec.specs.Map.{has_node};
-ghost use Rattle.olr_ambiguity.specs.Grids.{IsGrid, IsGridOf, Starts, cell_at, cell_of, cells_from, last_cell};
+ghost use Rattle.olr_ambiguity.specs.Grids.{IsGrid, IsGridOf, cell_at, cell_of, cells_from, last_cell};
 
 use crate::own_line::coord_of;
 use olr_coords::Coord;
@@ -81,15 +81,6 @@ fn cell_of(place: Coord) -> u64
     cell_at(row, column)
 }
 
-/// The position of the first node whose cell is at least `first`.
-fn start_of(nodes: &[Placed], first: u64) -> usize
-    requires { IsNonDecreasingBy (λ e. e.cell) nodes.now }
-    ensures bound { result ≤ length nodes.now }
-    ensures starts { Starts nodes.now first result }
-{
-    nodes.partition_point(|node| node.cell < first)
-}
-
 impl Grid {
     /// The grid of a map, by the numbers of all its nodes in ascending order.
     pub fn new<M: MapRead>(alloc: Global, map: &M, ids: &[NodeId]) -> Result<Grid, AllocError>
@@ -122,8 +113,8 @@ impl Grid {
         ensures all { (e : Placed) → Contains self.now.nodes.items e → first ≤ e.cell → e.cell < end → Contains result.now e }
     {
         let nodes = self.nodes.as_slice();
-        let start = start_of(nodes, first);
-        let end = start_of(nodes, end);
+        let start = nodes.partition_point(|node| node.cell < first);
+        let end = nodes.partition_point(|node| node.cell < end);
         &nodes[start.min(end)..end]
     }
 }

@@ -4,7 +4,6 @@
 //! the nodes near one string.
 #![tactic(auto)]
 
-mod decoded;
 mod finding;
 mod grid;
 mod measures;

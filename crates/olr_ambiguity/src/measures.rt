@@ -4,7 +4,6 @@ ghost use Rattle.olr_spec.specs.Recovery.{lat_apart, lon_apart};
 ghost use Rattle.olr_spec.specs.Ambiguity.{cosine_up_to, is_farther, least_cosine};
 ghost use Rattle.olr_ambiguity.specs.Places.{IsPlaced, place_of};
 
-use crate::decoded::DecodedPlace;
 use olr_coords::Coord;
 
 /// A thousandth of a degree, in units.
@@ -13,6 +12,13 @@ const THOUSANDTH: u128 = 327_680_000;
 pub(crate) const ONE: u128 = 1_000_000;
 /// By how much farther a node is without its bearing mattering: 3.4 m, in units (profile).
 pub(crate) const SLACK: u128 = 10_000_000;
+
+/// A decoded longitude and latitude, in units of 1/327,680,000,000 degree.
+#[derive(Clone, Copy)]
+pub(crate) struct DecodedPlace {
+    pub lon: i128,
+    pub lat: i128,
+}
 
 /// The difference of two longitudes or latitudes.
 fn apart(decoded: i128, coordinate: i64) -> u128

@@ -6,10 +6,8 @@ ghost use Rattle.olr_spec.specs.Map.{has_line};
 ghost use Rattle.olr_spec.specs.Receiver.{last_number};
 ghost use Rattle.olr_ambiguity.specs.Grids.{AreWindows, is_in};
 
-use crate::decoded::place_at;
-use crate::finding::side_at;
-use crate::grid::{LAST_CELL, LOWEST_LAT, LOWEST_LON, cells_from};
-use crate::own_line::coordinate_on;
+use crate::grid::{LOWEST_LAT, LOWEST_LON, cells_from};
+use crate::own_line::own_line;
 use crate::rivals::{Window, window_of};
 use olr_binary::Reference;
 use olr_coords::Coord;
@@ -29,9 +27,8 @@ pub(crate) fn windows<M: MapRead>(
 {
     let mut windows = Vec::with_capacity(alloc, own.len())?;
     for k in 0..own.len() {
-        let place = place_at(reference, k);
-        let here = coordinate_on(map, side_at(k, own.len()), own[k]);
-        windows.push(window_of(place, here))?;
+        let own = own_line(map, reference, own, k);
+        windows.push(window_of(own.place, own.here))?;
     }
     Ok(windows)
 }
@@ -55,46 +52,17 @@ fn is_in_any(windows: &[Window], place: Coord) -> bool
     windows.iter().any(|window| is_in(*window, place))
 }
 
-/// A window with all cells of two windows.
-fn joined(one: Window, other: Window) -> Window
-    ensures { (c : Place) → IsTrue (is_in one c) ⊎ IsTrue (is_in other c) → IsTrue (is_in result c) }
-{
-    Window {
-        rows: (one.rows.0.min(other.rows.0), one.rows.1.max(other.rows.1)),
-        columns: (
-            one.columns.0.min(other.columns.0),
-            one.columns.1.max(other.columns.1),
-        ),
-    }
-}
-
-/// A window with all cells of these windows.
-fn hull_of(windows: &[Window]) -> Window
-    ensures { (c : Place) → IsTrue (list_any (λ w. is_in w c) windows.now) → IsTrue (is_in result c) }
-{
-    let mut hull = Window {
-        rows: (LAST_CELL, 0),
-        columns: (LAST_CELL, 0),
-    };
-    for window in windows {
-        hull = joined(hull, *window);
-    }
-    hull
-}
-
 /// Appends the node in a slot, if there is one and its coordinate is in one of these windows.
 fn push_near(
     found: &mut Vec<NodeId>,
     id: Option<NodeId>,
     place: Coord,
-    hull: Window,
     windows: &[Window],
 ) -> Result<(), AllocError>
-    requires { IsTrue (list_any (λ w. is_in w place) windows.now) → IsTrue (is_in hull place) }
     ensures { OnOk result ((v : ℕ) → Contains found.new.items v
         ↔ (Contains found.old.items v ⊎ ((id ≡ Some v) × IsTrue (list_any (λ w. is_in w place) windows.now)))) }
 {
-    if is_in(hull, place) && is_in_any(windows, place) {
+    if is_in_any(windows, place) {
         if let Some(id) = id {
             found.push(id)?;
         }
@@ -114,10 +82,9 @@ pub(crate) fn nodes_in(
     ensures whole { IfOk result (λ found. (k v : ℕ) (c : Place) → slice_get ids.now k ≡ Some (Some v) →
         slice_get places.now k ≡ Some c → IsTrue (list_any (λ w. is_in w c) windows.now) → Contains found.items v) }
 {
-    let hull = hull_of(windows);
     let mut found = Vec::new(alloc);
     for k in 0..ids.len() {
-        push_near(&mut found, ids[k], places[k], hull, windows)?;
+        push_near(&mut found, ids[k], places[k], windows)?;
     }
     Ok(found)
 }

@@ -1,21 +1,21 @@
 //! The path's own line at an LRP, and the candidates beside it.
-ghost use Rattle.std.specs.Prelude.{◌≡◌, ◌<◌, All, IsTrue};
+ghost use Rattle.std.specs.Prelude.{◌≡◌, ◌+◌, ◌<◌, All, IsTrue, Some, length, slice_get};
 ghost use Rattle.olr_spec.specs.Map.{coord_at, has_line, has_node, is_good, line_at};
 ghost use Rattle.olr_spec.specs.Reference.{leg};
-ghost use Rattle.olr_spec.specs.Receiver.{are_twins, coordinate_on, node_on, sector_on};
+ghost use Rattle.olr_spec.specs.Receiver.{are_twins, coordinate_on, decoded_coord, last_number, node_on, sector_on};
 ghost use Rattle.olr_spec.specs.Directions.{direction_on, is_beyond};
-ghost use Rattle.olr_spec.specs.Ambiguity.{is_outdone_for_all, is_twin_of, is_unclear, lines_on};
+ghost use Rattle.olr_spec.specs.Ambiguity.{is_outdone_for_all, is_twin_of, is_unclear, lines_on, side_at};
 ghost use Rattle.olr_bearing.specs.Legs.{leg_between};
 ghost use Rattle.olr_bearing.specs.Ranges.{IsPart};
 ghost use Rattle.olr_ambiguity.specs.OwnLines.{IsOwnLine, side_of};
-ghost use Rattle.olr_ambiguity.specs.Places.{IsPlaced, place_of};
+ghost use Rattle.olr_ambiguity.specs.Places.{place_of};
 
-use crate::decoded::DecodedPlace;
-use crate::measures::{SLACK, is_farther};
+use crate::measures::{DecodedPlace, SLACK, is_farther};
 use olr_bearing::{
     Direction, Ends, bearing_back, bearing_out, direction_back, direction_out, is_beyond,
     is_direction,
 };
+use olr_binary::{Reference, decoded};
 use olr_coords::Coord;
 use olr_model::{Line, LineId, MapRead, NodeId};
 
@@ -141,16 +141,31 @@ pub(crate) fn lines_on<M: MapRead>(map: &M, side: Side, node: NodeId) -> &[LineI
     }
 }
 
-/// A path's own line at an LRP that is decoded as `place`.
-pub(crate) fn own_line<M: MapRead>(map: &M, place: DecodedPlace, side: Side, id: LineId) -> OwnLine
-    requires known { IsTrue (has_line (M.map map.now) id) }
-    requires placed { IsPlaced place }
+/// A path's own line at LRP k of a reference, counted from 0; `own` are those at all LRPs.
+pub(crate) fn own_line<M: MapRead>(
+    map: &M,
+    reference: &Reference,
+    own: &[LineId],
+    k: usize,
+) -> OwnLine
+    requires known { All (λ x. IsTrue (has_line (M.map map.now) x)) own.now }
+    requires count { length own.now ≡ last_number reference.now + 1 }
+    requires within { k < length own.now }
     ensures own { IsOwnLine (M.map map.now) result }
-    ensures same { (result.id ≡ id) × (result.side ≡ side) × (result.place ≡ place) }
+    ensures id { slice_get own.now k ≡ Some result.id }
+    ensures side { side_of result.side ≡ side_at reference.now k }
+    ensures place { place_of result.place ≡ decoded_coord reference.now k }
 {
+    let (lon, lat) = decoded(reference, k).unwrap();
+    let id = own[k];
     let line = line_of(map, id);
+    let side = if k + 1 < own.len() {
+        Side::Outgoing
+    } else {
+        Side::Incoming
+    };
     OwnLine {
-        place,
+        place: DecodedPlace { lon, lat },
         side,
         id,
         node: node_on(map, side, id),

@@ -8,9 +8,8 @@ ghost use Rattle.olr_ambiguity.specs.Grids.{AreAdded, ArePlaced, HasRivals, IsWi
 ghost use Rattle.olr_ambiguity.specs.OwnLines.{IsOwnLine, side_of};
 ghost use Rattle.olr_ambiguity.specs.Places.{IsPlaced, place_of};
 
-use crate::decoded::DecodedPlace;
 use crate::grid::{Grid, LAST_CELL, LOWEST_LAT, LOWEST_LON, Placed, cell_at, cells_around};
-use crate::measures::{ONE, SLACK, cosine_up_to, is_farther, lat_apart, lon_apart};
+use crate::measures::{DecodedPlace, ONE, SLACK, cosine_up_to, is_farther, lat_apart, lon_apart};
 use crate::own_line::{OwnLine, is_outdone, lines_on};
 use olr_coords::Coord;
 use olr_model::{Footprint, LineId, MapRead, NodeId};

@@ -38,9 +38,6 @@ Whole Step s xs os t = (length os ≡ length xs) × Run Step s xs os t
 abbrev pub History : State → List Command → List Outcome → State → Type 0
 History s cs os t = Whole IsOutcome s cs os t
 
-abbrev pub AllHaveCoords : List Command → Type 0
-AllHaveCoords cs = AllByRecursion HasCoords cs
-
 -- ---- the changes that a run applies
 
 abbrev pub next_state : State → Option Command → State
@@ -136,7 +133,7 @@ pub record Headline {A : Type 0} (Step : State → A → Outcome → State → T
 -- a run of commands from the start leaves the state sound, and all five claims are true of it
 abbrev pub HeadlineOfHistories : Type 0
 HeadlineOfHistories =
-    (cs : List Command) (os : List Outcome) (t : State) → AllHaveCoords cs → History start_state cs os t
+    (cs : List Command) (os : List Outcome) (t : State) → AllByRecursion HasCoords cs → History start_state cs os t
     → IsState t × Headline IsOutcome (λ c. Some c) start_state cs os t
 
 abbrev pub RoutesOfReferences : Type 0

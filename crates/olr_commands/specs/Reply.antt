@@ -92,18 +92,6 @@ abbrev pub IsPaths : Reply → (List Entry → Type 0) → Type 0
 IsPaths (Paths es) P = P es
 IsPaths _ P = ⊥
 
-abbrev pub IsFields : Reply → (Reference → Type 0) → Type 0
-IsFields (Fields r) P = P r
-IsFields _ P = ⊥
-
-abbrev pub IsNames : Reply → (List (List ℕ) → Type 0) → Type 0
-IsNames (Names names) P = P names
-IsNames _ P = ⊥
-
-abbrev pub IsObstacles : Reply → (List NamedObstacle → Type 0) → Type 0
-IsObstacles (Obstacles found) P = P found
-IsObstacles _ P = ⊥
-
 -- the records of these changes
 abbrev pub IsRecords : Reply → List Change → Type 0
 IsRecords reply xs = reply ≡ Records (length xs) (concat (map record_line xs))
@@ -119,17 +107,18 @@ IsReply s (Show name) t reply = IsPaths reply (Shown s.content name)
 IsReply s (Show_node v) t reply = IsRecords reply (node_changes s.content.map v)
 IsReply s (Show_line x) t reply = IsRecords reply (line_changes s.content.map x)
 IsReply s Show_margin t reply = IsRecords reply (Set_margin s.content.margin ∷ [])
-IsReply s (Depends nodes) t reply = IsNames reply (Dependents s.content nodes)
+IsReply s (Depends nodes) t (Names names) = Dependents s.content nodes names
 IsReply s Report t reply = IsPaths reply (AllOf s.content.margin s.content.map s.content.paths)
 IsReply s Dump t reply =
     reply ≡ Dumped (length (dump_lines s.content)) (concat (dump_lines s.content))
 IsReply s Compact t reply = reply ≡ Paths []
-IsReply s (Ambiguous name) t reply = IsObstacles reply (AskedAmbiguities s.content name)
-IsReply s (Explain text) t reply = IsFields reply (Explained text)
+IsReply s (Ambiguous name) t (Obstacles found) = AskedAmbiguities s.content name found
+IsReply s (Explain text) t (Fields r) = Explained text r
 IsReply s Begin t reply = reply ≡ Paths []
 IsReply s Preview t reply = IsPaths reply (Differences s.content (with_held s.content s.batch))
 IsReply s (Commit count) t reply = IsPaths reply (Differences s.content t.content)
 IsReply s Abort t reply = reply ≡ Paths []
+IsReply _ _ _ _ = ⊥
 
 -- ---- outcomes
 

@@ -1,14 +1,14 @@
 -- Rust's commands, replies and faults as those of the definitions.
 --     command_of, named_obstacle_of, reply_of, command_fault_of, outcome_of
 use Rattle.std.specs.Prelude.{ℕ, List, map, Result, option_map, string_bytes}
+use Rattle.std.specs.Option.{option_map_or}
 use Rattle.std.specs.Result.{result_map_both}
-use Rattle.olr_spec.specs.Bytes.{Length, Status, Flags, Reserved}
 use Rattle.olr_spec.specs.Extension.{Path}
 use Rattle.olr_spec.specs.Map as map_faults
 use Rattle.olr_model.specs.Edits.{edit_of}
 use Rattle.olr_model.specs.declared.edit.EditFault.{EditFault}
 use Rattle.olr_model.specs.declared.edit.EditFault.TheVariants as edit
-use Rattle.olr_binary.specs.declared.faults.V3Fault.TheVariants as bytes
+use Rattle.olr_binary.specs.Faults.{bytes_fault_of}
 use Rattle.olr_binary.specs.declared.faults.TextFault.{TextFault}
 use Rattle.olr_binary.specs.declared.faults.TextFault.TheVariants as text
 use Rattle.olr_answers.specs.Answers.{refusal_of}
@@ -77,11 +77,7 @@ map_fault_of edit.BadShape = state.Map_fault map_faults.Bad_shape
 map_fault_of edit.Memory = state.Memory
 
 abbrev pub text_fault_of : TextFault → state.Fault
-text_fault_of (text.Bytes bytes.Length) = state.Not_a_reference (state.Not_v3 Length)
-text_fault_of (text.Bytes bytes.Status) = state.Not_a_reference (state.Not_v3 Status)
-text_fault_of (text.Bytes bytes.Flags) = state.Not_a_reference (state.Not_v3 Flags)
-text_fault_of (text.Bytes bytes.Reserved) = state.Not_a_reference (state.Not_v3 Reserved)
-text_fault_of (text.Bytes bytes.Memory) = state.Memory
+text_fault_of (text.Bytes f) = option_map_or (λ g. state.Not_a_reference (state.Not_v3 g)) (bytes_fault_of f) state.Memory
 text_fault_of text.NotBase64 = state.Not_a_reference state.Not_base64
 
 abbrev pub command_fault_of : CommandFault → state.Fault

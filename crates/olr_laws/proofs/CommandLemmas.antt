@@ -2,6 +2,7 @@
 -- hold of runs from the start. The question about ambiguities names the strings in whose way something stands, nothing else.
 use Rattle.std.proofs.Common.{arith, ◌≡◌, false, List, ◌++◌, Some, None, Option, IsTrue, Contains, refl, subst, IsFalse, length}
 use Rattle.std.proofs.Common.{◌≢◌, inl, inr, ℕ, [], ◌∷◌, map, not, sym, ap, ◌∙◌, Ok, Err, suc}
+use Rattle.std.specs.List.{AllByRecursion}
 use Rattle.std.proofs.lemmas.List.Elements.{Contains-append_left, Contains-append_right, Contains-append_cases}
 use Rattle.olr_commands.proofs.Common.{Map, IsMap, Path, is_path, Margin, Answer, Refused, Reference, Refusal, EncodesWith}
 use Rattle.olr_commands.proofs.Common.{one_answer_with, some_answer_with, not-false, one_decoding, bytes_decides}
@@ -30,7 +31,7 @@ use Rattle.olr_laws.specs.CommandLaws.{CommandLaws}
 use Rattle.olr_commands.specs.Counts.{Affects, By_name, CountIs, Raises}
 use Rattle.olr_commands.proofs.CountLemmas.{unconcerned}
 use Rattle.olr_commands.proofs.DumpLemmas.{dumps_lead}
-use Rattle.olr_commands.specs.History.{Run, AllHaveCoords, HeadlineOfHistories}
+use Rattle.olr_commands.specs.History.{Run, HeadlineOfHistories}
 use Rattle.olr_commands.proofs.HistoryLemmas.{start_sound, names_changed, SoundOutcome, headline_of_outcomes}
 use Rattle.std.proofs.Math.Decide.{map_dec, ℕ_discrete}
 use Rattle.olr_spec.proofs.LawOf.{LawOf}
@@ -360,7 +361,7 @@ pub outcome_keeps : (s t : State) (c : Command) (o : Outcome) → IsState s → 
 outcome_keeps s t c (Ok reply) i h p = steps_keep s t c i h p.0
 outcome_keeps s t c (Err fault) i h p = subst IsState (sym p.1) i
 
-history_keeps : (s t : State) (cs : List Command) (os : List Outcome) → IsState s → AllHaveCoords cs →
+history_keeps : (s t : State) (cs : List Command) (os : List Outcome) → IsState s → AllByRecursion HasCoords cs →
     Run IsOutcome s cs os t → IsState t × Run SoundOutcome s cs os t
 history_keeps s t cs [] i h p = (subst IsState p i, p)
 history_keeps s t [] (o ∷ os) i h p = absurd p

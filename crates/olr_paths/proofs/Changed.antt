@@ -1,14 +1,16 @@
 -- A list under changes that remove no path: position by position, and with new results stored.
 --     changed_by cs i      one path under the changes.
 --     Lies us vs      vs is us, with some paths replaced by paths that are not encoded yet
-use Rattle.olr_paths.proofs.Common.{All, All-head, All-tail, inl, inr, ◌≡◌, ◌⊎◌, ℕ, zero, suc, ◌+◌, true, false, cond, List, []}
+use Rattle.olr_paths.proofs.Common.{list_any, values_of, not, inl, inr, ◌≡◌, ◌⊎◌, ℕ, zero, suc, ◌+◌, true, false, cond, List, []}
 use Rattle.olr_paths.proofs.Common.{◌∷◌, ◌++◌, map, length, slice_get, Option, Some, None, is_some, refl, sym, ap, ◌∙◌, subst}
 use Rattle.olr_paths.proofs.Common.{arith, Path, same_name, path_named, NamesDiffer, Entry, Made, Item, all_named, Reported}
 use Rattle.olr_paths.proofs.Common.{Changes, RemovesNone, change_at, drops, under_change, under_changes, Put, put, all_put}
-use Rattle.olr_paths.proofs.Common.{string_bytes, Rc, same_is, changes_in, path_in, String, Global, without_answer, length-map}
+use Rattle.olr_paths.proofs.Common.{string_bytes, Rc, same_is, changes_in, String, Global, without_answer, length-map}
 use Rattle.std.proofs.Common.{length-append}
+use Rattle.std.proofs.lemmas.Bool.{or_parts}
+use Rattle.olr_spec.proofs.Common.{not-false}
 use Rattle.olr_paths.proofs.NamedEntries.{Entries, First, item_of, items_of, same_flip}
-use Rattle.olr_paths.proofs.Overlaying.{Entered, has_name}
+use Rattle.olr_paths.proofs.Overlaying.{Entered, has_name, path_in}
 
 -- ---- one path
 
@@ -160,17 +162,15 @@ pub change_left : (es : Entered) (e : String Global × Option (Rc Path Global)) 
     change_at (changes_in (e ∷ es)) name ≡ None
 change_left es e name none other = rw other none
 
--- if each change is a replacement, no path is removed
-abbrev pub IsOther : String Global × Option (Rc Path Global) → Type 0
-IsOther e = is_some e.1 ≡ true
-
 stays_so : (o : Option (Rc Path Global)) → is_some o ≡ true → drops (Some (path_in o)) ≡ false
 stays_so o h = grind arith
 
-pub others_remove_none : (es : Entered) → All IsOther es → RemovesNone (changes_in es)
-others_remove_none [] h name = refl
-others_remove_none (e ∷ es) h name =
-    grind (arith, stays_so e.1 (All-head IsOther e es h), others_remove_none es (All-tail IsOther e es h) name)
+-- if each change is a replacement, no path is removed
+pub none_removed : (es : Entered) → list_any (λ o. not (is_some o)) (values_of es) ≡ false → RemovesNone (changes_in es)
+none_removed [] h name = refl
+none_removed (e ∷ es) h name =
+    let parts = or_parts (not (is_some e.1)) (list_any (λ o. not (is_some o)) (values_of es)) h in
+    grind (arith, stays_so e.1 (not-false _ parts.0), none_removed es parts.1 name)
 
 -- ---- the position of a name
 

@@ -7,12 +7,12 @@ pub use Rattle.olr_commands.specs.State.{NamesDiffer, path_named, same_name}
 pub use Rattle.olr_commands.specs.Words.{entry_of}
 pub use Rattle.olr_paths.specs.Changes.{AreEncoded, LineTouched, QueryTouched, Reported, TraversedTouched, set_item}
 pub use Rattle.olr_paths.specs.Changes.{without_answer}
-pub use Rattle.olr_paths.specs.Finders.{AreNoted, AreNotedAt, ArePublished, Grows, AddsOnly, ChangesOnly, NamedNoted, IsNoted}
+pub use Rattle.olr_paths.specs.Finders.{AreNoted, AreNotedAt, ArePublished, Grows, AddsOnly, ChangesOnly, IsNoted}
 pub use Rattle.olr_paths.specs.Finders.{KeyLists, Spares, keys_by, named_keys}
 pub use Rattle.olr_paths.specs.Items.{Item, Made, all_named, answer_in, items, made_in, made_of, made_of_named, named_of}
 pub use Rattle.olr_paths.specs.Listed.{items_of}
 pub use Rattle.olr_paths.specs.Origins.{Begins, BeginsIn, BeginsPut, LackQueries}
-pub use Rattle.olr_paths.specs.Overlaid.{Changes, RemovesNone, change_at, changes_in, drops, overlay_changes, path_in}
+pub use Rattle.olr_paths.specs.Overlaid.{Changes, RemovesNone, change_at, changes_in, drops, overlay_changes}
 pub use Rattle.olr_paths.specs.Overlaid.{under_change, under_changes}
 pub use Rattle.olr_paths.specs.PathIds.{holds, path_ids_of}
 pub use Rattle.olr_paths.specs.Stored.{Put, all_put, put, puts_of}

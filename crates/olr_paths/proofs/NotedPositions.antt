@@ -1,14 +1,15 @@
 -- Index entries that are added and removed one by one, and results to be stored at positions.
 use Rattle.olr_paths.proofs.Common.{option_to_list, CoverageQuery, All-contains, ArePublished, set_value_at, LackQueries}
-use Rattle.olr_paths.proofs.Common.{path_ids_of, option_map, NamedNoted, IsNoted, keys_by, named_keys, AreNotedAt, map-append}
+use Rattle.olr_paths.proofs.Common.{path_ids_of, option_map, IsNoted, keys_by, named_keys, AreNotedAt, map-append}
 use Rattle.olr_paths.proofs.Common.{AreEncoded, nat_tests, slice_get, Published, NamedPath, values_of, Contains, AddsOnly}
 use Rattle.olr_paths.proofs.Common.{ChangesOnly, BeginsIn, PathList, made_of, made_of_named, all_put, puts_of, length, get_or}
 use Rattle.olr_paths.proofs.Common.{IsTrue, Option, Begins, Finder, String, Global, subst, arith, holds, Index, Grows, items}
 use Rattle.olr_paths.proofs.Common.{◌==◌, List, ◌||◌, ◌&&◌, [], take, zero, Some, None, refl, Item, ◌++◌, Path, Made, ◌≡◌, ◌≢◌}
+use Rattle.olr_paths.proofs.Common.{Bool, false, is_some, true≢false}
 use Rattle.olr_paths.proofs.Common.{◌+◌, ◌<◌, not, All, suc, ◌∷◌, sym, ◌∙◌, has, ◌≤◌, Put, put, ap, Rc, ℕ}
 use Rattle.olr_paths.proofs.Alls.{all_more, at_position}
 use Rattle.olr_paths.proofs.NamedEntries.{Entries, item_of, items_of, item_at}
-use Rattle.olr_paths.proofs.PathIdLemmas.{noted_grown}
+use Rattle.olr_paths.proofs.PathIdLemmas.{NamedNoted, noted_grown}
 
 -- after this many of the numbers
 pub record Noted {A : Type 0} (number : A → ℕ) (path_id : ℕ) (old now : Index) (xs : List A) : Type 0 where
@@ -66,6 +67,10 @@ pub at_more : (ms : List ℕ) (f g : Finder) (fresh : List One) (k : ℕ) (d : O
     AreNotedAt ms f (take k fresh) → NotedAt ms g (get_or fresh k d) → AreNotedAt ms g (take (k + 1) fresh)
 at_more ms f g fresh k d lt more h one =
     all_more (NotedAt ms g) fresh k d lt (at_grown ms f g (take k fresh) more h) one
+
+-- something is published, by the test
+pub is_published : (o : Option (Rc Published Global)) (b : Bool) → is_some o ≡ not b → b ≡ false → o ≢ None
+is_published o b is off gone = true≢false (sym (is ∙ ap not off) ∙ ap is_some gone)
 
 -- if each path was encoded, something is published of each
 pub all_published : (es : Entries) → AreEncoded (items_of es) → ArePublished es

@@ -1,7 +1,14 @@
 -- The coverage queries of a list in which an item was replaced, or a path was added, set or dropped.
 use Rattle.olr_paths.proofs.Common.{inl, inr, ◌≡◌, ℕ, zero, suc, ◌⊎◌, Bool, List, [], ◌∷◌, ◌++◌, map, slice_get, Option, Some}
 use Rattle.olr_paths.proofs.Common.{arith, filter, option_map, Path, CoverageQuery, Made, Item, made_of, set_item, BeginsIn}
-use Rattle.olr_paths.proofs.Common.{Begins, BeginsPut, Put, put, all_put, puts_of, NamedPath}
+use Rattle.olr_paths.proofs.Common.{Begins, BeginsPut, Put, put, all_put, puts_of, NamedPath, Near}
+use Rattle.std.specs.Prelude.{min}
+use Rattle.olr_spec.specs.Map.{Map}
+use Rattle.olr_route.specs.declared.frontier.TheConstants.{GREATEST_LIMIT}
+
+-- no query reaches one of the nodes T
+abbrev pub AreFar : Map → List ℕ → List Item → Type 0
+AreFar N T is = (l : CoverageQuery) → Begins is l → ¬ Near N T l.from (min l.within GREATEST_LIMIT)
 
 -- of one of the list's items
 pub begins_there : (is : List Item) (k : ℕ) (i : Item) (v : CoverageQuery) → slice_get is k ≡ Some i →

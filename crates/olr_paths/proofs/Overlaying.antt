@@ -2,13 +2,16 @@
 use Rattle.olr_paths.proofs.Common.{◌≡◌, ℕ, not, List, ◌∷◌, ◌++◌, map, Some, None, refl, sym, ap, ◌∙◌, Rc, Path, Item, Bool}
 use Rattle.olr_paths.proofs.Common.{append_assoc, string_bytes, insert_entry, under_changes, bytes_decides, filter-append, true}
 use Rattle.olr_paths.proofs.Common.{option_map, map-append, path_named, NamesDiffer, under_change, changes_in, append-nil}
-use Rattle.olr_paths.proofs.Common.{false, ◌&&◌, cond, [], Option, subst, arith, filter, lookup, drops, path_in, String, Global}
+use Rattle.olr_paths.proofs.Common.{false, ◌&&◌, cond, [], Option, subst, arith, filter, lookup, drops, String, Global}
 use Rattle.olr_paths.proofs.Common.{is_some, string_eq, same_name, same_is, all_named, set_item, NamedPath, Changes, change_at}
 use Rattle.olr_paths.specs.Items.{item_of}
 use Rattle.olr_paths.proofs.NamedEntries.{asks, same_flip, absent, none_filtered, sets_none}
 
 abbrev pub Entered : Type 0
 Entered = List (String Global × Option (Rc Path Global))
+
+abbrev pub path_in : Option (Rc Path Global) → Option Path
+path_in o = option_map (λ p. p.value) o
 
 abbrev pub has_name : List Item → List ℕ → Bool
 has_name is name = is_some (path_named (all_named is) name)
@@ -50,6 +53,15 @@ pub both_have : (xs ys : List Item) (name : List ℕ) →
     has_name (xs ++ ys) name ≡ cond (has_name ys name) true (has_name xs name)
 both_have [] ys name = grind arith
 both_have (x ∷ xs) ys name = grind (arith, both_have xs ys name)
+
+-- in a list under changes, or among new paths
+pub has_under : (es : Entered) (is ys : List Item) (name : List ℕ) →
+    has_name (under_changes (changes_in es) is ++ ys) name
+    ≡ cond (has_name ys name) true (cond (drops (option_map path_in (lookup (asks name) es))) false (has_name is name))
+has_under es is ys name =
+    both_have (under_changes (changes_in es) is) ys name
+    ∙ ap (cond (has_name ys name) true) (overlaid_has (changes_in es) is name
+    ∙ ap (λ (c : Option (Option Path)). cond (drops c) false (has_name is name)) (change_found es name))
 
 pub first_differ : (xs ys : List Item) → NamesDiffer (all_named (xs ++ ys)) → NamesDiffer (all_named xs)
 first_differ [] ys d = tt

@@ -2,7 +2,7 @@
 --     Each P es ms      P holds of the id and the path at each position
 use Rattle.olr_paths.proofs.Common.{get_or_from_slice_get, IsStrictlyIncreasing, IsBinarySearchResult, slice_get_within, length}
 use Rattle.olr_paths.proofs.Common.{string_bytes, length-remove, set_value_at, insert_entry, cases_order, get_or_read, KeyLists}
-use Rattle.olr_paths.proofs.Common.{NamedNoted, named_keys, has-remove, slice_get, result_ok, string_eq, NamedPath, place_not}
+use Rattle.olr_paths.proofs.Common.{named_keys, has-remove, slice_get, result_ok, string_eq, NamedPath, place_not}
 use Rattle.olr_paths.proofs.Common.{IsNoted, place_of, PathList, AreNoted, flipped, ascends, get_or, Result, remove, eq-eqb, []}
 use Rattle.olr_paths.proofs.Common.{inl, inr, ◌≡◌, ◌≢◌, suc, ◌<◌, ◌∷◌, Err, ◌-◌, ◌+◌, sym, ◌∙◌, Ok, ap, ℕ}
 use Rattle.olr_paths.proofs.Common.{Finder, String, Global, has_at, Spares, subst, arith, Grows, zero, List, ◌++◌, Some, refl}
@@ -11,6 +11,10 @@ use Rattle.std.specs.Ordering.{nat_cmp}
 use Rattle.olr_paths.proofs.NamedEntries.{Entries, item_of, items_of, absent, not_here}
 
 -- ---- the index entries of a path, as others are added and removed
+
+-- if it was encoded
+abbrev pub NamedNoted : Finder → ℕ → NamedPath → Type 0
+NamedNoted f path_id n = IsNoted f path_id (named_keys n)
 
 pub noted_grown : (f g : Finder) (m : ℕ) (k : KeyLists) → Grows f g → IsNoted f m k → IsNoted g m k
 noted_grown f g m k more h indexed =

@@ -10,9 +10,7 @@
 --     AreNotedAt path_ids f fresh      the results for positions have index entries with their path ids
 --     ArePublished es      each path was encoded
 use Rattle.std.specs.Prelude.{◌≡◌, ◌≢◌, ◌<◌, ℕ, List, [], All, Option, Some, None, length, get_or, slice_get, IsTrue}
-use Rattle.std.specs.Prelude.{IsFalse, String, Bool}
-use Rattle.std.specs.Coded.{coded_ℕ, Coded-set}
-use Rattle.std.proofs.Props.{props}
+use Rattle.std.specs.Prelude.{String}
 use Rattle.std.specs.declared.alloc.Global.{Global}
 use Rattle.std.specs.declared.rc.Rc.{Rc}
 use Rattle.olr_spec.specs.Queries.{CoverageQuery}
@@ -65,24 +63,15 @@ abbrev pub Spares : ℕ → Finder → Finder → Type 0
 Spares path_id f g = ChangesOnly path_id f.traversed g.traversed × ChangesOnly path_id f.by_query_origin g.by_query_origin
     × ChangesOnly path_id f.lines g.lines × (IsTrue g.indexed → IsTrue f.indexed)
 
--- the index entries of a path, if it was encoded
-abbrev pub NamedNoted : Finder → ℕ → NamedPath → Type 0
-NamedNoted f path_id n = IsNoted f path_id (named_keys n)
-
 abbrev pub AreNoted : List (String Global × NamedPath) → List ℕ → Finder → Type 0
 AreNoted es path_ids f =
-    (k : ℕ) (e : String Global × NamedPath) → slice_get es k ≡ Some e → NamedNoted f (get_or path_ids k 0) e.1
+    (k : ℕ) (e : String Global × NamedPath) → slice_get es k ≡ Some e →
+    IsNoted f (get_or path_ids k 0) (named_keys e.1)
 
 -- the results to be stored at positions have index entries with the ids of these
 abbrev pub AreNotedAt : List ℕ → Finder → List (ℕ × NamedPath) → Type 0
-AreNotedAt path_ids f fresh = All (λ r. r.0 < length path_ids → NamedNoted f (get_or path_ids r.0 0) r.1) fresh
+AreNotedAt path_ids f fresh =
+    All (λ r. r.0 < length path_ids → IsNoted f (get_or path_ids r.0 0) (named_keys r.1)) fresh
 
 abbrev pub ArePublished : List (String Global × NamedPath) → Type 0
 ArePublished es = (k : ℕ) (e : String Global × NamedPath) → slice_get es k ≡ Some e → e.1.published ≢ None
-
-pub AreNoted-prop : (es : List (String Global × NamedPath)) (path_ids : List ℕ) (f : Finder) →
-    IsProp (AreNoted es path_ids f)
-AreNoted-prop es path_ids f = hlevel (props, Coded-set coded_ℕ)
-
-pub ArePublished-prop : (held : Bool) (es : List (String Global × NamedPath)) → IsProp (IsFalse held → ArePublished es)
-ArePublished-prop held es = hlevel (props, Coded-set coded_ℕ)

@@ -3,7 +3,7 @@
 --     IsEncodingOf g M P m      they are the results of the path on the map, with the margin
 --     Item      a name, its path and, if it was encoded, its results.
 --     made_of_named n, item_of name n      the results of an entry of a list, if it was encoded; and its item under a name
---     items l      the items of a list
+--     items l, left it      the items of a list;  what an iterator has left: the names and the results
 --     AreEncodings g M is      each path was encoded, with results that are right on the map.
 --     AreEncodingsIfAny g M is      the same for each path that was encoded
 use Rattle.std.specs.Prelude.{◌≡◌, ℕ, List, [], ◌∷◌, map, Contains, if◌then◌else◌, Option, Some, None, option_map}
@@ -18,6 +18,7 @@ use Rattle.olr_commands.specs.State.{Named, same_name}
 use Rattle.olr_paths.specs.declared.published.Published.{Published as Encoded}
 use Rattle.olr_paths.specs.declared.path_list.NamedPath.{NamedPath}
 use Rattle.olr_paths.specs.declared.path_list.PathList.{PathList}
+use Rattle.olr_paths.specs.declared.iter.Iter.{Iter}
 
 pub record Made : Type 0 where
   pub answer : Answer
@@ -49,6 +50,9 @@ item_of name n = record { name = name; path = n.path.value; made = made_of_named
 
 abbrev pub items : PathList → List Item
 items l = map (λ e. item_of (string_bytes e.0) e.1) l.paths.entries
+
+abbrev pub left : Iter → List (List ℕ × Option Made)
+left it = map (λ e. (string_bytes e.0, made_of_named e.1)) it.entries
 
 -- ---- what is right on a map
 

@@ -1,11 +1,9 @@
 pub mod Listed
 pub mod PathIds
 pub mod Items
-pub mod Texts
 pub mod Finders
 pub mod Changes
 pub mod Stored
 pub mod Overlaid
 pub mod Views
 pub mod Origins
-pub mod Iterated

@@ -1,16 +1,12 @@
 -- The coverage queries of a list.
 --     BeginsIn made l, Begins is l      l is a query of what was made;  one of a list's
 --     BeginsPut ps l      one of those that are put at places of a list
---     AreFar N T is      no query reaches one of the nodes T
 --     farthest g, AreShort g is      the greatest length of a query with the margin, in decimetres;  no query is longer
 --     AreNewQueries ls is js      each query of the list js is one of the list is or one of ls
 --     LackQueries is      no path has a query
-use Rattle.std.specs.Prelude.{ℕ, ◌*◌, ◌≤◌, ◌==◌, List, [], ◌∷◌, Contains, Option, Some, None, ◌⊎◌, min, if◌then◌else◌}
-use Rattle.olr_spec.specs.Map.{Map}
-use Rattle.olr_route.specs.declared.frontier.TheConstants.{GREATEST_LIMIT}
+use Rattle.std.specs.Prelude.{ℕ, ◌*◌, ◌≤◌, ◌==◌, List, [], ◌∷◌, Contains, Option, Some, None, ◌⊎◌, if◌then◌else◌}
 use Rattle.olr_spec.specs.Extension.{limit}
 use Rattle.olr_spec.specs.Margins.{Margin}
-use Rattle.olr_spec.specs.Detours.{Near}
 use Rattle.olr_spec.specs.Queries.{CoverageQuery}
 use Rattle.olr_paths.specs.Items.{Made, Item}
 use Rattle.olr_paths.specs.Stored.{Put}
@@ -26,9 +22,6 @@ Begins (i ∷ is) l = BeginsIn i.made l ⊎ Begins is l
 abbrev pub BeginsPut : List Put → CoverageQuery → Type 0
 BeginsPut [] l = ⊥
 BeginsPut (p ∷ ps) l = BeginsIn p.made l ⊎ BeginsPut ps l
-
-abbrev pub AreFar : Map → List ℕ → List Item → Type 0
-AreFar N T is = (l : CoverageQuery) → Begins is l → ¬ Near N T l.from (min l.within GREATEST_LIMIT)
 
 -- a line counts at most twice its length
 abbrev pub farthest : Margin → ℕ

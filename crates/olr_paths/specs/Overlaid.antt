@@ -6,8 +6,6 @@
 --     RemovesNone cs      no path is removed
 use Rattle.std.specs.Prelude.{◌≡◌, ℕ, Bool, true, false, cond, List, [], ◌∷◌, ◌++◌, map, Option, Some, None, option_map}
 use Rattle.std.specs.Prelude.{string_bytes, String}
-use Rattle.std.specs.Coded.{coded_ℕ, Coded-set}
-use Rattle.std.proofs.Props.{props}
 use Rattle.olr_spec.specs.Extension.{Path}
 use Rattle.olr_commands.specs.State.{same_name}
 use Rattle.olr_paths.specs.Items.{Item, items}
@@ -31,9 +29,6 @@ drops None = false
 abbrev pub RemovesNone : Changes → Type 0
 RemovesNone cs = (name : List ℕ) → drops (change_at cs name) ≡ false
 
-pub RemovesNone-prop : (cs : Changes) → IsProp (RemovesNone cs)
-RemovesNone-prop cs = hlevel (props, Coded-set coded_ℕ)
-
 -- one path under its change; a replacement is not encoded yet
 abbrev pub under_change : Option (Option Path) → Item → List Item
 under_change None i = i ∷ []
@@ -44,11 +39,8 @@ abbrev pub under_changes : Changes → List Item → List Item
 under_changes cs [] = []
 under_changes cs (i ∷ is) = under_change (change_at cs i.name) i ++ under_changes cs is
 
-abbrev pub path_in : Option (Rc Path Global) → Option Path
-path_in o = option_map (λ p. p.value) o
-
 abbrev pub changes_in : List (String Global × Option (Rc Path Global)) → Changes
-changes_in es = map (λ e. (string_bytes e.0, path_in e.1)) es
+changes_in es = map (λ e. (string_bytes e.0, option_map (λ p. p.value) e.1)) es
 
 abbrev pub overlay_changes : Overlay → Changes
 overlay_changes o = changes_in o.changes.entries

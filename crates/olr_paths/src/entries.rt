@@ -30,9 +30,7 @@ impl PathList {
     {
         let mut entries = Vec::with_capacity(alloc, self.paths.len())?;
         for (name, named) in &self.paths {
-            let Some(published) = named.published() else {
-                unreachable!()
-            };
+            let published = named.published().unwrap();
             entries.push_reserved(published.entry(alloc, name.as_str())?);
         }
         Ok(entries)

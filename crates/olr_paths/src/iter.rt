@@ -17,8 +17,7 @@ pub struct Iter<'a> {
 impl<'a> Iterator for Iter<'a> {
     ghost use Rattle.std.specs.Prelude.{Some};
     ghost use Rattle.std.specs.Iterator.{YieldsFirstBy, item_count};
-    ghost use Rattle.olr_paths.specs.Items.{made_of};
-    ghost use Rattle.olr_paths.specs.Iterated.{left};
+    ghost use Rattle.olr_paths.specs.Items.{made_of, left};
 
     type Item = (&'a str, &'a Published);
 
@@ -46,9 +45,8 @@ impl<'a> FusedIterator for Iter<'a> {}
 
 impl PathList {
     ghost use Rattle.std.specs.Prelude.{◌≡◌, map};
-    ghost use Rattle.olr_paths.specs.Items.{items};
+    ghost use Rattle.olr_paths.specs.Items.{items, left};
     ghost use Rattle.olr_paths.specs.Changes.{AreEncoded};
-    ghost use Rattle.olr_paths.specs.Iterated.{left};
 
     /// The paths in order, each with what is published of it. All of them were encoded.
     pub fn iter(&self) -> Iter<'_>

@@ -1,5 +1,6 @@
 //! A list under changes, read in place.
-ghost use Rattle.olr_paths.specs.Overlaid.{RemovesNone, RemovesNone-prop, overlay_changes};
+ghost use Rattle.std.proofs.Props.{props};
+ghost use Rattle.olr_paths.specs.Overlaid.{RemovesNone, overlay_changes};
 
 use crate::overlay::Overlay;
 use crate::path_list::PathList;
@@ -15,7 +16,7 @@ pub struct OverlaidList<'a> {
     pub overlay: &'a Overlay,
     /// The list that has the earlier answers.
     pub before: &'a PathList,
-    ghost none_removed: { RemovesNone (overlay_changes overlay.now) } by { RemovesNone-prop (overlay_changes overlay.now) },
+    ghost none_removed: { RemovesNone (overlay_changes overlay.now) } by { Prim.hlevel props },
 }
 
 impl<'a> OverlaidList<'a> {

@@ -1,10 +1,9 @@
 //! Changes of a list of named paths, held until all of them are made at once.
 ghost use Rattle.std.specs.Prelude.{◌≡◌, List, [], ◌∷◌, ◌++◌, map, take, length, false, is_some, IsFalse, IfOk, OnOk};
 ghost use Rattle.std.specs.Prelude.{OnErr};
-ghost use Rattle.std.specs.Option.{option_to_list};
 ghost use Rattle.olr_commands.specs.State.{NamesDiffer, path_named};
 ghost use Rattle.olr_paths.specs.Items.{Item, items, item_of, all_named};
-ghost use Rattle.olr_paths.specs.Overlaid.{RemovesNone, changes_in, overlay_changes, change_at, drops, under_change};
+ghost use Rattle.olr_paths.specs.Overlaid.{RemovesNone, changes_in, overlay_changes, change_at, under_change};
 ghost use Rattle.olr_paths.specs.Overlaid.{under_changes, under_overlay};
 
 use crate::path_list::{NamedPath, PathList};
@@ -22,29 +21,8 @@ pub struct Overlay {
     pub added: PathList,
 }
 
-/// A path of a list under changes, by its name. None if it is removed.
-#[tactic(auto, using(crate::proofs::Overlaying::change_found))]
-fn becomes(
-    changes: &IndexMap<String, Option<Rc<Path>>>,
-    name: &str,
-    named: &NamedPath,
-) -> Result<Option<NamedPath>, AllocError>
-    ensures { IfOk result (λ o. map (item_of name.now) (option_to_list o)
-        ≡ under_change (change_at (changes_in changes.now.entries) name.now) (item_of name.now named.now)) }
-{
-    let Some(change) = changes.get(name) else {
-        return Ok(Some(named.share()?));
-    };
-    match change {
-        Some(path) => Ok(Some(NamedPath {
-            path: path.clone()?,
-            published: None,
-        })),
-        None => Ok(None),
-    }
-}
-
 /// Appends a path of a list, under the changes, to another list. If an allocation fails, that list is unchanged.
+#[tactic(auto, using(crate::proofs::Overlaying::change_found))]
 fn push_under(
     alloc: Global,
     changes: &IndexMap<String, Option<Rc<Path>>>,
@@ -59,11 +37,17 @@ fn push_under(
         ++ under_change (change_at (changes_in changes.now.entries) name.now) (item_of name.now named.now)) }
     ensures err { OnErr result (items to.new ≡ items to.old) }
 {
-    let Some(named) = becomes(changes, name, named)? else {
+    let Some(change) = changes.get(name) else {
+        return to.push(String::from_str(alloc, name)?, named.share()?);
+    };
+    let Some(path) = change else {
         return Ok(());
     };
-    to.push(String::from_str(alloc, name)?, named)?;
-    Ok(())
+    let named = NamedPath {
+        path: path.clone()?,
+        published: None,
+    };
+    to.push(String::from_str(alloc, name)?, named)
 }
 
 /// Appends a list, under changes, to another. The lists share paths and answers. If an allocation fails, only some
@@ -130,31 +114,16 @@ impl Overlay {
     pub fn removes_some(&self) -> bool
         ensures { IsFalse result → RemovesNone (overlay_changes self.now) }
     {
-        for (_, change) in &self.changes {
-            if change.is_none() {
-                return true;
-            }
-        }
-        false
-    }
-
-    /// Whether the path of that name is removed.
-    #[tactic(auto, using(crate::proofs::Overlaying::change_found))]
-    fn removes(&self, name: &str) -> bool
-        ensures { result ≡ drops (change_at (overlay_changes self.now) name.now) }
-    {
-        match self.changes.get(name) {
-            Some(change) => change.is_none(),
-            None => false,
-        }
+        self.changes.values().any(|change| change.is_none())
     }
 
     /// Whether a path of the list under these changes has the name.
-    #[tactic(auto, using(crate::proofs::Overlaying::both_have, crate::proofs::Overlaying::overlaid_has))]
+    #[tactic(auto, using(crate::proofs::Overlaying::has_under))]
     pub fn has(&self, list: &PathList, name: &str) -> bool
         ensures { result ≡ is_some (path_named (all_named (under_overlay (items list.now) self.now)) name.now) }
     {
-        self.added.has(name) || (!self.removes(name) && list.has(name))
+        let removed = matches!(self.changes.get(name), Some(None));
+        self.added.has(name) || (!removed && list.has(name))
     }
 
     /// Appends a new path. If an allocation fails, nothing changes.
@@ -207,7 +176,8 @@ impl Overlay {
         requires { NamesDiffer (all_named (under_overlay (items list.now) self.now)) }
         ensures { IfOk result (λ l. items l ≡ under_overlay (items list.now) self.now) }
     {
-        let mut overlaid = PathList::unindexed(alloc);
+        let mut overlaid = PathList::new(alloc);
+        overlaid.finder.indexed = false;
         if extend_under(alloc, &self.changes, list, &mut overlaid).is_err()
             || extend(alloc, &self.added, &mut overlaid).is_err()
         {

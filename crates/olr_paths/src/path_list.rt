@@ -1,7 +1,8 @@
 //! A list of named paths, in order.
-ghost use Rattle.std.specs.Prelude.{◌≡◌, IfOk, option_map, ◌≢◌, ◌<◌, ℕ, None, length, get_or, IsFalse};
+ghost use Rattle.std.specs.Prelude.{◌≡◌, IfOk, option_map, ◌<◌, ℕ, None, length, get_or, IsFalse};
 ghost use Rattle.std.specs.List.Sorted.{IsStrictlyIncreasing};
-ghost use Rattle.olr_paths.specs.Finders.{AreNoted, AreNoted-prop, ArePublished, ArePublished-prop};
+ghost use Rattle.std.proofs.Props.{props};
+ghost use Rattle.olr_paths.specs.Finders.{AreNoted, ArePublished};
 
 use crate::finder::Finder;
 use crate::keys::Keys;
@@ -76,8 +77,8 @@ pub struct PathList {
     pub held: bool,
     ghost long: { length path_ids.items ≡ length paths.entries },
     ghost ascend: { IsStrictlyIncreasing path_ids.items },
-    ghost noted: { AreNoted paths.entries path_ids.items finder } by { AreNoted-prop paths.entries path_ids.items finder },
-    ghost encoded: { IsFalse held → ArePublished paths.entries } by { ArePublished-prop held paths.entries },
+    ghost noted: { AreNoted paths.entries path_ids.items finder } by { Prim.hlevel props },
+    ghost encoded: { IsFalse held → ArePublished paths.entries } by { Prim.hlevel props },
 }
 
 // Written out: a derived drop is proved again in each crate that ends a list.
@@ -112,15 +113,6 @@ impl PathList {
             finder: Finder::new(alloc),
             held: false,
         }
-    }
-
-    /// The list without paths, to be filled without index entries. Takes no memory.
-    pub(crate) fn unindexed(alloc: Global) -> PathList
-        ensures { items result ≡ [] }
-    {
-        let mut list = PathList::new(alloc);
-        list.finder.indexed = false;
-        list
     }
 
     /// The number of paths. No name occurs twice.
@@ -233,7 +225,7 @@ impl PathList {
         self.paths.reserve(1)?;
         self.path_ids.reserve(1)?;
         self.finder.replace(path_id, Keys::none(), named.keys())?;
-        self.held = is_held(self.held, &named);
+        self.held = self.held || named.published.is_none();
         match self.paths.insert(name, named) {
             Ok(_) => (),
             Err(_) => unreachable!(),
@@ -261,7 +253,7 @@ impl PathList {
         };
         let path_id = self.path_ids[position];
         self.finder.replace(path_id, current.keys(), named.keys())?;
-        self.held = is_held(self.held, &named);
+        self.held = self.held || named.published.is_none();
         let place = self.paths.get_index_mut(position).unwrap();
         *place = named;
         Ok(())
@@ -275,13 +267,6 @@ impl PathList {
     {
         self.held = false;
     }
-}
-
-/// Whether there may be a path that is not encoded yet, when this one is added.
-fn is_held(held: bool, named: &NamedPath) -> bool
-    ensures { IsFalse result → IsFalse held × (named.now.published ≢ None) }
-{
-    held || named.published.is_none()
 }
 
 /// The id for one more path, greater than all others.

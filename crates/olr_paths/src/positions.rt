@@ -53,6 +53,7 @@ impl PathList {
     ghost use Rattle.olr_paths.specs.Items.{items};
 
     /// The index entries of all paths.
+    #[inline(never)]
     fn all_noted(&self, alloc: Global) -> Result<Finder, AllocError>
         ensures { IfOk result (λ finder. AreNoted self.now.paths.entries self.now.path_ids.items finder) }
     {
@@ -71,16 +72,9 @@ impl PathList {
     pub fn index(&mut self, alloc: Global)
         ensures { items self.new ≡ items self.old }
     {
-        if !self.finder.indexed {
-            self.index_all(alloc);
+        if self.finder.indexed {
+            return;
         }
-    }
-
-    /// Adds the index entries of all paths. If an allocation fails, nothing changes.
-    #[inline(never)]
-    fn index_all(&mut self, alloc: Global)
-        ensures { items self.new ≡ items self.old }
-    {
         if let Ok(finder) = self.all_noted(alloc) {
             self.finder = finder;
         }

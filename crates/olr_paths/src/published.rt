@@ -1,25 +1,14 @@
 //! What is published of a path.
 ghost use Rattle.std.specs.Prelude.{◌≡◌, option_map, string_bytes, IfOk};
-ghost use Rattle.std.specs.Result.{result_map_both};
+ghost use Rattle.std.specs.Result.{result_map_both, result_ok};
 ghost use Rattle.olr_answers.specs.Answers.{answer_of, refusal_of};
 ghost use Rattle.olr_commands.specs.Reply.{published_text};
-ghost use Rattle.olr_paths.specs.Texts.{HasText};
 
 use olr_answers::{Answer, CoverageQuery, KnownQuery, Refusal};
 use olr_binary::text::to_text;
 use olr_commands::Entry;
 use olr_model::Footprint;
 use std::alloc::{AllocError, Global};
-
-/// The text of an answer, if it has one.
-fn text_of(alloc: Global, answer: &Answer) -> Result<Option<String>, AllocError>
-    ensures { IfOk result (λ t. HasText (answer_of answer.now) (option_map string_bytes t)) }
-{
-    match answer {
-        Answer::Points(reference) => Ok(Some(to_text(alloc, reference)?)),
-        Answer::Refused(_) => Ok(None),
-    }
-}
 
 /// A path's answer, its text, its traversed nodes, its coverage queries, and those along its own lines.
 #[derive(Drop, Debug)]
@@ -29,7 +18,7 @@ pub struct Published {
     pub(crate) traversed: Footprint,
     pub(crate) queries: Vec<CoverageQuery>,
     pub(crate) known: Vec<KnownQuery>,
-    ghost encoded: { HasText (answer_of answer) (option_map string_bytes text) },
+    ghost encoded: { option_map string_bytes text ≡ result_ok (published_text (answer_of answer)) },
 }
 
 impl Published {
@@ -53,7 +42,10 @@ impl Published {
           known = known.items;
         }) }
     {
-        let text = text_of(alloc, &answer)?;
+        let text = match &answer {
+            Answer::Points(reference) => Some(to_text(alloc, reference)?),
+            Answer::Refused(_) => None,
+        };
         Ok(Published {
             answer,
             text,
@@ -72,7 +64,7 @@ impl Published {
 
     /// The text of the reference. None if the path is not encodable.
     pub fn text(&self) -> Option<&str>
-        ensures { HasText (made_of self.now).answer (option_map (λ t. t.now) result) }
+        ensures { option_map (λ t. t.now) result ≡ result_ok (published_text (made_of self.now).answer) }
     {
         self.text.as_deref()
     }

@@ -18,7 +18,7 @@ pub use Rattle.olr_commands.specs.State.{Abort, Add_path, ArePaths, Bad_path, Ba
 pub use Rattle.olr_commands.specs.State.{Content, Drop_path, Fault, HasCoords, IsContent, IsState, Make, Map_fault, Memory}
 pub use Rattle.olr_commands.specs.State.{Named, NamesDiffer, No_path, Not_a_reference, On_map, Path_exists, Preview, Set_margin}
 pub use Rattle.olr_commands.specs.State.{Set_path, State, after, at_once, changes_made, changes_made_in, full, has_path}
-pub use Rattle.olr_commands.specs.State.{into_batch, next, path_named, same_name, start_state, step, text_fault, unless_fault}
+pub use Rattle.olr_commands.specs.State.{into_batch, next, path_named, same_name, start_state, step, text_fault}
 pub use Rattle.olr_commands.specs.State.{when, with_change, with_map, with_path}
 pub use Rattle.olr_commands.specs.Words.{command_fault_of, command_of, map_fault_of, named_obstacle_of, outcome_of, reply_of}
 pub use Rattle.olr_commands.specs.Words.{text_fault_of}

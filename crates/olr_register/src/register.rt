@@ -65,7 +65,7 @@ impl Register {
     ghost use Rattle.std.specs.Prelude.{◌≡◌, ◌↔◌, length, map, option_map, is_some, slice_get, IsTrue};
     ghost use Rattle.olr_commands.specs.Reply.{Published, PublishedText};
     ghost use Rattle.olr_answers.specs.Answers.{answer_of};
-    ghost use Rattle.olr_paths.specs.Iterated.{left};
+    ghost use Rattle.olr_paths.specs.Items.{left};
     ghost use Rattle.olr_register.specs.Registered.{AllPublished, nothing_registered};
 
     /// The register of an empty map and no paths. Takes no memory.

@@ -18,10 +18,10 @@ pub use Rattle.olr_paths.proofs.Common.{same_name, without_answer, under_changes
 pub use Rattle.olr_paths.proofs.Common.{under_change, take_more_at, [], append_assoc, All-contains, slice_get-map, string_bytes}
 pub use Rattle.olr_paths.proofs.Common.{ℕ, ◌+◌, ◌-◌, ◌<◌, ◌↔◌, ◌∙◌, ◌∷◌, ◌≡◌, ◌≢◌, ◌≤◌, ◌⊎◌, Rc}
 pub use Rattle.olr_paths.proofs.NamedEntries.{Entries, First, item_of, items_of, same_flip, first_at, named_there, names_differ}
-pub use Rattle.olr_paths.proofs.OriginLemmas.{begins_there, begins_all_put, begins_add, begins_set}
+pub use Rattle.olr_paths.proofs.OriginLemmas.{AreFar, begins_there, begins_all_put, begins_add, begins_set}
 pub use Rattle.olr_paths.specs.Changes.{to_renew, Touches, StayKnown}
 pub use Rattle.olr_paths.specs.Items.{AreEncodingsIfAny, IsEncodingOf, known_in}
-pub use Rattle.olr_paths.specs.Origins.{AreFar, farthest, AreShort}
+pub use Rattle.olr_paths.specs.Origins.{farthest, AreShort}
 pub use Rattle.olr_paths.specs.Overlaid.{under_overlay}
 pub use Rattle.olr_paths.specs.declared.finder.Finder.{Finder}
 pub use Rattle.olr_paths.specs.declared.index.Index.{Index}

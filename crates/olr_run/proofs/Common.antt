@@ -35,8 +35,7 @@ pub use Rattle.olr_input.specs.declared.ends.Status.{Status}
 pub use Rattle.olr_input.specs.declared.gate.Gate.{Gate}
 pub use Rattle.olr_input.specs.declared.in_memory.InMemory.{InMemory}
 pub use Rattle.olr_input.specs.declared.unstored.Effect.{Effect}
-pub use Rattle.olr_paths.specs.Items.{Made, made_of}
-pub use Rattle.olr_paths.specs.Iterated.{left}
+pub use Rattle.olr_paths.specs.Items.{Made, made_of, left}
 pub use Rattle.olr_records.proofs.ReadLemmas.{read_recorded, two}
 pub use Rattle.olr_records.proofs.RecordLines.{PlainRecord, all_lines, lines_read, plain_record, records_split}
 pub use Rattle.olr_records.proofs.RecordedLemmas.{recorded_dumps, start_recorded, step_stays}

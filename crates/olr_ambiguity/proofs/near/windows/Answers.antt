@@ -1,7 +1,10 @@
-use Rattle.olr_ambiguity.proofs.Common.{◌≡◌, ◌∙◌, ◌++◌, ◌∷◌, [], ℤ, List, inl, inr, sym, ap, subst, arith, Coord, leg, Window}
+use Rattle.olr_ambiguity.proofs.Common.{◌≡◌, ◌∙◌, ◌++◌, ◌∷◌, [], ℕ, ℤ, List, Some, inl, inr, sym, ap, subst, arith, Coord, leg, Window}
 use Rattle.olr_ambiguity.proofs.Common.{cases_lt, Contains, Contains-push, decoded_coord, side_at, IsWindow, side_of, place_of}
-use Rattle.olr_ambiguity.proofs.Common.{slice_get, coordinate_on, Contains-append_left, get_or_from_slice_get, slice_get_within}
+use Rattle.olr_ambiguity.proofs.Common.{slice_get, coordinate_on, Contains-append_left, slice_get_within}
 use Rattle.olr_ambiguity.proofs.near.windows.Goals as goal
+
+some_same : {A : Type 0} {x y : A} → Some x ≡ Some y → x ≡ y
+some_same e = cc
 
 pub loop-k-preserved : goal.loop-k-preserved
 loop-k-preserved g c = λ j x below at.
@@ -11,6 +14,7 @@ loop-k-preserved g c = λ j x below at.
     let k = c.loop-k.k in
     let old = c.loop-k.windows.items in
     let w = c.window_of.result in
+    let o = c.own_line-own.result in
     let pushed : c.push.new.self.items ≡ old ++ w ∷ [] = c.in_ok-push.ensures.items in
     elim (cases_lt j k) [
       | inl before ↦
@@ -18,17 +22,15 @@ loop-k-preserved g c = λ j x below at.
           (v.0, subst (λ (ws : List Window). Contains ws v.0) (sym pushed) (Contains-append_left old (w ∷ []) v.0 v.1), v.2)
       | inr last ↦
           let here : j ≡ k = omega (arith, below, last) in
-          let own : c.index-own-k.result ≡ x =
-          c.index-own-k.is ∙ get_or_from_slice_get xs k x c.index-own-k.result (ap (λ n. slice_get xs n) (sym here) ∙ at) in
-          let place : place_of c.place_at-place.result ≡ decoded_coord r j =
-          c.place_at-place.ensures.value ∙ ap (decoded_coord r) (sym here) in
-          let side : side_of c.side_at.result ≡ side_at r j = c.side_at.ensures r c.requires.count ∙ ap (side_at r) (sym here) in
-          let node : c.coordinate_on-here.result ≡ coordinate_on (side_at r j) (leg M x) =
-          c.coordinate_on-here.ensures ∙ (λ i. coordinate_on (side i) (leg M (own i))) in (
+          let id : o.id ≡ x = some_same (sym c.own_line-own.ensures.id ∙ ap (λ (n : ℕ). slice_get xs n) (sym here) ∙ at) in
+          let place : place_of o.place ≡ decoded_coord r j = c.own_line-own.ensures.place ∙ ap (decoded_coord r) (sym here) in
+          let side : side_of o.side ≡ side_at r j = c.own_line-own.ensures.side ∙ ap (side_at r) (sym here) in
+          let node : o.here ≡ coordinate_on (side_at r j) (leg M x) =
+          c.own_line-own.ensures.own.here_is ∙ (λ i. coordinate_on (side i) (leg M (id i))) in (
             w,
             subst (λ (ws : List Window). Contains ws w) (sym pushed) (Contains-push old w),
             subst (λ (p : ℤ × ℤ). IsWindow p (coordinate_on (side_at r j) (leg M x)) w) place
-                (subst (λ (e : Coord). IsWindow (place_of c.place_at-place.result) e w) node c.window_of.ensures),
+                (subst (λ (e : Coord). IsWindow (place_of o.place) e w) node c.window_of.ensures),
           )
     ]
 

@@ -1,6 +1,6 @@
-use Rattle.olr_paths.proofs.Common.{◌≡◌, ◌∙◌, get_or, subst, sym, arith, get_or_default, NamedNoted, length, ◌≤◌, List}
+use Rattle.olr_paths.proofs.Common.{◌≡◌, ◌∙◌, get_or, subst, sym, arith, get_or_default, length, ◌≤◌, List}
 use Rattle.olr_paths.proofs.Common.{take_all, AreNotedAt, IsNoted}
-use Rattle.olr_paths.proofs.PathIdLemmas.{noted_at}
+use Rattle.olr_paths.proofs.PathIdLemmas.{NamedNoted, noted_at}
 use Rattle.olr_paths.proofs.NotedPositions.{One, NotedAt, at_more}
 use Rattle.olr_paths.proofs.positions.note_all.Goals as goal
 

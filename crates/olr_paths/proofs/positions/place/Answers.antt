@@ -1,7 +1,7 @@
-use Rattle.olr_paths.proofs.Common.{◌≡◌, refl, ◌∙◌, true, false, List, Option, sym, subst, arith, IfSome, items, NamedNoted}
+use Rattle.olr_paths.proofs.Common.{◌≡◌, refl, ◌∙◌, true, false, List, Option, sym, subst, arith, IfSome, items}
 use Rattle.olr_paths.proofs.Common.{all_put, get_or, puts_of, NamedPath, set_value_at, All-pop, length-set_value_at}
 use Rattle.olr_paths.proofs.NamedEntries.{items_of}
-use Rattle.olr_paths.proofs.PathIdLemmas.{each_set}
+use Rattle.olr_paths.proofs.PathIdLemmas.{NamedNoted, each_set}
 use Rattle.olr_paths.proofs.NotedPositions.{One, NotedAt, placed, passed_by}
 use Rattle.olr_paths.proofs.positions.place.Goals as goal
 

@@ -1,4 +1,5 @@
-use Rattle.olr_paths.proofs.Common.{◌≡◌, ◌<◌, ℕ, String, Global, Some, slice_get, get_or, NamedNoted, NamedPath}
+use Rattle.olr_paths.proofs.Common.{◌≡◌, ◌<◌, ℕ, String, Global, Some, slice_get, get_or, NamedPath}
+use Rattle.olr_paths.proofs.PathIdLemmas.{NamedNoted}
 use Rattle.olr_paths.proofs.path_list.PathList.all_noted.Given as goal
 
 -- the paths so far have their index entries

@@ -1,7 +1,10 @@
 use Rattle.olr_paths.proofs.Common.{◌≢◌, ℕ, None, List, ◌∙◌, ◌++◌, ◌∷◌, [], arith, ap, map-append, string_eq, insert_entry}
-use Rattle.olr_paths.proofs.Common.{NamedNoted, IsNoted, subst, length_push, ascends_push}
+use Rattle.olr_paths.proofs.Common.{IsNoted, subst, length_push, ascends_push}
 use Rattle.olr_paths.proofs.NamedEntries.{Entries, item_of}
-use Rattle.olr_paths.proofs.PathIdLemmas.{insert_last, noted_below, each_push}
+use Rattle.olr_paths.proofs.PathIdLemmas.{NamedNoted, insert_last, noted_below, each_push}
+use Rattle.olr_paths.proofs.Common.{◌≡◌, false, true≢false, sym}
+use Rattle.olr_paths.proofs.NotedPositions.{is_published}
+use Rattle.olr_paths.proofs.path_list.PathList.push.Goals.{then-self, else-self}
 use Rattle.olr_paths.proofs.path_list.PathList.push.Goals as goal
 
 pub returns-clause-ok : goal.returns-clause-ok
@@ -44,6 +47,13 @@ invariant_of-self-2 c =
       noted =
           rw (entries, ids) (each_push (NamedNoted g) es ms name n path_id l.long
           (noted_below l g path_id below c.replace.ensures.spares) (subst (IsNoted g path_id) c.keys.ensures c.in_ok-replace.ensures.noted));
-      encoded = λ off. let was = c.is_held-self.ensures off in
+      encoded = λ off.
+          let was : (l.held ≡ false) × (n.published ≢ None) = elim c.if-self.branch [
+            | then-self w ↦ absurd (true≢false (sym w.if-self.true ∙ sym w.self-is ∙ off))
+            | else-self w ↦ (
+              w.if-self.false,
+              is_published n.published w.is_none-self.result w.is_none-self.ensures (sym w.self-is ∙ off),
+            )
+          ] in
           rw entries (each_push (λ _ m. m.published ≢ None) es ms name n path_id l.long (l.encoded was.0) was.1);
     }

@@ -2,6 +2,9 @@ use Rattle.olr_paths.proofs.Common.{◌≢◌, ◌<◌, None, length, sym, ◌�
 use Rattle.olr_paths.proofs.Common.{length-set_value_at}
 use Rattle.olr_paths.proofs.NamedEntries.{first_at, names_differ, set_absent, set_items}
 use Rattle.olr_paths.proofs.PathIdLemmas.{each_set, noted_at, noted_but, noted_set}
+use Rattle.olr_paths.proofs.Common.{◌≡◌, false, true≢false}
+use Rattle.olr_paths.proofs.NotedPositions.{is_published}
+use Rattle.olr_paths.proofs.path_list.PathList.replace.Goals.{then-self, else-self}
 use Rattle.olr_paths.proofs.path_list.PathList.replace.Goals as goal
 
 pub returns-in_default-clause-ok : goal.returns-in_default-clause-ok
@@ -39,7 +42,14 @@ invariant_of-self-2 c =
       ascend = l.ascend;
       noted = noted_set l c.replace.new.self q _ within c.index-path_id.ensures c.replace.ensures.spares n
           (subst (IsNoted c.replace.new.self c.index-path_id.result.now) c.keys-2.ensures c.in_ok-replace.ensures.noted);
-      encoded = λ off. let was = c.is_held-self.ensures off in
+      encoded = λ off.
+          let was : (l.held ≡ false) × (n.published ≢ None) = elim c.if-self.branch [
+            | then-self w ↦ absurd (true≢false (sym w.if-self.true ∙ sym w.self-is ∙ off))
+            | else-self w ↦ (
+              w.if-self.false,
+              is_published n.published w.is_none-self.result w.is_none-self.ensures (sym w.self-is ∙ off),
+            )
+          ] in
           each_set (λ _ m. m.published ≢ None) es q n (λ k e ne. l.encoded was.0 k e) was.1;
     }
 
