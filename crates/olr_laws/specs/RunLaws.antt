@@ -10,7 +10,9 @@ use Rattle.olr_records.specs.Recorded.{has_record, HaveRecords, Recorded, IsReco
 use Rattle.csv.specs.Machine.{next_record}
 use Rattle.csv.specs.declared.parser.State.{State as CsvState}
 use Rattle.olr_commands.specs.Reply.{Outcome, may_lack}
-use Rattle.olr_run.specs.Output.{RecordOutcome, Status, All_accepted, Outcomes, Ran, AllHadMemory, records_of, Builds}
+use Rattle.olr_input.specs.declared.ends.Status.{Status}
+use Rattle.olr_input.specs.declared.ends.Status.TheVariants as status
+use Rattle.olr_run.specs.Output.{RecordOutcome, Outcomes, Ran, AllHadMemory, records_of, Builds}
 use Rattle.olr_records.specs.ReplyText.{outcome_text, fault_text}
 use Rattle.olr_input.specs.LineRecords.{HasNoEnd, EachIs, is_rejected, line_record, line_records, lines_of}
 use Rattle.csv.specs.declared.parser.State.TheVariants as st
@@ -77,7 +79,7 @@ abbrev pub DumpsReload : Type 0
 DumpsReload =
     (text : List ℕ) (n : ℕ) (c : Content) (stop : Bool) (t : State) (w : List ℕ) (end : Status) → Builds text n c →
     (p : Ran Outcomes stop start_state (records_of text) t w end) → AllHadMemory p.outcomes →
-    (end ≡ All_accepted) × (t ≡ record { content = c; batch = None })
+    (end ≡ status.AllAccepted) × (t ≡ record { content = c; batch = None })
 
 -- ---- one record a line
 
