@@ -20,7 +20,8 @@ use Rattle.olr_commands.proofs.HistoryLemmas.{start_sound}
 use Rattle.olr_commands.proofs.StateLemmas.{steps_keep}
 use Rattle.olr_log.specs.Logs.{stored_of, left_of, is_own_of}
 use Rattle.olr_log.specs.declared.log_file.LogFile.{LogFile}
-use Rattle.olr_run.specs.LogEnds.{BeginsWith, LastsOn}
+use Rattle.olr_run.specs.LogEnds.{BeginsWith}
+use Rattle.olr_run.specs.Logs.{Lasts}
 use Rattle.olr_run.specs.Logged.{Accepted, closed, Leads}
 use Rattle.olr_commands.specs.History.{Run}
 use Rattle.std.proofs.lemmas.List.Concat.{flat_map-append}
@@ -257,11 +258,11 @@ module _ {D F : Type 0} (d : disk.Ghosts D) (f : folder.Ghosts F D) {W : Type 0}
       (one : FromLog contents log last least stop (Some rs) o p code) → HasBegun one → IsHonest one → (c : Content) →
       BeginsWith (is_own_of log) (stored_of log) c → (start : LogFile D F d f) × Leads (stored_of start) c
       × (Only (stored_of log) (left_of log) → Only (stored_of start) (left_of start))
-      × WrittenOutcomes (LastsOn contents start o last p) (closed c) rs (written contents o) (written contents p)
+      × WrittenOutcomes (Lasts stored_of left_of contents start o (left_of last) p) (closed c) rs (written contents o) (written contents p)
   ran log last least stop rs o p code (Not_begun same rejected status gone) began honest c says = absurd began
   ran log last least stop rs o p code (Begun read start old new begins end run g length after status) began honest c says =
       let b = begins.leads honest.0 honest.1 c says in
-      let Each = LastsOn contents start o last p in
+      let Each = Lasts stored_of left_of contents start o (left_of last) p in
       (start, b.1, begins.only, outcomes_of Each stop old rs (written contents o) new (written contents p) end run (closed c) b.0)
 
   pub two_runs : TwoRuns d f contents

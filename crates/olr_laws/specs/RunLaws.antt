@@ -10,7 +10,9 @@ use Rattle.olr_records.specs.Recorded.{has_record, HaveRecords, Recorded, IsReco
 use Rattle.csv.specs.Machine.{next_record}
 use Rattle.csv.specs.declared.parser.State.{State as CsvState}
 use Rattle.olr_commands.specs.Reply.{Outcome, may_lack}
-use Rattle.olr_run.specs.Output.{RecordOutcome, Status, All_accepted, Outcomes, Ran, AllHadMemory, records_of, Builds}
+use Rattle.olr_input.specs.declared.ends.Status.{Status}
+use Rattle.olr_input.specs.declared.ends.Status.TheVariants as status
+use Rattle.olr_run.specs.Output.{RecordOutcome, Outcomes, Ran, AllHadMemory, records_of, Builds}
 use Rattle.olr_records.specs.ReplyText.{outcome_text, fault_text}
 use Rattle.olr_input.specs.LineRecords.{HasNoEnd, EachIs, is_rejected, line_record, line_records, lines_of}
 use Rattle.csv.specs.declared.parser.State.TheVariants as st
@@ -49,7 +51,7 @@ pub record RunLaws : Type 0 where
   -- content that was dumped
   pub dumps_reload : (text : List ℕ) (n : ℕ) (c : Content) (stop : Bool) (t : State) (w : List ℕ) (end : Status) →
       Builds text n c → (p : Ran Outcomes stop start_state (records_of text) t w end) → AllHadMemory p.outcomes →
-      (end ≡ All_accepted) × (t ≡ record { content = c; batch = None })
+      (end ≡ status.AllAccepted) × (t ≡ record { content = c; batch = None })
 
 -- the record of a line: of one that ends with an open quote or is too long, it has the form of no command; of each other
 -- one, it is what csv reads from the line alone

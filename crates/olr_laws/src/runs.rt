@@ -6,7 +6,8 @@ ghost use Rattle.clap.specs.declared.error.kind.ErrorKind.TheVariants as kind;
 ghost use Rattle.olr_commands.specs.State.{start_state};
 ghost use Rattle.olr_run.specs.Options.{keep_app, options};
 ghost use Rattle.olr_run.specs.Sizes.{IsSize, NoSize};
-ghost use Rattle.olr_run.specs.Output.{records_of, greater, Outcomes, Ran, Faulted, Some_refused, Stopped, All_accepted};
+ghost use Rattle.olr_input.specs.declared.ends.Status.TheVariants as status;
+ghost use Rattle.olr_run.specs.Output.{records_of, Outcomes, Ran, Faulted};
 ghost use Rattle.olr_input.specs.declared.ends.RunFault.TheVariants as fault;
 ghost use Rattle.olr_input.specs.LineRecords.{formless, line_records};
 ghost use Rattle.olr_laws.specs.Rows.{AllGive};
@@ -74,14 +75,13 @@ pub fn rows_of_lines()
 /// Whole runs.
 #[tactic(auto, unfolding(csv::proofs::OnLiterals::csv_on_literals))]
 pub fn rows_runs()
-    ensures all { Ran Outcomes false start_state (records_of input20) with_node output20 Some_refused }
+    ensures all { Ran Outcomes false start_state (records_of input20) with_node output20 status.SomeRefused }
     ensures stopped { Ran Outcomes true start_state (records_of input20) with_node
-        (text_of_lines (codes "ok,0" ∷ codes "fault,3,NodeExists" ∷ [])) Stopped }
+        (text_of_lines (codes "ok,0" ∷ codes "fault,3,NodeExists" ∷ [])) status.Stopped }
     ensures margin { Ran Outcomes false start_state (records_of (text_of_lines (codes "margin,50,1" ∷ codes "show-margin" ∷ [])))
-        with_fifty (text_of_lines (codes "ok,0" ∷ codes "ok,1" ∷ codes "margin,50,1" ∷ [])) All_accepted }
+        with_fifty (text_of_lines (codes "ok,0" ∷ codes "ok,1" ∷ codes "margin,50,1" ∷ [])) status.AllAccepted }
     ensures cut { Faulted Outcomes false start_state (records_of input20) with_node (codes "ok,0" ++ 10 ∷ codes "fau")
         fault.Write }
     ensures cut_at_once { Faulted Outcomes false start_state (records_of input20) start_state [] fault.Read }
-    ensures nothing { Ran Outcomes false start_state (records_of []) start_state [] All_accepted }
-    ensures greatest { greater Some_refused All_accepted ≡ Some_refused }
+    ensures nothing { Ran Outcomes false start_state (records_of []) start_state [] status.AllAccepted }
 {}

@@ -14,7 +14,7 @@ use Rattle.olr_commands.specs.State.{Show, Show_node, Show_line, Depends, Report
 use Rattle.olr_commands.specs.State.{Commit, Abort, Ambiguous, HasCoords, same_name}
 use Rattle.olr_commands.proofs.NameLemmas.{same_is}
 use Rattle.olr_coords.specs.Bounds.{is_degrees}
-use Rattle.olr_records.specs.Records.{longitude, latitude, one, none, path_record, forms, read_by, depends_record, few_nodes}
+use Rattle.olr_records.specs.Records.{longitude, latitude, one, none, path_record, forms, read_by, depends_record}
 use Rattle.olr_records.specs.Records.{ambiguous_record, margin_record}
 use Rattle.olr_records.proofs.TestLemmas.{all_weaker, ◌also◌}
 use Rattle.olr_records.proofs.FieldLemmas.{Plain, AllPlain, digits_plain, name_plain, place_plain}
@@ -253,6 +253,9 @@ any_passes : {A : Type 0} (x : Read A) → IfOk x (λ _. ⊤)
 any_passes (Ok a) = tt
 any_passes (Err f) = tt
 
+abbrev few : ℕ → Read ℕ
+few n = value_or_fault (nat_le n 10000) n
+
 -- commands of whose values nothing is known
 module _ (P : List Field → Command → Type 0) where
   pub all_made : {A : Type 0} (g : A → Command) (r : List Field → Read A) → ((fs : List Field) (a : A) → P fs (g a)) →
@@ -271,8 +274,8 @@ module _ (P : List Field → Command → Type 0) where
       IfOk (depends_record fs) (P fs)
   all_depend h [] = tt
   all_depend h (f ∷ fs) =
-      two (P (f ∷ fs)) (λ _. ⊤) (λ _. ⊤) (Ok (λ n nodes. Depends nodes)) (few_nodes (length (f ∷ fs))) (numbers (f ∷ fs))
-      (any_passes (few_nodes (length (f ∷ fs)))) (any_passes (numbers (f ∷ fs))) (λ n _ nodes _. h (f ∷ fs) nodes)
+      two (P (f ∷ fs)) (λ _. ⊤) (λ _. ⊤) (Ok (λ n nodes. Depends nodes)) (few (length (f ∷ fs))) (numbers (f ∷ fs))
+      (any_passes (few (length (f ∷ fs)))) (any_passes (numbers (f ∷ fs))) (λ n _ nodes _. h (f ∷ fs) nodes)
 
   pub all_ambiguous : ((fs : List Field) (n : Option (List ℕ)) → P fs (Ambiguous n)) → (fs : List Field) →
       IfOk (ambiguous_record fs) (P fs)

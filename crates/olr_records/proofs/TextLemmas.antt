@@ -1,15 +1,15 @@
 -- Lines, and texts of several lines.
-use Rattle.olr_records.proofs.Common.{decimal, concat, joined, List, length, arith, get_or, drop_all, drop_at, take_at, codes}
+use Rattle.olr_records.proofs.Common.{decimal, concat, fields_line, joined, List, length, arith, get_or, drop_all, drop_at, take_at, codes}
 use Rattle.olr_records.proofs.Common.{append-nil, length-append, after_commas, length-decimal-le, length-take-le, concat-append}
 use Rattle.olr_records.proofs.Common.{middle_line, length-map, map-append, take_more, ◌≡◌, append_assoc, drop-drop, copy_within}
 use Rattle.olr_records.proofs.Common.{ℕ, ◌+◌, ◌<◌, [], ◌∷◌, ◌++◌, take, map, refl, ap, ◌≤◌, ◌^◌, ◌-◌, ◌/◌, ◌%◌, ◌∙◌, drop}
 use Rattle.std.proofs.lemmas.Fmt.{decimal_digit, decimal_step}
 use Rattle.olr_spec.specs.Reference.{Reference}
-use Rattle.olr_records.specs.ReplyText.{reply_line, accepted_text, first_line, last_line, offset_lines, reference_lines}
+use Rattle.olr_records.specs.ReplyText.{accepted_text, first_line, last_line, offset_lines, reference_lines}
 
 -- a line of a word, two fields and more
 pub fields_line_of : (t w a b : List ℕ) (fs : List (List ℕ))
-    → (t ++ w) ++ 44 ∷ (a ++ 44 ∷ (b ++ (after_commas fs ++ 10 ∷ []))) ≡ t ++ reply_line (w ∷ a ∷ b ∷ fs)
+    → (t ++ w) ++ 44 ∷ (a ++ 44 ∷ (b ++ (after_commas fs ++ 10 ∷ []))) ≡ t ++ fields_line (w ∷ a ∷ b ∷ fs)
 fields_line_of t w a b fs = grind (arith, append_assoc, joined)
 
 -- the lines with those of one item more
@@ -33,7 +33,7 @@ parts t l f x m p n = rw (concat-append m (x ∷ (p ++ n)), concat-append p n) (
 pub reference_text : (t : List ℕ) (r : Reference) (n : ℕ)
     → n ≡ length r.middle + 2
     + (length (offset_lines (codes "positive") r.pos) + length (offset_lines (codes "negative") r.neg))
-    → (((((t ++ reply_line (codes "ok" ∷ decimal n ∷ [])) ++ first_line r.first) ++ concat (map middle_line r.middle))
+    → (((((t ++ fields_line (codes "ok" ∷ decimal n ∷ [])) ++ first_line r.first) ++ concat (map middle_line r.middle))
     ++ last_line r.last)
     ++ concat (offset_lines (codes "positive") r.pos)) ++ concat (offset_lines (codes "negative") r.neg)
     ≡ t ++ accepted_text (reference_lines r)

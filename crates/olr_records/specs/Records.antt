@@ -147,17 +147,11 @@ path_fields _ = Err Bad_form
 abbrev pub path_record : (List ℕ → Path → Change) → List Field → Read Command
 path_record g fs = Ok (λ p. Make (g p.0 p.1)) ⊛ path_fields fs
 
--- the greatest number of nodes in a question about nodes
-abbrev pub most_nodes : ℕ
-most_nodes = 10000
-
-abbrev pub few_nodes : ℕ → Read ℕ
-few_nodes n = value_or_fault (nat_le n most_nodes) n
-
--- one or more nodes
+-- one or more nodes, 10,000 at most
 abbrev pub depends_record : List Field → Read Command
 depends_record [] = Err Bad_form
-depends_record fs = Ok (λ n nodes. Depends nodes) ⊛ few_nodes (length fs) ⊛ numbers fs
+depends_record fs =
+    Ok (λ n nodes. Depends nodes) ⊛ value_or_fault (nat_le (length fs) 10000) (length fs) ⊛ numbers fs
 
 -- a name, or none
 abbrev pub ambiguous_record : List Field → Read Command

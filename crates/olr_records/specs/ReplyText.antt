@@ -17,9 +17,6 @@ use Rattle.olr_commands.specs.Reply.{Entry, Reply, Paths, Fields, Held, Dumped, 
 use Rattle.olr_commands.specs.Ambiguities.{NamedObstacle}
 use Rattle.olr_spec.specs.Ambiguity.{Obstacle, Same_sector, Other_bearing, Other_node}
 
-abbrev pub reply_line : List (List ℕ) → List ℕ
-reply_line fields = fields_line fields
-
 -- a text of at most `most` bytes, from index `start` on, was put before index `end` of the line `old`, which became `new`
 pub record StandsBefore (text : List ℕ) (end most : ℕ) (old : List ℕ) (start : ℕ) (new : List ℕ) : Type 0 where
   pub few : end ≤ start + most
@@ -40,7 +37,7 @@ published_fields (Ok text) = codes "text" ∷ text ∷ []
 published_fields (Err refusal) = codes "refused" ∷ refusal_fields refusal
 
 abbrev pub entry_line : Entry → List ℕ
-entry_line e = reply_line (e.name ∷ published_fields e.published)
+entry_line e = fields_line (e.name ∷ published_fields e.published)
 
 -- ---- fields of a reference
 
@@ -48,20 +45,20 @@ abbrev pub attr_fields : Attrs → List (List ℕ)
 attr_fields a = decimal a.frc ∷ decimal a.fow ∷ decimal a.lfrc ∷ decimal a.bearing ∷ decimal a.dnp ∷ []
 
 abbrev pub first_line : First → List ℕ
-first_line p = reply_line (codes "first" ∷ signed_decimal p.lon ∷ signed_decimal p.lat ∷ attr_fields p.attrs)
+first_line p = fields_line (codes "first" ∷ signed_decimal p.lon ∷ signed_decimal p.lat ∷ attr_fields p.attrs)
 
 abbrev pub middle_line : Middle → List ℕ
-middle_line p = reply_line (codes "middle" ∷ signed_decimal p.dlon ∷ signed_decimal p.dlat ∷ attr_fields p.attrs)
+middle_line p = fields_line (codes "middle" ∷ signed_decimal p.dlon ∷ signed_decimal p.dlat ∷ attr_fields p.attrs)
 
 abbrev pub last_line : Last → List ℕ
 last_line p =
-    reply_line (codes "last" ∷ signed_decimal p.dlon ∷ signed_decimal p.dlat ∷ decimal p.frc ∷ decimal p.fow ∷ decimal
+    fields_line (codes "last" ∷ signed_decimal p.dlon ∷ signed_decimal p.dlat ∷ decimal p.frc ∷ decimal p.fow ∷ decimal
     p.bearing ∷ [])
 
 -- a line with the offset byte, if there is an offset
 abbrev pub offset_lines : List ℕ → Option ℕ → List (List ℕ)
 offset_lines word None = []
-offset_lines word (Some n) = reply_line (word ∷ decimal n ∷ []) ∷ []
+offset_lines word (Some n) = fields_line (word ∷ decimal n ∷ []) ∷ []
 
 abbrev pub reference_lines : Reference → List (List ℕ)
 reference_lines r =
@@ -76,15 +73,15 @@ obstacle_fields (Other_bearing y) = codes "bearing" ∷ decimal y ∷ []
 obstacle_fields (Other_node v) = codes "node" ∷ decimal v ∷ []
 
 abbrev pub obstacle_line : NamedObstacle → List ℕ
-obstacle_line e = reply_line (e.name ∷ decimal e.lrp ∷ obstacle_fields e.obstacle)
+obstacle_line e = fields_line (e.name ∷ decimal e.lrp ∷ obstacle_fields e.obstacle)
 
 -- ---- replies
 
 abbrev pub name_line : List ℕ → List ℕ
-name_line name = reply_line (name ∷ [])
+name_line name = fields_line (name ∷ [])
 
 abbrev pub count_line : ℕ → List ℕ
-count_line n = reply_line (codes "ok" ∷ decimal n ∷ [])
+count_line n = fields_line (codes "ok" ∷ decimal n ∷ [])
 
 -- the number of lines, and the lines
 abbrev pub accepted_text : List (List ℕ) → List ℕ
@@ -97,12 +94,12 @@ reply_text (Dumped n text) = count_line n ++ text
 reply_text (Records n text) = count_line n ++ text
 reply_text (Names names) = accepted_text (map name_line names)
 reply_text (Obstacles found) = accepted_text (map obstacle_line found)
-reply_text (Held n) = reply_line (codes "held" ∷ decimal n ∷ [])
+reply_text (Held n) = fields_line (codes "held" ∷ decimal n ∷ [])
 
 -- ---- faults
 
 abbrev pub fault_line : ℕ → List ℕ → List (List ℕ) → List ℕ
-fault_line n word more = reply_line (codes "fault" ∷ decimal n ∷ word ∷ more)
+fault_line n word more = fields_line (codes "fault" ∷ decimal n ∷ word ∷ more)
 
 abbrev pub cause : TextFault → ℕ
 cause (Not_v3 Length) = 1

@@ -6,11 +6,14 @@ ghost use Rattle.olr_records.specs.Records.{Field};
 ghost use Rattle.olr_records.specs.Words.{Gathers};
 
 use crate::faults::ReadFault;
-use crate::fields::{class, field, length, shape_point};
+use crate::fields::{class, field, number, shape_point};
 use crate::parts::{both, room, with_item};
 use csv::ByteRecord;
 use olr_model::Shape;
 use std::alloc::Global;
+
+/// The greatest length of a line, in decimetres.
+const GREATEST_LENGTH: u32 = 1_000_000;
 
 /// The attributes of a line in a record: all but its number and its ends.
 #[derive(Drop)]
@@ -40,7 +43,8 @@ pub(crate) fn attributes_at(
         result }
 {
     let classes = both(class(field(fields, k)), class(field(fields, k + 1)));
-    let measured = both(classes, length(field(fields, k + 2)));
+    let len = number(field(fields, k + 2), 1, GREATEST_LENGTH);
+    let measured = both(classes, len);
     let (((frc, fow), len), shape) = both(measured, shape(alloc, fields, k + 3))?;
     Ok(LineAttributes {
         frc,

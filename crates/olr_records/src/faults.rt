@@ -1,6 +1,6 @@
 //! Why a record decodes to no command, and the texts of faults.
 ghost use Rattle.std.specs.Prelude.{◌≡◌};
-ghost use Rattle.olr_commands.specs.Words.{command_fault_of, map_fault_of, text_fault_of};
+ghost use Rattle.olr_commands.specs.Words.{command_fault_of};
 ghost use Rattle.olr_records.specs.ReplyText as texts;
 ghost use Rattle.olr_records.specs.Words.{read_fault_of};
 
@@ -32,48 +32,36 @@ pub fn fault_text(fault: CommandFault) -> &'static str
     ensures { result.now ≡ texts.fault_text (command_fault_of fault) }
 {
     match fault {
-        CommandFault::Map(fault) => map_fault_text(fault),
+        CommandFault::Map(EditFault::NodeExists) => "fault,3,NodeExists\n",
+        CommandFault::Map(EditFault::NoNode) => "fault,4,NoNode\n",
+        CommandFault::Map(EditFault::LineExists) => "fault,5,LineExists\n",
+        CommandFault::Map(EditFault::NoLine) => "fault,6,NoLine\n",
+        CommandFault::Map(EditFault::NodeInUse) => "fault,7,NodeInUse\n",
+        CommandFault::Map(EditFault::BadShape) => "fault,8,BadShape\n",
         CommandFault::PathExists => "fault,9,PathExists\n",
         CommandFault::NoPath => "fault,10,NoPath\n",
         CommandFault::BadPath => "fault,11,BadPath\n",
-        CommandFault::NotAReference(fault) => text_fault_text(fault),
-        CommandFault::Memory => MEMORY,
+        CommandFault::NotAReference(TextFault::Bytes(V3Fault::Length)) => {
+            "fault,12,NotAReference,1\n"
+        }
+        CommandFault::NotAReference(TextFault::Bytes(V3Fault::Status)) => {
+            "fault,12,NotAReference,2\n"
+        }
+        CommandFault::NotAReference(TextFault::Bytes(V3Fault::Flags)) => {
+            "fault,12,NotAReference,3\n"
+        }
+        CommandFault::NotAReference(TextFault::Bytes(V3Fault::Reserved)) => {
+            "fault,12,NotAReference,4\n"
+        }
+        CommandFault::NotAReference(TextFault::NotBase64) => "fault,12,NotAReference,6\n",
+        CommandFault::Map(EditFault::Memory)
+        | CommandFault::NotAReference(TextFault::Bytes(V3Fault::Memory))
+        | CommandFault::Memory => MEMORY,
         CommandFault::BatchOpen => "fault,14,BatchOpen\n",
         CommandFault::NoBatch => "fault,15,NoBatch\n",
         CommandFault::CountDiffers => "fault,16,CountDiffers\n",
         CommandFault::BatchFull => "fault,17,BatchFull\n",
         CommandFault::NotARecord => "fault,18,NotARecord\n",
-    }
-}
-
-/// The line of an edit that the map rejects.
-#[tactic(auto, unfolding(crate::proofs::OnLiterals::on_literals))]
-fn map_fault_text(fault: EditFault) -> &'static str
-    ensures { result.now ≡ texts.fault_text (map_fault_of fault) }
-{
-    match fault {
-        EditFault::NodeExists => "fault,3,NodeExists\n",
-        EditFault::NoNode => "fault,4,NoNode\n",
-        EditFault::LineExists => "fault,5,LineExists\n",
-        EditFault::NoLine => "fault,6,NoLine\n",
-        EditFault::NodeInUse => "fault,7,NodeInUse\n",
-        EditFault::BadShape => "fault,8,BadShape\n",
-        EditFault::Memory => MEMORY,
-    }
-}
-
-/// The line of a text that encodes no reference, with the number of its cause.
-#[tactic(auto, unfolding(crate::proofs::OnLiterals::on_literals))]
-fn text_fault_text(fault: TextFault) -> &'static str
-    ensures { result.now ≡ texts.fault_text (text_fault_of fault) }
-{
-    match fault {
-        TextFault::Bytes(V3Fault::Length) => "fault,12,NotAReference,1\n",
-        TextFault::Bytes(V3Fault::Status) => "fault,12,NotAReference,2\n",
-        TextFault::Bytes(V3Fault::Flags) => "fault,12,NotAReference,3\n",
-        TextFault::Bytes(V3Fault::Reserved) => "fault,12,NotAReference,4\n",
-        TextFault::Bytes(V3Fault::Memory) => MEMORY,
-        TextFault::NotBase64 => "fault,12,NotAReference,6\n",
     }
 }
 

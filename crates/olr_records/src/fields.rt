@@ -18,8 +18,6 @@ use std::alloc::Global;
 
 /// The greatest functional road class (FRC), and the greatest form of way (FOW).
 const GREATEST_CLASS: u32 = 7;
-/// The greatest length of a line, in decimetres.
-const GREATEST_LENGTH: u32 = 1_000_000;
 /// The greatest distance of a shape point from the start of the line, in decimetres.
 const GREATEST_DISTANCE: u32 = 999_999;
 /// 2^32, which is more than any number of 32 bits.
@@ -103,13 +101,6 @@ pub(crate) fn class(field: &[u8]) -> Result<u8, ReadFault>
     ensures { Reads (λ n. n) (records.class field.now) result }
 {
     Ok(number(field, 0, GREATEST_CLASS)? as u8)
-}
-
-/// The length of a line, from 1 to 1,000,000 dm.
-pub(crate) fn length(field: &[u8]) -> Result<u32, ReadFault>
-    ensures { Reads (λ n. n) (records.digits 1 1000000 field.now) result }
-{
-    number(field, 1, GREATEST_LENGTH)
 }
 
 /// Degrees in units, from -180 to 180 degrees. The ranges of longitudes and of latitudes are narrower.

@@ -9,7 +9,7 @@ ghost use Rattle.olr_commands.specs.Reply.{Dumped};
 ghost use Rattle.olr_commands.specs.Words.{reply_of, entry_of, named_obstacle_of};
 ghost use Rattle.olr_records.specs.ReplyText as texts;
 
-use crate::texts::{push_byte_line, push_point};
+use crate::texts::{push_count, push_point};
 use olr_answers::{Obstacle, Refusal};
 use olr_binary::{Attrs, First, Last, Middle, Reference};
 use olr_commands::{Dump, Entry, NamedObstacle, Reply, push_field, push_number};
@@ -36,23 +36,6 @@ pub fn append_reply(text: &mut Vec<u8>, reply: &Reply) -> Result<(), AllocError>
         Reply::Names(names) => push_names(text, names),
         Reply::Obstacles(found) => push_obstacles(text, found),
     }
-}
-
-/// The line of a word and a count.
-fn push_count<const N: usize>(
-    text: &mut Vec<u8>,
-    word: &[u8; N],
-    count: usize,
-) -> Result<(), AllocError>
-    ensures { OnOk result (text.new.items
-        ≡ text.old.items ++ texts.reply_line (word.now ∷ decimal count ∷ [])) }
-{
-    if count < 256 {
-        return push_byte_line(text, word, count as u8);
-    }
-    text.extend_from_slice(word)?;
-    push_number(text, count)?;
-    text.extend_from_slice(b"\n")
 }
 
 /// Appends the first line of a reply to an accepted command, with the number of lines after it. It fails if an allocation
@@ -198,33 +181,25 @@ fn push_obstacles(text: &mut Vec<u8>, found: &[NamedObstacle]) -> Result<(), All
 {
     append_count(text, found.len())?;
     for obstacle in found {
-        push_obstacle_line(text, obstacle)?;
+        push_obstacle(text, obstacle)?;
     }
     Ok(())
 }
 
-/// The path's name, the number of the LRP, and the ambiguity there.
-fn push_obstacle_line(text: &mut Vec<u8>, named: &NamedObstacle) -> Result<(), AllocError>
+/// The path's name, the number of the LRP, and the kind and the number of the ambiguity there.
+fn push_obstacle(text: &mut Vec<u8>, named: &NamedObstacle) -> Result<(), AllocError>
     ensures { OnOk result (text.new.items ≡ text.old.items ++ texts.obstacle_line (named_obstacle_of named.now)) }
 {
-    text.extend_from_slice(named.name.as_bytes())?;
-    push_number(text, named.found.lrp)?;
-    push_obstacle(text, named.found.obstacle)?;
-    text.extend_from_slice(b"\n")
-}
-
-/// The kind of an ambiguity, and its number.
-fn push_obstacle(text: &mut Vec<u8>, obstacle: Obstacle) -> Result<(), AllocError>
-    ensures { OnOk result (text.new.items ≡ text.old.items
-        ++ after_commas (texts.obstacle_fields (obstacle_of obstacle))) }
-{
-    let (kind, number) = match obstacle {
+    let (kind, number) = match named.found.obstacle {
         Obstacle::SameSector(line) => (b"sector".as_slice(), line.number()),
         Obstacle::OtherBearing(line) => (b"bearing".as_slice(), line.number()),
         Obstacle::OtherNode(node) => (b"node".as_slice(), node.number()),
     };
+    text.extend_from_slice(named.name.as_bytes())?;
+    push_number(text, named.found.lrp)?;
     push_field(text, kind)?;
-    push_number(text, number)
+    push_number(text, number)?;
+    text.extend_from_slice(b"\n")
 }
 
 /// The number of lines of an offset.
@@ -289,7 +264,7 @@ fn push_offset<const N: usize>(
         ≡ text.old.items ++ concat (texts.offset_lines word.now offset)) }
 {
     match offset {
-        Some(byte) => push_byte_line(text, word, byte),
+        Some(byte) => push_count(text, word, usize::from(byte)),
         None => Ok(()),
     }
 }

@@ -1,10 +1,11 @@
-//! The line of an LRP, written backwards from its end.
+//! The lines of counts and of LRPs, whose numbers are written backwards from the end.
 ghost use Rattle.std.specs.Prelude.{◌≡◌, ◌≤◌, ◌+◌, ◌++◌, ◌∷◌, [], decimal, drop, length, map, OnOk};
 ghost use Rattle.std.specs.Fmt.{signed_decimal};
-ghost use Rattle.olr_commands.specs.RecordText.{after_commas};
-ghost use Rattle.olr_records.specs.ReplyText.{reply_line, StandsBefore};
+ghost use Rattle.olr_commands.specs.RecordText.{after_commas, fields_line};
+ghost use Rattle.olr_records.specs.ReplyText.{StandsBefore};
 
 use itoa::write_digits;
+use olr_commands::push_number;
 use std::alloc::AllocError;
 
 /// The size of the buffer for the end of a line: an LRP has two coordinates of at most 11 bytes, five numbers of at
@@ -89,19 +90,22 @@ fn put_numbers(line: &mut [u8], end: usize, numbers: &[u8]) -> usize
     start
 }
 
-/// The line of a word and a number. One function for each length of a word, which is copied without a call.
-pub(crate) fn push_byte_line<const N: usize>(
+/// The line of a word and a count. One function for each length of a word, which is copied without a call.
+pub(crate) fn push_count<const N: usize>(
     text: &mut Vec<u8>,
     word: &[u8; N],
-    number: u8,
+    count: usize,
 ) -> Result<(), AllocError>
-    ensures { OnOk result (text.new.items ≡ text.old.items ++ reply_line (word.now ∷ decimal number ∷ [])) }
+    ensures { OnOk result (text.new.items ≡ text.old.items ++ fields_line (word.now ∷ decimal count ∷ [])) }
 {
-    let mut end = [b'\n'; 5];
-    let start = put_number(&mut end, 4, number);
     text.extend_from_slice(word)?;
-    text.extend_from_slice(&end[start..])?;
-    Ok(())
+    if count < 256 {
+        let mut end = [b'\n'; 5];
+        let start = put_number(&mut end, 4, count as u8);
+        return text.extend_from_slice(&end[start..]);
+    }
+    push_number(text, count)?;
+    text.extend_from_slice(b"\n")
 }
 
 /// The line of an LRP: a word, two coordinates and numbers. One function for each length of a word, which is copied without
@@ -115,13 +119,12 @@ pub(crate) fn push_point<const N: usize>(
 ) -> Result<(), AllocError>
     requires few { length numbers.now ≤ 5 }
     ensures { OnOk result (text.new.items ≡ text.old.items
-        ++ reply_line (word.now ∷ signed_decimal lon ∷ signed_decimal lat ∷ map decimal numbers.now)) }
+        ++ fields_line (word.now ∷ signed_decimal lon ∷ signed_decimal lat ∷ map decimal numbers.now)) }
 {
     let mut end = [b'\n'; ROOM];
     let start = put_numbers(&mut end, ROOM - 1, numbers);
     let start = put_coordinate(&mut end, start, lat);
     let start = put_coordinate(&mut end, start, lon);
     text.extend_from_slice(word)?;
-    text.extend_from_slice(&end[start..])?;
-    Ok(())
+    text.extend_from_slice(&end[start..])
 }

@@ -20,7 +20,7 @@ unread : (s : State) (fields : List Field) (f : ReadFault) → IsRead (read fiel
     RecordOutcome s fields (Err (read_fault_of f)) s
 unread s fields Syntax e = grind arith
 unread s fields Range e = grind arith
-unread s fields Memory e = inr (e, (refl, refl))
+unread s fields Memory e = inr (e, refl, refl)
 
 pub not_read : (old : Registered) (fields : List Field) (f : ReadFault) (line : Bor (List ℕ)) →
     IsRead (read fields) (Err f) → line.now ≡ fault_text (read_fault_of f) →

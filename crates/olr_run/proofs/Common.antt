@@ -9,6 +9,7 @@ pub use Rattle.olr_commands.proofs.DumpLemmas.{dumps_run}
 pub use Rattle.olr_commands.proofs.HistoryLemmas.{Claimed, headline_of, is_dumped, is_named, is_refused, outcome_leads}
 pub use Rattle.olr_commands.proofs.HistoryLemmas.{run_join, run_longer, run_more}
 pub use Rattle.olr_commands.proofs.StateLemmas.{Ends, after_push, ends, next_ok}
+pub use Rattle.olr_commands.specs.History.{Whole}
 pub use Rattle.olr_commands.specs.Dump.{dump_changes, dump_lines, steps}
 pub use Rattle.olr_commands.specs.RecordText.{fields_line, fields_of_change}
 pub use Rattle.olr_commands.specs.Reply.{ByState, IsOutcome, IsRefusal, IsReply, Outcome, Paths, lacks_memory, may_lack, AllOf}
@@ -48,23 +49,22 @@ pub use Rattle.olr_register.specs.RegisterState.{Represents}
 pub use Rattle.olr_register.specs.Registered.{Registered, AllPublished, HaveEncodings, nothing_registered}
 pub use Rattle.olr_run.specs.Ends.{Begun, Carried_out, Explained, LeftAfter, Log_lacking, No_size, Not_begun, Not_opened, With}
 pub use Rattle.olr_run.specs.Ends.{Without, Without_sources, run_code, No_memory}
-pub use Rattle.olr_run.specs.LogEnds.{AreRecordsOf, Begins, BeginsWith, LastsOn, Unbegun, is_rejected}
+pub use Rattle.olr_run.specs.LogEnds.{AreRecordsOf, Begins, BeginsWith, Unbegun, is_rejected}
 pub use Rattle.olr_run.specs.Logged.{Accepted, IsLogged, Leads, LeadsFrom, Survives, UpTo, closed}
-pub use Rattle.olr_run.specs.Logs.{Began, LastsCut, LastsWhole}
+pub use Rattle.olr_run.specs.Logs.{Began, Lasts, LastsWhole}
 pub use Rattle.olr_run.specs.Opens.{IsFile, Opens, OpensFile}
 pub use Rattle.olr_run.specs.Options.{options_of, is_set, keep_app, with_long, with_short}
 pub use Rattle.olr_run.specs.Output.{AllHadMemory, AreAnswered, Claims, CommandOutcome, In_last, Outcomes, RecordOutcome}
-pub use Rattle.olr_run.specs.Output.{IsDumpOf, OutOfMemory, Ran, StopsAtFault, any_refused, decoded_command, run_status}
+pub use Rattle.olr_run.specs.Output.{IsDumpOf, Ran, StopsAtFault, any_refused, decoded_command, run_status}
 pub use Rattle.olr_run.specs.Output.{SoundOutcome, SoundOutcomes, most_records, records_of, texts, Builds, Dumps, Faulted}
-pub use Rattle.olr_run.specs.Restored.{HasContentOf, InPlace, IsContentOf, IsKind, LeadsNowhere, Loaded, Loads, LoadsRecord}
-pub use Rattle.olr_run.specs.Restored.{NeverChanges, Refuses, RefusesRecord, kind_by, is_rejection}
+pub use Rattle.olr_run.specs.Restored.{HasContentOf, InPlace, IsContentOf, LeadsNowhere, Loaded, Loads, LoadsRecord}
+pub use Rattle.olr_run.specs.Restored.{Refuses, RefusesRecord, is_rejection}
 pub use Rattle.olr_run.specs.Runs.{AnsweredOn, AnswersRecord, CarriedOut, CutIn, FaultedOn, In_text, IsAnswer, LeadsOn, GoesOn}
-pub use Rattle.olr_run.specs.Runs.{AreExchanges, AreReplacement, Exchange, Exchanged}
+pub use Rattle.olr_run.specs.Runs.{AreReplacement, Exchange, Exchanged}
 pub use Rattle.olr_run.specs.Runs.{HadTooMany, In_taking, IsExchange, IsReplacement, IsReport, No_text, answer_of}
 pub use Rattle.olr_run.specs.Runs.{Past_the_most, RanIn, RanOn, Records, answer_text, EndedOn, file_bytes, joined_records}
-pub use Rattle.olr_run.specs.Runs.{events_of, once_sent, records_taken, unwritten, last_events, records_read, status_of}
+pub use Rattle.olr_run.specs.Runs.{events_of, once_sent, records_taken, unwritten, last_events, records_read}
 pub use Rattle.olr_run.specs.Sizes.{IsLength, NoSize}
-pub use Rattle.olr_run.specs.declared.loader.Kind.{Kind}
 pub use Rattle.olr_run.specs.declared.loader.Loader.{Loader}
 pub use Rattle.olr_spec.specs.Encoding.{Refusal}
 pub use Rattle.olr_spec.specs.Map.{Map}

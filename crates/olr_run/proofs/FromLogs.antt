@@ -1,8 +1,8 @@
 -- A run from a log in a file, from the contracts of its parts.
 use Rattle.olr_run.proofs.Common.{Outcome, Field, Known, Records, RunFault, Registered, Represents, is_ok, EndedOn, ◌≡◌, ◌∙◌}
 use Rattle.olr_run.proofs.Common.{◌⊎◌, ℕ, Bool, true, false, List, inl, inr, refl, sym, subst, OnOk, Content, IsContent, State}
-use Rattle.olr_run.proofs.Common.{concat, dump_lines, Keeps-refl, AreRecordsOf, Begins, BeginsWith, LastsOn, Unbegun, closed}
-use Rattle.olr_run.proofs.Common.{Leads, Survives, UpTo, LastsWhole, LastsCut, LeftAfter, HasContentOf, IsContentOf}
+use Rattle.olr_run.proofs.Common.{concat, dump_lines, Keeps-refl, AreRecordsOf, Begins, BeginsWith, Unbegun, closed}
+use Rattle.olr_run.proofs.Common.{Leads, Survives, UpTo, Lasts, LastsWhole, LeftAfter, HasContentOf, IsContentOf}
 use Rattle.olr_run.proofs.Common.{records_of, written, Only, Buffered, Status, Gate}
 use Rattle.std.specs.Prelude.{Result, Ok, Err, IsTrue}
 use Rattle.olr_log.specs.Logs.{stored_of, left_of, is_own_of, is_clean}
@@ -93,11 +93,11 @@ module _ {D F : Type 0} {d : disk.Ghosts D} {f : folder.Ghosts F D} where
       | inr all ↦ subst (λ (x : List ℕ). (c : Content) × Leads x c × UpTo s rs os c sent) (sym all.1) (whole all.0)
     ]
 
-    whole_closed : Then (LastsWhole stored_of left_of contents start o g p) (LastsOn contents start o last p)
+    whole_closed : Then (LastsWhole stored_of left_of contents start o g p) (Lasts stored_of left_of contents start o (left_of last) p)
     whole_closed s rs os t a =
         (a.0, λ k. let b = a.1 k in (b.0, b.1, closed_survives s rs os b.0 b.2 (λ _. (t.content, b.4, b.3))))
 
-    cut_closed : (e : RunFault) → r ≡ Err e → Then (LastsCut stored_of left_of contents start o g p) (LastsOn contents start o last p)
+    cut_closed : (e : RunFault) → r ≡ Err e → Then (Lasts stored_of left_of contents start o (left_of g.journal) p) (Lasts stored_of left_of contents start o (left_of last) p)
     cut_closed e is s rs os t a = (
       a.0,
       λ k. let b = a.1 k in
@@ -107,9 +107,9 @@ module _ {D F : Type 0} {d : disk.Ghosts D} {f : folder.Ghosts F D} where
   pub closed_run : {W : Type 0} (contents : W → Known) (start last : LogFile D F d f) (o p : Buffered W)
       (g : Gate (LogFile D F d f)) (r : Result Status RunFault) → LeftAfter g r last →
       (stop : Bool) (old new : Registered) (records : Records) →
-      EndedOn (LastsWhole stored_of left_of contents start o g p) (LastsCut stored_of left_of contents start o g p) stop old
+      EndedOn (LastsWhole stored_of left_of contents start o g p) (Lasts stored_of left_of contents start o (left_of g.journal) p) stop old
       records (written contents o) new (written contents p) r
-      → EndedOn (LastsOn contents start o last p) (LastsOn contents start o last p) stop old records (written contents o)
+      → EndedOn (Lasts stored_of left_of contents start o (left_of last) p) (Lasts stored_of left_of contents start o (left_of last) p) stop old records (written contents o)
       new (written contents p) r
   closed_run contents start last o p g (Ok end) after stop old new records run =
       ran_sent _ _ (whole_closed contents start last o p g (Ok end) after) stop old (written contents o) new

@@ -1,6 +1,6 @@
 -- Runs over an input whose records are known, from the history of their session.
-use Rattle.olr_run.proofs.Common.{IfErr, status_of, IsContent, Exchanged, In_taking, events_of, unwritten, Compacted, and-false}
-use Rattle.olr_run.proofs.Common.{append-nil, length-map, map-append, run_longer, Registered, Claims, Appends-nil, AreExchanges}
+use Rattle.olr_run.proofs.Common.{IfErr, IsContent, Exchanged, In_taking, events_of, unwritten, Compacted, and-false}
+use Rattle.olr_run.proofs.Common.{append-nil, length-map, map-append, run_longer, Registered, Claims, Appends-nil, Whole}
 use Rattle.olr_run.proofs.Common.{append_assoc, outcome_text, SoundOutcome, Not_sent, StopsAtFault, Appends-kept, input_records}
 use Rattle.olr_run.proofs.Common.{Appends, Outcome, Records, History, EndedOn, In_text, RunFault, No_text, Exchange, TakesOne}
 use Rattle.olr_run.proofs.Common.{Field, texts, Known, Event, Ended, IfSome, length, GoesOn, Answer, HasNone, Unasked, Status}
@@ -25,7 +25,7 @@ use Rattle.olr_input.specs.declared.ends.RunFault.TheVariants as fault
 abbrev joined : List Exchange → List ℕ
 joined xs = flat_map (λ (x : Exchange). x.answer.0) xs
 
-joined_texts : (s t : State) (xs : List Exchange) (os : List Outcome) → AreExchanges s xs os t → joined xs ≡ texts os
+joined_texts : (s t : State) (xs : List Exchange) (os : List Outcome) → Whole IsExchange s xs os t → joined xs ≡ texts os
 joined_texts s t [] [] h = refl
 joined_texts s t (x ∷ xs) (o ∷ os) h =
     let first : x.answer.0 ≡ outcome_text o = ap (λ (w : Answer). w.0) (sym h.1.1.1) in
@@ -35,8 +35,8 @@ joined_texts s t [] (o ∷ os) h = absurd h.1
 joined_texts s t (x ∷ xs) [] h = absurd (omega (arith, h.0))
 
 -- the exchanges before the last one, and the outcome of that
-pub last_step : (s t : State) (xs : List Exchange) (x : Exchange) (os : List Outcome) → AreExchanges s (xs ++ x ∷ []) os t →
-    (before : List Outcome) × (last : Outcome) × (mid : State) × (os ≡ before ++ last ∷ []) × AreExchanges s xs before mid
+pub last_step : (s t : State) (xs : List Exchange) (x : Exchange) (os : List Outcome) → Whole IsExchange s (xs ++ x ∷ []) os t →
+    (before : List Outcome) × (last : Outcome) × (mid : State) × (os ≡ before ++ last ∷ []) × Whole IsExchange s xs before mid
     × IsExchange mid x last t
 last_step s t [] x (o ∷ []) h = ([], o, s, refl, (refl, refl), subst (λ (u : State). IsExchange s x o u) h.1.2 h.1.1)
 last_step s t (y ∷ xs) x (o ∷ os) h =
@@ -94,7 +94,7 @@ abbrev AnsweredBy : (State → List (List Field) → List Outcome → State → 
     Registered → List (List Field) → List Exchange → Registered → Type 0
 AnsweredBy Each stop And old all xs new =
     (s : State) → Represents old.state s → (t : State) × Represents new.state t × (os : List Outcome) × Each s all os t
-    × AreExchanges s xs os t × StopsAtFault stop os × And os
+    × Whole IsExchange s xs os t × StopsAtFault stop os × And os
 
 -- the exchanges of a run that was cut off
 abbrev pub exchanges_cut : {S : Type 0} {happens : S → Event → S → Type 0} {stop : Bool} {old new : Registered} {a b : S}
@@ -109,7 +109,7 @@ exchanges_cut (In_text is r front rest accepts some x answered) = x.done ++ unwr
 abbrev pub Gives : (State → List (List Field) → List Outcome → State → Type 0) → List (List Field) → List Exchange → Type 0
 Gives Each all xs =
     (s t : State) (rest : List (List Field)) (os : List Outcome) → all ≡ records_taken xs ++ rest → Claims s all os t →
-    AreExchanges s xs os t → Each s all os t
+    Whole IsExchange s xs os t → Each s all os t
 
 -- these records of all were read, and these bytes written
 record Through (before : Known) (all rs : List (List Field)) (w : List ℕ) (left : List (List Field) → Type 0)
@@ -185,9 +185,9 @@ module _ {S : Type 0} (left : S → List (List Field) → Type 0) (contents : S 
     -- the end of a run that was not cut off
     ended_in : (end : Status) (xs : List Exchange) (m : S) → At (records_taken xs) (joined xs) m →
         Keeps (contents m) (contents b)
-        → ((os : List Outcome) → length os ≡ length xs → status_of end ≡ output.run_status stop os →
+        → ((os : List Outcome) → length os ≡ length xs → end ≡ output.run_status stop os →
         output.AreAnswered stop all os)
-        → Gives Each all xs → AnsweredOn stop (λ os. status_of end ≡ output.run_status stop os) old xs new
+        → Gives Each all xs → AnsweredOn stop (λ os. end ≡ output.run_status stop os) old xs new
         → RanOn Each stop old (Some all) (contents a) new (contents b) end
     ended_in end xs m at later all give answered s represents =
         let h = of_all _ xs (joined xs) m at give answered s represents in (
@@ -209,7 +209,7 @@ module _ {S : Type 0} (left : S → List (List Field) → Type 0) (contents : S 
     cut_in : (e : RunFault) (And : List Outcome → Type 0) (xs : List Exchange) (w front : List ℕ) (m : S) →
         At (records_taken xs) w m → Appends (contents m) (contents b) front → Gives Each all xs →
         AnsweredOn stop And old xs new
-        → ((s t : State) (os : List Outcome) → AreExchanges s xs os t → And os → output.CutOff stop os (w ++ front) e)
+        → ((s t : State) (os : List Outcome) → Whole IsExchange s xs os t → And os → output.CutOff stop os (w ++ front) e)
         → FaultedOn Each stop old (Some all) (contents a) new (contents b) e
     cut_in e And xs w front m at more give answered cut s represents =
         let h = of_all And xs w m at give answered s represents in (

@@ -4,9 +4,9 @@ use Rattle.olr_run.proofs.Common.{Ended, Not_taken, Not_sent, Wrote, Cut, Histor
 use Rattle.olr_run.proofs.Common.{Appends, Registered, RunFault, Claims, EndedOn, Records, last_events, ◌≡◌, ◌∙◌, ℕ, Bool}
 use Rattle.olr_run.proofs.Common.{false, List, [], ◌∷◌, ◌++◌, length, Some, None, refl, sym, ap, subst, arith, length-append}
 use Rattle.olr_run.proofs.Common.{IfOk, OnOk, flat_map, Change, IsContent, State, append_known, Exchanged, In_taking, No_text}
-use Rattle.olr_run.proofs.Common.{answer_of, once_sent, IsReplacement, Exchange, AreExchanges, records_taken, events_of}
+use Rattle.olr_run.proofs.Common.{answer_of, once_sent, IsReplacement, Exchange, IsExchange, Whole, records_taken, events_of}
 use Rattle.olr_run.proofs.Common.{unwritten, Replacement, Compacted, Unasked, Given, Lacking, Leads, Survives, UpTo}
-use Rattle.olr_run.proofs.Common.{Began, LastsWhole, LastsCut, pending, written, Compaction, Passes, Untouched, ready}
+use Rattle.olr_run.proofs.Common.{Began, Lasts, LastsWhole, pending, written, Compaction, Passes, Untouched, ready}
 use Rattle.olr_run.proofs.Common.{is_closed, Waiting, waiting, LogHappens, Buffered, Gate, Status, Appends-nil, Keeps-refl}
 use Rattle.olr_run.proofs.Common.{Concludes}
 use Rattle.std.specs.Prelude.{Ok, Err, Option, Result}
@@ -150,7 +150,7 @@ module _ {S W J : Type 0} (left : S → List (List Field) → Type 0) (contents 
 
     log_exchanged : (xs : List Exchange) (es : List Event) (m b : Logged S J × Buffered W) (rs : List (List Field))
         (dos : List Outcome) (t u : State) (os : List Outcome) → length dos ≡ length rs → Log rs dos t [] m →
-        AreExchanges t xs os u → History Happens m (flat_map events_of xs ++ es) b
+        Whole IsExchange t xs os u → History Happens m (flat_map events_of xs ++ es) b
         → (n : Logged S J × Buffered W) × Log (rs ++ records_taken xs) (dos ++ os) u [] n × History Happens n es b
     log_exchanged [] es m b rs dos t u [] size a run h =
         (m, rw (append-nil rs, append-nil dos) (subst (λ (x : State). Log rs dos x [] m) run.1 a), h)
@@ -177,8 +177,8 @@ module _ {S W J : Type 0} (left : S → List (List Field) → Type 0) (contents 
     Reaches s rs os t unwritten m = Logs j.stored j.may_leave contents (contents a.1.device) s rs os t unwritten m.0.gate m.1
 
     -- what is known of the log at the end, if it led to the content at the start
-    abbrev Whole : State → List (List Field) → List Outcome → State → Type 0
-    Whole s rs os t = Claims s rs os t × (Reaches s [] [] s [] a → Reaches s rs os t [] b)
+    abbrev Entire : State → List (List Field) → List Outcome → State → Type 0
+    Entire s rs os t = Claims s rs os t × (Reaches s [] [] s [] a → Reaches s rs os t [] b)
 
     abbrev Part : State → List (List Field) → List Outcome → State → Type 0
     Part s rs os t =
@@ -190,7 +190,7 @@ module _ {S W J : Type 0} (left : S → List (List Field) → Type 0) (contents 
     Now s rs os t unwritten m = Reaches a b s rs os t unwritten m
 
     reached : (es : List Event) (x : Exchanged Happens a b es) (s t : State) (os : List Outcome) →
-        AreExchanges s x.done os t → Now s [] [] s [] a
+        Whole IsExchange s x.done os t → Now s [] [] s [] a
         → (n : Logged S J × Buffered W) × Now s (records_taken x.done) os t [] n × History Happens n es b
     reached es x s t os run l = log_exchanged (contents a.1.device) s x.done es a b [] [] s t os refl l run x.history
 
@@ -199,7 +199,7 @@ module _ {S W J : Type 0} (left : S → List (List Field) → Type 0) (contents 
     with_rest s t rs rest os unwritten is l =
         rw is (logs_longer j.stored j.may_leave contents (contents a.1.device) s rs rest os t unwritten b.0.gate b.1 l)
 
-    gives_whole : (end : Status) (h : RanIn Happens stop old a new b end) → Gives (Whole a b) all h.x.done
+    gives_whole : (end : Status) (h : RanIn Happens stop old a new b end) → Gives (Entire a b) all h.x.done
     gives_whole end h s t rest os is claims run = (
       claims,
       λ l.
@@ -223,7 +223,7 @@ module _ {S W J : Type 0} (left : S → List (List Field) → Type 0) (contents 
         }
 
     one_event : (e : Event) (x : Exchanged Happens a b (e ∷ [])) (s t : State) (rest : List (List Field)) (os : List Outcome) →
-        all ≡ records_taken x.done ++ rest → AreExchanges s x.done os t →
+        all ≡ records_taken x.done ++ rest → Whole IsExchange s x.done os t →
         ((m n : Logged S J × Buffered W) → Now s (records_taken x.done) os t [] m → Happens m e n
         → Now s (records_taken x.done) os t [] n)
         → Now s [] [] s [] a → LogsSome j.stored j.may_leave contents (contents a.1.device) s all os b.0.gate b.1
@@ -310,7 +310,7 @@ module _ {S W J : Type 0} (left : S → List (List Field) → Type 0) (contents 
 
   -- a run whose answers were sent at the end
   whole_lasts : ready i ≡ [] → is_closed i ≡ false → (s : State) (rs : List (List Field)) (os : List Outcome) (t : State) →
-      Whole left contents j a b s rs os t → LastsWhole j.stored j.may_leave contents log a.1 i q s rs os t
+      Entire left contents j a b s rs os t → LastsWhole j.stored j.may_leave contents log a.1 i q s rs os t
   whole_lasts stored_all still s rs os t w = (
     w.0,
     λ k. let l = passed s t rs os [] (w.1 (starts s k)) in let go = l.going still in (
@@ -325,7 +325,7 @@ module _ {S W J : Type 0} (left : S → List (List Field) → Type 0) (contents 
   )
 
   part_lasts : (s : State) (rs : List (List Field)) (os : List Outcome) (t : State) → Part left contents j a b s rs os t →
-      LastsCut j.stored j.may_leave contents log a.1 i q s rs os t
+      Lasts j.stored j.may_leave contents log a.1 (j.may_leave i.journal) q s rs os t
   part_lasts s rs os t w = (
     w.0,
     λ k.
@@ -338,8 +338,8 @@ module _ {S W J : Type 0} (left : S → List (List Field) → Type 0) (contents 
         ),
   )
 
-  unsent_lasts : (s : State) (rs : List (List Field)) (os : List Outcome) (t : State) → Whole left contents j a b s rs os t →
-      LastsCut j.stored j.may_leave contents log a.1 i q s rs os t
+  unsent_lasts : (s : State) (rs : List (List Field)) (os : List Outcome) (t : State) → Entire left contents j a b s rs os t →
+      Lasts j.stored j.may_leave contents log a.1 (j.may_leave i.journal) q s rs os t
   unsent_lasts s rs os t w = (w.0, λ k. let l = passed s t rs os [] (w.1 (starts s k)) in (l.sent, l.device, l.survives))
 
   -- the end of a run, once its answers were sent, or could not be
@@ -347,20 +347,20 @@ module _ {S W J : Type 0} (left : S → List (List Field) → Type 0) (contents 
       (s : Result A RunFault) → a.0.source ≡ source → OnOk s ((ready i ≡ []) × (is_closed i ≡ false)) →
       IfErr s (λ e. e ≡ fault.Write) → IsContent old.state.content → IfOk r (RanIn (Happens left contents j) stop old a new b)
       → IfErr r (CutIn (Happens left contents j) stop old a new b) → (records : Records) → IfSome records (left source)
-      → EndedOn (LastsWhole j.stored j.may_leave contents log a.1 i q) (LastsCut j.stored j.may_leave contents log a.1 i q) stop
+      → EndedOn (LastsWhole j.stored j.may_leave contents log a.1 i q) (Lasts j.stored j.may_leave contents log a.1 (j.may_leave i.journal) q) stop
       old records (written contents a.1) new (written contents q) (once_sent r s)
   lasting stop old new source r s of all unsent base ran cut records begins =
       let run =
       on_records (left_of left contents j) (written_of left contents j) (Happens left contents j) (log_sees left contents j)
-      stop old new a b (Whole left contents j a b) (Part left contents j a b)
+      stop old new a b (Entire left contents j a b) (Part left contents j a b)
       (gives_whole left contents j stop old new a b) (gives_part left contents j stop old new a b) records r base
       (subst (λ (x : S). IfSome records (left x)) (sym of) begins) ran cut in
-      ended_sent (Whole left contents j a b) (Part left contents j a b)
-      (LastsWhole j.stored j.may_leave contents log a.1 i q) (LastsCut j.stored j.may_leave contents log a.1 i q) stop old
+      ended_sent (Entire left contents j a b) (Part left contents j a b)
+      (LastsWhole j.stored j.may_leave contents log a.1 i q) (Lasts j.stored j.may_leave contents log a.1 (j.may_leave i.journal) q) stop old
       (written contents a.1) new (written contents b.1) (written contents q) (passes_stores b.0.gate i b.1 q sends) records r s
       (on_sent s all) unsent_lasts part_lasts unsent run
     where
       on_sent : {A : Type 0} (s : Result A RunFault) → OnOk s ((ready i ≡ []) × (is_closed i ≡ false)) →
-          OnOk s (Then (Whole left contents j a b) (LastsWhole j.stored j.may_leave contents log a.1 i q))
+          OnOk s (Then (Entire left contents j a b) (LastsWhole j.stored j.may_leave contents log a.1 i q))
       on_sent (Ok done) h = whole_lasts h.0 h.1
       on_sent (Err e) h = tt

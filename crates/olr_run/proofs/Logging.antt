@@ -130,10 +130,10 @@ by_reply k w t u r (Err g) reply e h f = absurd (let never = h.0 in cc)
 follows_outcome : (k : List ℕ) (w : Waiting) (t u : State) (r : List Field) (o : Outcome) → Follows k t w →
     SoundOutcome t r o u → Follows k u (answered r (is_ok o) w)
 follows_outcome k w t u r (Ok reply) f (inl h, sound) = by_reply k w t u r (read r) reply refl h f
-follows_outcome k w t u r (Ok reply) f (inr h, sound) = absurd (let never = h.1.0 in cc)
+follows_outcome k w t u r (Ok reply) f (inr h, sound) = absurd (let never = h.1 in cc)
 follows_outcome k w t u r (Err g) f (inl h, sound) =
     subst (λ (x : State). Follows k x w) (sym (refused_same t u (read r) g h)) f
-follows_outcome k w t u r (Err g) f (inr h, sound) = subst (λ (x : State). Follows k x w) (sym h.1.1) f
+follows_outcome k w t u r (Err g) f (inr h, sound) = subst (λ (x : State). Follows k x w) (sym h.2) f
 
 -- ---- the outcomes so far
 

@@ -1,12 +1,12 @@
 -- What the record of an accepted command does to a log, and its line.
 use Rattle.olr_run.proofs.Common.{◌≡◌, AllByRecursion, join_with_byte, and_parts, Drop_path, Show_node, Set_margin, Show_margin}
-use Rattle.olr_run.proofs.Common.{◌∙◌, true, false, arith, Change, On_map, Report, Begin, Commit, Abort, Preview, Field, Effect}
+use Rattle.olr_run.proofs.Common.{◌∙◌, true, false, arith, On_map, Report, Begin, Commit, Abort, Preview, Field, Effect}
 use Rattle.olr_run.proofs.Common.{ℕ, List, [], ◌∷◌, ◌++◌, Ok, refl, ap, IfOk, Make, Show, Dump, read, two, Bool, Command}
 use Rattle.olr_run.proofs.Common.{Add_path, Set_path, Explain, Show_line, Compact, effect_of, has_line, IsLogged}
 use Rattle.std.specs.Prelude.{codes}
 use Rattle.olr_spec.specs.Map.{Add_node, Move_node, Drop_node, Drop_line}
 use Rattle.olr_commands.specs.Recordable.{is_name_byte}
-use Rattle.olr_records.specs.Records.{number, amount, name, one, none, node_record, forms, line_record, set_line_record}
+use Rattle.olr_records.specs.Records.{number, amount, name, one, node_record, forms, line_record, set_line_record}
 use Rattle.olr_records.specs.Records.{path_fields, margin_record, digits, class}
 use Rattle.olr_records.proofs.ReadLemmas.{of_forms, known_fields, all_made, all_asked, all_alone, all_depend, all_ambiguous}
 use Rattle.olr_records.proofs.TestLemmas.{◌also◌}

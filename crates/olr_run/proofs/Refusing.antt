@@ -2,14 +2,15 @@
 use Rattle.olr_run.proofs.Common.{Field, records_of, ◌≡◌, ◌∙◌, ◌≤◌, ℕ, Bool, true, false, List, length, Option, Some, None, Ok}
 use Rattle.olr_run.proofs.Common.{Err, refl, sym, subst, arith, eqb-true, ◌==◌, nat_le, nat_tests, Change, Command, Content}
 use Rattle.olr_run.proofs.Common.{Make, Begin, Commit, Memory, State, Fault, after, full, step, with_change, with_held, ends}
-use Rattle.olr_run.proofs.Common.{IsChange, closed, InPlace, LeadsNowhere, Loads, NeverChanges, Refuses}
+use Rattle.olr_run.proofs.Common.{IsChange, closed, InPlace, LeadsNowhere, Loads, Refuses}
 use Rattle.olr_run.proofs.Common.{RefusesRecord, Loader, left_of, HasNone, TakesOne, InMemory}
 use Rattle.olr_register.specs.BatchChanges.{ByContent, Lacks, MayReport}
+use Rattle.olr_register.specs.Built as built
 use Rattle.olr_run.proofs.Restoring.{Loading, holding}
 
 -- ---- one command
 
-pub not_made : (c d : Content) (x : Change) (f : Fault) → MayReport (with_change c x) f → (f ≡ Memory → ⊥) →
+not_made : (c d : Content) (x : Change) (f : Fault) → MayReport (with_change c x) f → (f ≡ Memory → ⊥) →
     with_change c x ≡ Ok d → ⊥
 not_made c d x f (ByContent e) other ok = let never : Err f ≡ Ok d = sym e ∙ ok in absurd cc
 not_made c d x f (Lacks is first) other ok = other is
@@ -21,10 +22,12 @@ accepted c None x t e = ends (λ _. (d : Content) × (with_change c x ≡ Ok d))
 accepted c (Some xs) x t e =
     ends (λ _. (d : Content) × (with_change (after c xs) x ≡ Ok d)) (holding c xs) t (Make x) e (λ d ok room. (d, ok))
 
-pub change_never : (l : Loader) (c : Command) → IsChange c → NeverChanges l.building c → Refuses l c
-change_never l c change never s a t ok =
+pub change_never : (l : Loader) (c : Command) (f : Fault) → IsChange c → built.Refuses l.building c f → (f ≡ Memory → ⊥) →
+    Refuses l c
+change_never l c f change refused other s a t ok =
     let one = accepted s.content s.batch change.0 t (subst (λ (k : Command). step s k ≡ Ok t) change.1 ok) in
-    never change.0 change.1 one.0 (subst (λ (d : Content). with_change d change.0 ≡ Ok one.0) (sym a.content) one.1)
+    not_made l.building one.0 change.0 f (refused change.0 change.1) other
+    (subst (λ (d : Content). with_change d change.0 ≡ Ok one.0) (sym a.content) one.1)
 
 -- in a full batch, in an open one, and in none
 full_batch : (l : Loader) (x : Change) → l.in_batch ≡ true → full ≤ l.count → Refuses l (Make x)

@@ -1,14 +1,12 @@
 -- The records of a log, whose changes are made as they come.
-use Rattle.olr_run.proofs.Common.{Represents, Registered, command_of, ◌≡◌, ◌∙◌, ◌+◌, ◌<◌, ℕ, true, false, List, [], ◌∷◌, ◌++◌}
+use Rattle.olr_run.proofs.Common.{Represents, Registered, ◌≡◌, ◌∙◌, ◌+◌, ◌<◌, ℕ, true, false, List, [], ◌∷◌, ◌++◌}
 use Rattle.olr_run.proofs.Common.{length, Option, Some, None, Ok, refl, sym, ap, subst, arith, length-append, eq-eqb, ◌==◌, Err}
 use Rattle.olr_run.proofs.Common.{nat_le, nat_tests, Content, Change, Command, Make, Begin, Commit, State, with_change, after}
 use Rattle.olr_run.proofs.Common.{step, full, start_state, next_ok, after_push, Accepted, IsLogged, closed, Changes, IsChange}
-use Rattle.olr_run.proofs.Common.{HasContentOf, Loads, Loaded, LoadsRecord, IsKind, kind_by, Kind, Loader, Field, records_of}
+use Rattle.olr_run.proofs.Common.{HasContentOf, Loads, Loaded, LoadsRecord, Loader, Field, records_of}
 use Rattle.olr_run.proofs.Common.{left_of, HasNone, TakesOne, InMemory, OnOk, IfErr, Result, Refuses, is_rejection}
 use Rattle.olr_run.specs.declared.loader.RestoreFault.{RestoreFault}
-use Rattle.olr_commands.specs.declared.command.Command.{Command as Rust}
 use Rattle.olr_run.proofs.Accepting.{accepted_next}
-use Rattle.olr_commands.specs.declared.command.Command.TheVariants as rust
 
 -- a state whose batch holds these changes
 abbrev pub holding : Content → List Change → State
@@ -134,16 +132,3 @@ pub refused_result : (l : Loader) (c k : Command) (r : Result (Unit {0}) Restore
     IfErr r (λ e. is_rejection e ≡ true → Refuses l k) → IfErr r (λ e. is_rejection e ≡ true → IsLogged c → Refuses l c)
 refused_result l c k (Ok done) e h = tt
 refused_result l c k (Err f) e h = λ is stored. subst (Refuses l) (sym e) (h is)
-
-kind_of_command : (c : Rust) → IsKind (command_of c) (kind_by c)
-kind_of_command (rust.Edit e) = (_, refl)
-kind_of_command (rust.AddPath name lines p n) = (_, refl)
-kind_of_command (rust.SetPath name lines p n) = (_, refl)
-kind_of_command (rust.DropPath name) = (_, refl)
-kind_of_command (rust.SetMargin g) = (_, refl)
-kind_of_command rust.Begin = refl
-kind_of_command (rust.Commit count) = refl
-kind_of_command c = λ stored. stored
-
-pub kind_is : (c : Rust) (k : Kind) → k ≡ kind_by c → IsKind (command_of c) k
-kind_is c k e = subst (IsKind (command_of c)) (sym e) (kind_of_command c)

@@ -1,5 +1,5 @@
 -- Runs.
-use Rattle.olr_run.proofs.Common.{Outcome, Claims, is_named, is_refused, is_dumped, Claimed, IsContent, Command, OutOfMemory}
+use Rattle.olr_run.proofs.Common.{Outcome, Claims, is_named, is_refused, is_dumped, Claimed, IsContent, Command, Memory, ◌≡◌}
 use Rattle.olr_run.proofs.Common.{Field, read, rules, List, [], Option, None, Some, Ok, Err, refl, subst, arith, State, Read}
 use Rattle.olr_run.proofs.Common.{CommandOutcome, SoundOutcome, SoundOutcomes, outcome_leads, headline_of, ◌∷◌, decoded_command}
 use Rattle.std.specs.Result.{result_ok}
@@ -14,7 +14,7 @@ command_claims s t (Ok c) o sound h = search (rules, arith, outcome_leads, is_na
 command_claims s t (Err f) (Ok reply) sound h = absurd (let no = h.0 in cc)
 command_claims s t (Err f) (Err g) sound h = grind arith
 
-lacking_claims : (s t : State) (given : Option Command) (o : Outcome) → IsContent t.content → OutOfMemory s o t →
+lacking_claims : (s t : State) (given : Option Command) (o : Outcome) → IsContent t.content → (o ≡ Err Memory) × (t ≡ s) →
     Claimed s given o t
 lacking_claims s t None o sound h = grind arith
 lacking_claims s t (Some c) o sound h = grind arith

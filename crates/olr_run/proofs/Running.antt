@@ -2,7 +2,7 @@
 use Rattle.olr_run.proofs.Common.{◌&&◌, ◌||◌, Took, Wrote, RanIn, CutIn, arith, ℕ, Bool, true, false, List, subst, State}
 use Rattle.olr_run.proofs.Common.{is_err, RunFault, run_more, No_text, Exchange, or-false, flat_map, is_ok, Field, Event, Ended}
 use Rattle.olr_run.proofs.Common.{length, Result, GoesOn, Answer, Unasked, Status, or-true, if◌then◌else◌, list_any-append}
-use Rattle.olr_run.proofs.Common.{SoundOutcomes, Past_the_most, AreReplacement, flat_map-append, ⊤, Not_taken, status_of}
+use Rattle.olr_run.proofs.Common.{SoundOutcomes, Past_the_most, AreReplacement, flat_map-append, ⊤, Not_taken}
 use Rattle.olr_run.proofs.Common.{cases_Bool, IsContent, run_status, IsExchange, or_parts, Not_sent, In_text, In_taking}
 use Rattle.olr_run.proofs.Common.{Exchanged, events_of, unwritten, Compacted, and-false, append-nil, Represents, Registered}
 use Rattle.olr_run.proofs.Common.{History, IsOfTaking, AnsweredOn, any_refused, Replacement, Outcome, most_records}
@@ -12,17 +12,16 @@ use Rattle.olr_input.proofs.SessionLemmas.{history_join}
 use Rattle.olr_commands.specs.History.{Run}
 use Rattle.olr_run.specs.Runs as runs
 use Rattle.olr_run.proofs.RunLemmas.{sound_after, claims_of, none_claimed}
-use Rattle.olr_run.specs.Output as output
 use Rattle.olr_input.specs.declared.ends.Status.TheVariants as ended
 use Rattle.olr_input.specs.declared.ends.RunFault.TheVariants as fault
 
 -- ---- outcomes
 
 -- the status of a run, by whether some record was rejected
-abbrev pub status_by : Bool → Bool → output.Status
-status_by stop b = if b then (if stop then output.Stopped else output.Some_refused) else output.All_accepted
+abbrev pub status_by : Bool → Bool → Status
+status_by stop b = if b then (if stop then ended.Stopped else ended.SomeRefused) else ended.AllAccepted
 
-pub stopped_is : (stop b : Bool) → output.Stopped ≡ status_by stop b → (stop && b) ≡ true
+pub stopped_is : (stop b : Bool) → ended.Stopped ≡ status_by stop b → (stop && b) ≡ true
 stopped_is stop b e = grind (arith, cases_Bool)
 
 -- if none of the first ends the run
@@ -39,7 +38,7 @@ refused_more os (Err f) b e = list_any-append is_err os (Err f ∷ []) ∙ ap (�
 
 -- the run goes on after these outcomes, and would end with this status
 abbrev pub Going : Bool → Status → List Outcome → Type 0
-Going stop end os = ((stop && any_refused os) ≡ false) × (status_of end ≡ run_status stop os)
+Going stop end os = ((stop && any_refused os) ≡ false) × (end ≡ run_status stop os)
 
 accepted_goes : (stop : Bool) (end : Status) (os : List Outcome) (o : Outcome) → is_ok o ≡ true → Going stop end os →
     Going stop end (os ++ o ∷ [])
@@ -203,7 +202,7 @@ module _ {S : Type 0} (happens : S → Event → S → Type 0) (stop : Bool) (ol
                   (history_more (reported.text, reported.accepts) d.0 on reported.writes.0 d.2);
             };
             answered =
-                answers_more (λ os. status_of ended.Stopped ≡ run_status stop os) (Ok b) reported d.0 d.1 (λ os o is g.
+                answers_more (λ os. ended.Stopped ≡ run_status stop os) (Ok b) reported d.0 d.1 (λ os o is g.
                 let some : any_refused (os ++ o ∷ []) ≡ true =
                 refused_more os o false (is ∙ sym reported.writes.1 ∙ e) ∙ or-true (any_refused os) in rw (some, stops) refl);
           }

@@ -1,6 +1,6 @@
 -- The end of a run once its answers were sent, or could not be, with what is known of its outcomes from more.
 use Rattle.olr_run.proofs.Common.{Field, Keeps, Known, LeadsOn, Outcome, Records, RanOn, FaultedOn, Registered, EndedOn, IfErr}
-use Rattle.olr_run.proofs.Common.{RunFault, exit_code, status_of, once_sent, OnOk, ◌≡◌, ◌≤◌, ℕ, Bool, List, None, Some, Result}
+use Rattle.olr_run.proofs.Common.{RunFault, exit_code, once_sent, OnOk, ◌≡◌, ◌≤◌, ℕ, Bool, List, None, Some, Result}
 use Rattle.olr_run.proofs.Common.{Ok, Err, arith, Appends-kept, State, Faulted, Ran, Status}
 use Rattle.olr_run.specs.Output as output
 use Rattle.olr_input.specs.declared.ends.RunFault.TheVariants as fault
@@ -24,7 +24,7 @@ module _ (Before After : State → List (List Field) → List Outcome → State 
   pub ran_sent : (records : Records) (end : Status) → RanOn Before stop old records before new mid end →
       RanOn After stop old records before new later end
   ran_sent records end h =
-      sent (λ s rs t w. Ran Before stop s rs t w (status_of end)) (λ s rs t w. Ran After stop s rs t w (status_of end))
+      sent (λ s rs t w. Ran Before stop s rs t w end) (λ s rs t w. Ran After stop s rs t w end)
       (λ s rs t w r. record {
         outcomes = r.outcomes;
         each = f s rs r.outcomes t r.each;
@@ -44,7 +44,7 @@ module _ (Before After : State → List (List Field) → List Outcome → State 
   pub ran_unsent : (records : Records) (end : Status) (e : RunFault) → e ≡ fault.Write →
       RanOn Before stop old records before new mid end → FaultedOn After stop old records before new later e
   ran_unsent records end e write h =
-      sent (λ s rs t w. Ran Before stop s rs t w (status_of end)) (λ s rs t w. Faulted After stop s rs t w e)
+      sent (λ s rs t w. Ran Before stop s rs t w end) (λ s rs t w. Faulted After stop s rs t w e)
       (λ s rs t w r. record {
         outcomes = r.outcomes;
         each = f s rs r.outcomes t r.each;

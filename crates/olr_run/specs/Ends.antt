@@ -19,7 +19,8 @@ use Rattle.olr_log.specs.declared.log_file.LogFile.{LogFile}
 use Rattle.olr_log.specs.declared.place.OpenError.{OpenError}
 use Rattle.olr_log.specs.declared.place.OpenError.TheVariants as unopened
 use Rattle.olr_register.specs.Registered.{Registered, nothing_registered}
-use Rattle.olr_run.specs.LogEnds.{Begins, LastsOn, Unbegun}
+use Rattle.olr_run.specs.LogEnds.{Begins, Unbegun}
+use Rattle.olr_run.specs.Logs.{Lasts}
 use Rattle.olr_run.specs.Output.{Claims}
 use Rattle.olr_run.specs.Runs.{Records, EndedOn, records_read}
 use Rattle.olr_input.specs.Buffers.{written}
@@ -88,8 +89,9 @@ module _ {D F : Type 0} {d : disk.Ghosts D} {f : folder.Ghosts F D} {W : Type 0}
         FromLog log last least stop records o p code
     Begun : (read start : LogFile D F d f) (old new : Registered) → Begins log read start old →
         (end : Result Status RunFault) →
-        EndedOn (LastsOn contents start o last p) (LastsOn contents start o last p) stop old records (written contents o)
-        new (written contents p) end
+        EndedOn (Lasts stored_of left_of contents start o (left_of last) p)
+        (Lasts stored_of left_of contents start o (left_of last) p) stop old records (written contents o) new
+        (written contents p) end
         → (g : Gate (LogFile D F d f)) → (compaction g).compacted_from ≡ least → LeftAfter g end last
         → code ≡ run_code end (is_some new.state.batch) → FromLog log last least stop records o p code
 

@@ -4,39 +4,29 @@
 --     BeginsWith own text c      what the text of a log says: of one that the program wrote, each record is a line as the
 --         program writes it
 --     Begins log read start register      a register and a log in which records can be stored, from a log that was opened
---     LastsOn      what the log may leave at the end of the run
 use Rattle.std.specs.Prelude.{◌≡◌, ◌⊎◌, ℕ, Bool, true, false, List}
 use Rattle.std.specs.List.{concat}
 use Rattle.sqlite_disk.specs.declared.Disk as disk
 use Rattle.olr_commands.specs.Dump.{dump_lines}
-use Rattle.olr_commands.specs.Reply.{Outcome}
-use Rattle.olr_commands.specs.State.{Content, State}
+use Rattle.olr_commands.specs.State.{Content}
 use Rattle.olr_log.specs.Logs.{stored_of, left_of, is_own_of, is_clean}
 use Rattle.olr_log.specs.declared.folder.Folder as folder
 use Rattle.olr_log.specs.declared.log_file.LogFile.{LogFile}
-use Rattle.olr_records.specs.Records.{Field}
 use Rattle.olr_register.specs.RegisterState.{Represents}
 use Rattle.olr_register.specs.Registered.{Registered}
 use Rattle.olr_run.specs.Logged.{closed, Leads}
-use Rattle.olr_run.specs.Logs.{Lasts}
-use Rattle.olr_run.specs.Output.{Claims}
-use Rattle.olr_run.specs.Restored.{HasContentOf, IsContentOf, LeadsNowhere}
+use Rattle.olr_run.specs.Restored.{HasContentOf, IsContentOf, LeadsNowhere, is_rejection}
 use Rattle.olr_run.specs.declared.starts.StartFault.{StartFault}
 use Rattle.olr_run.specs.declared.starts.StartFault.TheVariants as start
 use Rattle.olr_input.specs.Journals.{Only}
-use Rattle.olr_input.specs.Sessions.{Known}
-use Rattle.olr_input.specs.declared.buffered.Buffered.{Buffered}
 
 abbrev pub AreRecordsOf : Registered → List ℕ → Type 0
 AreRecordsOf register text = (c : Content) → Represents register.state (closed c) → text ≡ concat (dump_lines c)
 
 -- a log is rejected for this fault, whatever memory there is
 abbrev pub is_rejected : StartFault → Bool
-is_rejected (start.Rejected at) = true
-is_rejected start.Open = true
 is_rejected (start.Unusable error) = false
-is_rejected start.TooMany = false
-is_rejected start.Memory = false
+is_rejected (start.Records fault number line) = is_rejection fault
 
 abbrev pub BeginsWith : Bool → List ℕ → Content → Type 0
 BeginsWith true text c = Leads text c
@@ -63,10 +53,3 @@ module _ {D F : Type 0} {d : disk.Ghosts D} {f : folder.Ghosts F D} where
       × ((t : List ℕ) → left_of last t → left_of log t ⊎ (t ≡ stored_of log)
       ⊎ (is_clean read ≡ true → (c : Content) × IsContentOf (stored_of log) c × (t ≡ concat (dump_lines c))))
       × (rejected ≡ true → is_clean read ≡ true → LeadsNowhere (stored_of log))
-
-  -- however the run ended, each text that may be left of the log leads to the content after the first of the outcomes, and of
-  -- the texts of later ones nothing was sent
-  abbrev pub LastsOn : {W : Type 0} → (W → Known) → LogFile D F d f → Buffered W → LogFile D F d f → Buffered W → State →
-      List (List Field) → List Outcome → State → Type 0
-  LastsOn contents start o last p s rs os t =
-      Claims s rs os t × Lasts stored_of left_of contents start o (left_of last) p s rs os

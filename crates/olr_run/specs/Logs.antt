@@ -1,6 +1,6 @@
 -- What is known of a run with a log, at its end.
 --     Began      the log led to the content of the register, no batch was open, and no answer was held back
---     LastsWhole, LastsCut      what the log may leave then, and what was sent of the answers
+--     Lasts, LastsWhole      what the log may leave then, and what was sent of the answers
 use Rattle.std.specs.Prelude.{◌≡◌, ℕ, List, [], None}
 use Rattle.std.specs.Io.KnownBytes.{Appends}
 use Rattle.olr_commands.specs.State.{State}
@@ -15,17 +15,19 @@ use Rattle.olr_input.specs.declared.buffered.Buffered.{Buffered}
 use Rattle.olr_input.specs.declared.gate.Gate.{Gate}
 
 module _ {J W : Type 0} (stored : J → List ℕ) (may_leave : J → List ℕ → Type 0) (contents : W → Known) where
-  -- Of a run from s with a log that led to the content of s: whenever it ended, each text that may be left of the log leads
-  -- to the content after the first of its outcomes, and of the texts of later ones nothing was sent
+  -- a run from s with a log that led to the content of s
   pub record Began (s : State) (j : J) (o : Buffered W) : Type 0 where
     pub closed_batch : s.batch ≡ None
     pub only : Only (stored j) (may_leave j)
     pub leads : Leads (stored j) s.content
     pub none_pending : pending o ≡ []
 
-  abbrev pub Lasts : J → Buffered W → (List ℕ → Type 0) → Buffered W → State → List (List Field) → List Outcome → Type 0
-  Lasts j o left p s rs os =
-      Began s j o → (sent : List ℕ) × Appends (contents o.device) (contents p.device) sent × Survives s rs os left sent
+  -- however the run ended, each text that may be left of the log leads to the content after the first of the outcomes, and
+  -- of the texts of later ones nothing was sent
+  abbrev pub Lasts : J → Buffered W → (List ℕ → Type 0) → Buffered W → State → List (List Field) → List Outcome → State → Type 0
+  Lasts j o left p s rs os t =
+      Claims s rs os t
+      × (Began s j o → (sent : List ℕ) × Appends (contents o.device) (contents p.device) sent × Survives s rs os left sent)
 
   -- a whole run: the log leads to the content at its end
   abbrev pub LastsWhole : J → Buffered W → Gate J → Buffered W → State → List (List Field) → List Outcome → State → Type 0
@@ -34,7 +36,3 @@ module _ {J W : Type 0} (stored : J → List ℕ) (may_leave : J → List ℕ �
       × (Began s j o → (sent : List ℕ) × Appends (contents o.device) (contents p.device) sent
       × Survives s rs os (may_leave g.journal) sent × UpTo s rs os t.content sent
       × Leads (stored g.journal) t.content × Only (stored g.journal) (may_leave g.journal))
-
-  -- one that was cut off
-  abbrev pub LastsCut : J → Buffered W → Gate J → Buffered W → State → List (List Field) → List Outcome → State → Type 0
-  LastsCut j o g p s rs os t = Claims s rs os t × Lasts j o (may_leave g.journal) p s rs os

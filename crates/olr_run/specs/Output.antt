@@ -25,6 +25,8 @@ use Rattle.olr_records.specs.Recorded.{StaysRecorded}
 use Rattle.olr_records.specs.ReplyText.{count_line, reply_text, outcome_text}
 use Rattle.olr_input.specs.declared.ends.RunFault.{RunFault}
 use Rattle.olr_input.specs.declared.ends.RunFault.TheVariants as fault
+use Rattle.olr_input.specs.declared.ends.Status.{Status}
+use Rattle.olr_input.specs.declared.ends.Status.TheVariants as status
 
 -- with commas, quotes and line ends as is csv's default, no header, and any number of fields
 abbrev pub records_of : List ℕ → List (List Field)
@@ -37,12 +39,9 @@ abbrev pub CommandOutcome : State → Result Command ReadFault → Outcome → S
 CommandOutcome s (Ok c) o t = IsOutcome s c o t
 CommandOutcome s (Err fault) o t = (o ≡ Err (read_fault fault)) × (t ≡ s)
 
-abbrev pub OutOfMemory : State → Outcome → State → Type 0
-OutOfMemory s o t = (o ≡ Err Memory) × (t ≡ s)
-
 -- reading a record may run out of memory if its command holds a list
 abbrev pub RecordOutcome : State → List Field → Outcome → State → Type 0
-RecordOutcome s fields o t = CommandOutcome s (read fields) o t ⊎ (TakesMemory fields × OutOfMemory s o t)
+RecordOutcome s fields o t = CommandOutcome s (read fields) o t ⊎ (TakesMemory fields × (o ≡ Err Memory) × (t ≡ s))
 
 -- ---- records, one after another
 
@@ -106,11 +105,8 @@ AreAnswered stop rs os = (length os ≡ length rs) ⊎ IsTrue (stop && any_refus
 abbrev pub texts : List Outcome → List ℕ
 texts os = flat_map outcome_text os
 
-pub data Status : Type 0 where
-  All_accepted Some_refused Stopped : Status
-
 abbrev pub run_status : Bool → List Outcome → Status
-run_status stop os = if any_refused os then (if stop then Stopped else Some_refused) else All_accepted
+run_status stop os = if any_refused os then (if stop then status.Stopped else status.SomeRefused) else status.AllAccepted
 
 -- ---- runs; Each is the relation of records, outcomes and states
 
@@ -139,14 +135,6 @@ pub record Faulted (Each : State → List (List Field) → List Outcome → Stat
   pub each : Each s rs outcomes t
   pub stops : StopsAtFault stop outcomes
   pub wrote : CutOff stop outcomes written e
-
--- the greater of two statuses
-abbrev pub greater : Status → Status → Status
-greater All_accepted end = end
-greater Some_refused All_accepted = Some_refused
-greater Some_refused Some_refused = Some_refused
-greater Some_refused Stopped = Stopped
-greater Stopped end = Stopped
 
 -- no outcome is out of memory
 abbrev pub AllHadMemory : List Outcome → Type 0

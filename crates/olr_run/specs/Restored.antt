@@ -2,24 +2,17 @@
 --     IsContentOf text c      the records of the text are accepted one after another from the start, and lead to this
 --         content, with no batch open at the end
 --     HasContentOf text register, LeadsNowhere text      the register has this content, or there is none
---     NeverChanges old c      the change that command c makes is not accepted
 --     Loads l s      the records so far lead to this state, and the loader has its content once the held changes are made
 --     Loaded old c new      this command of a log is accepted
 --     is_rejection fault      a log is rejected for it, whatever memory there is
 --     Refuses l c, RefusesRecord l fields      this command of a log, or a record, is accepted in no state that the loader stands for
 use Rattle.std.specs.Prelude.{◌≡◌, ℕ, Bool, true, false, List, length, Option, Some, None, Ok}
-use Rattle.olr_commands.specs.State.{Content, Change, Command, Make, Begin, Commit, State, start_state, step}
-use Rattle.olr_commands.specs.State.{with_change, with_held}
+use Rattle.olr_commands.specs.State.{Content, Change, Command, State, start_state, step, with_held}
 use Rattle.olr_records.specs.Records.{Field, read}
-use Rattle.olr_commands.specs.declared.command.Command.{Command as Rust}
-use Rattle.olr_commands.specs.declared.command.Command.TheVariants as rust
-use Rattle.olr_register.specs.Built.{IsChange}
 use Rattle.olr_register.specs.RegisterState.{Represents}
 use Rattle.olr_register.specs.Registered.{Registered}
 use Rattle.olr_run.specs.Logged.{Accepted, IsLogged, closed}
 use Rattle.olr_run.specs.Output.{records_of}
-use Rattle.olr_run.specs.declared.loader.Kind.{Kind}
-use Rattle.olr_run.specs.declared.loader.Kind.TheVariants as kind
 use Rattle.olr_run.specs.declared.loader.Loader.{Loader}
 use Rattle.olr_run.specs.declared.loader.RestoreFault.{RestoreFault}
 use Rattle.olr_run.specs.declared.loader.RestoreFault.TheVariants as restore
@@ -32,9 +25,6 @@ HasContentOf text r = (c : Content) × IsContentOf text c × Represents r.state 
 
 abbrev pub LeadsNowhere : List ℕ → Type 0
 LeadsNowhere text = (c : Content) → IsContentOf text c → ⊥
-
-abbrev pub NeverChanges : Content → Command → Type 0
-NeverChanges old c = (x : Change) → c ≡ Make x → (d : Content) → with_change old x ≡ Ok d → ⊥
 
 abbrev pub InPlace : Loader → Option (List Change) → Type 0
 InPlace l None = l.in_batch ≡ false
@@ -53,29 +43,10 @@ LoadsRecord old fields new = (c : Command) × (read fields ≡ Ok c) × IsLogged
 abbrev pub is_rejection : RestoreFault → Bool
 is_rejection restore.Memory = false
 is_rejection restore.TooMany = false
-is_rejection (restore.Rejected line) = true
-is_rejection restore.NoChange = true
-is_rejection restore.Open = true
+is_rejection fault = true
 
 abbrev pub Refuses : Loader → Command → Type 0
 Refuses l c = (s : State) → Loads l s → (t : State) → step s c ≡ Ok t → ⊥
 
 abbrev pub RefusesRecord : Loader → List Field → Type 0
 RefusesRecord l fields = (c : Command) → read fields ≡ Ok c → IsLogged c → Refuses l c
-
--- what a command is to a log
-abbrev pub IsKind : Command → Kind → Type 0
-IsKind c kind.Change = IsChange c
-IsKind c kind.Begin = c ≡ Begin
-IsKind c (kind.Commit n) = c ≡ Commit n
-IsKind c kind.Other = IsLogged c → ⊥
-
-abbrev pub kind_by : Rust → Kind
-kind_by (rust.Edit e) = kind.Change
-kind_by (rust.AddPath name lines p n) = kind.Change
-kind_by (rust.SetPath name lines p n) = kind.Change
-kind_by (rust.DropPath name) = kind.Change
-kind_by (rust.SetMargin g) = kind.Change
-kind_by rust.Begin = kind.Begin
-kind_by (rust.Commit count) = kind.Commit count
-kind_by _ = kind.Other

@@ -23,7 +23,6 @@ use Rattle.olr_records.specs.Records.{Field}
 use Rattle.olr_records.specs.ReplyText.{outcome_text, reply_text, fault_text}
 use Rattle.olr_register.specs.RegisterState.{Represents}
 use Rattle.olr_register.specs.Registered.{Registered}
-use Rattle.olr_run.specs.Output as output
 use Rattle.olr_run.specs.Output.{SoundOutcome, Claims, StopsAtFault, any_refused, run_status, Ran, Faulted}
 use Rattle.olr_run.specs.Output.{most_records}
 use Rattle.olr_input.specs.Inputs.{input_records}
@@ -96,11 +95,6 @@ CompactsFrom {S} {W} happens register before later =
 
 -- ---- runs in a session
 
-abbrev pub status_of : Status → output.Status
-status_of status.AllAccepted = output.All_accepted
-status_of status.SomeRefused = output.Some_refused
-status_of status.Stopped = output.Stopped
-
 -- a record that was taken, its answer, and the records that were given after it, if they were asked for
 pub record Exchange : Type 0 where
   pub fields : List Field
@@ -117,15 +111,12 @@ events_of x = Took x.fields ∷ Wrote x.answer ∷ Compacted x.replacement ∷ [
 abbrev pub IsExchange : State → Exchange → Outcome → State → Type 0
 IsExchange s x o t = SoundOutcome s x.fields o t × (answer_of o ≡ x.answer) × IsReplacement t x.replacement
 
-abbrev pub AreExchanges : State → List Exchange → List Outcome → State → Type 0
-AreExchanges s xs os t = Whole IsExchange s xs os t
-
 -- from each state that the register represented, the records of these exchanges have outcomes with their answers, and lead
 -- to a state that it represents; after each of them the records of the content are given, if they are asked for
 abbrev pub AnsweredOn : Bool → (List Outcome → Type 0) → Registered → List Exchange → Registered → Type 0
 AnsweredOn stop And old xs new =
     (s : State) → Represents old.state s → (t : State) × Represents new.state t × (os : List Outcome)
-    × Claims s (records_taken xs) os t × AreExchanges s xs os t × StopsAtFault stop os × And os
+    × Claims s (records_taken xs) os t × Whole IsExchange s xs os t × StopsAtFault stop os × And os
 
 -- no event follows the rejected record that stops the run; otherwise there is no further record
 abbrev pub last_events : Status → List Event
@@ -140,7 +131,7 @@ pub record Exchanged {S : Type 0} (happens : S → Event → S → Type 0) (befo
 pub record RanIn {S : Type 0} (happens : S → Event → S → Type 0) (stop : Bool) (old : Registered) (before : S)
     (new : Registered) (later : S) (end : Status) : Type 0 where
   pub x : Exchanged happens before later (last_events end)
-  pub answered : AnsweredOn stop (λ os. status_of end ≡ run_status stop os) old x.done new
+  pub answered : AnsweredOn stop (λ os. end ≡ run_status stop os) old x.done new
 
 abbrev pub GoesOn : Bool → List Outcome → Type 0
 GoesOn stop os = IsFalse (stop && any_refused os)
@@ -190,7 +181,7 @@ LeadsOn Leads old records before new later =
 abbrev pub RanOn : (State → List (List Field) → List Outcome → State → Type 0) → Bool → Registered → Records → Known →
     Registered → Known → Status → Type 0
 RanOn Each stop old records before new later end =
-    LeadsOn (λ s rs t written. Ran Each stop s rs t written (status_of end)) old records before new later
+    LeadsOn (λ s rs t written. Ran Each stop s rs t written end) old records before new later
 
 -- of a run that was cut off by this fault
 abbrev pub FaultedOn : (State → List (List Field) → List Outcome → State → Type 0) → Bool → Registered → Records →

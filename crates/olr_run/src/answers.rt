@@ -3,7 +3,6 @@
 ghost use Rattle.std.specs.Prelude.{◌≡◌, ◌≢◌, ◌++◌, length, Ok, IfOk, OnOk, is_ok};
 ghost use Rattle.csv.specs.Records.{fields_of};
 ghost use Rattle.olr_commands.specs.State.{Report};
-ghost use Rattle.olr_commands.specs.Words.{outcome_of};
 ghost use Rattle.olr_records.specs.Records.{read};
 ghost use Rattle.olr_input.specs.Sessions.{Given};
 ghost use Rattle.olr_run.specs.Runs.{CarriedOut, IsAnswer, IsReport, answer_text, WritesText, AnswersRecord, AreReplacement, CompactsFrom};
@@ -18,13 +17,6 @@ use olr_records::{
 use olr_register::Register;
 use std::alloc::{AllocError, Global};
 
-/// The reply to a command, or the line of its fault.
-fn reply_or_line(answer: Result<Reply, CommandFault>) -> Result<Reply, &'static str>
-    ensures { IsAnswer result (outcome_of answer) }
-{
-    answer.map_err(fault_text)
-}
-
 /// Carries out the command of a record, and doesn't copy the text of `explain`. Returns the reply, or the line of the fault.
 fn carry_out(
     alloc: Global,
@@ -35,10 +27,10 @@ fn carry_out(
 {
     if let Some(text) = text_to_explain(fields) {
         register.is_sound();
-        return reply_or_line(register.explain(text));
+        return register.explain(text).map_err(fault_text);
     }
     match read_command(alloc, fields) {
-        Ok(command) => reply_or_line(register.apply(command)),
+        Ok(command) => register.apply(command).map_err(fault_text),
         Err(fault) => Err(read_fault_text(fault)),
     }
 }

@@ -10,9 +10,9 @@ ghost use Rattle.olr_input.specs.Buffers.{pending};
 ghost use Rattle.olr_input.specs.Sessions.{most_pending};
 
 use crate::explaining::WRONG_ARGUMENTS;
+use crate::loader::RestoreFault;
 use crate::logged::run_with_log;
-use crate::sizes::CompactionLength;
-use crate::starts::{RejectedRecord, StartFault, begin_with};
+use crate::starts::{StartFault, begin_with};
 use olr_input::{Buffered, Gate, LogFault, RunFault, Source, Status, end_status, report_fault};
 use olr_log::{Folder, LogFile, OpenError};
 use sqlite_disk::Disk;
@@ -23,7 +23,7 @@ use std::mem;
 /// The exit status if a log can't be used.
 const NO_LOG: u8 = 3;
 
-/// The exit status if a record of a log is rejected.
+/// The exit status if a log is rejected.
 const REJECTED: u8 = 5;
 
 /// The exit status if the input ended in a batch.
@@ -76,42 +76,33 @@ fn report_unusable<E: Write>(name: &str, error: io::Error, errors: &mut E) -> u8
     NO_LOG
 }
 
-/// Reports which record of a log is rejected, and why: the line of a fault has its own end.
-fn report_rejected<E: Write>(name: &str, rejected: RejectedRecord, errors: &mut E) {
-    let RejectedRecord {
-        record,
-        line,
-        fault,
-    } = rejected;
-    let _ = match fault {
-        Some(fault) => write!(
-            errors,
-            "olr-keep: record {record} of {name}, line {line}, is rejected: {fault}"
-        ),
-        None => writeln!(
-            errors,
-            "olr-keep: record {record} of {name}, line {line}, is no change, begin or commit"
-        ),
-    };
-}
-
-/// Reports why a run can't begin with a log, and returns the exit status.
+/// Reports why a run can't begin with a log, and returns the exit status. The line of a rejected record's fault has its own
+/// end.
 fn report_start<E: Write>(name: &str, fault: StartFault, errors: &mut E) -> u8
     ensures { UnbegunCode (is_rejected fault) result }
 {
-    match fault {
-        StartFault::Unusable(error) => report_unusable(name, error, errors),
-        StartFault::Rejected(rejected) => {
-            report_rejected(name, rejected, errors);
-            REJECTED
-        }
-        StartFault::Open => {
-            let _ = writeln!(errors, "olr-keep: {name} ends in a batch");
-            REJECTED
-        }
-        StartFault::TooMany => report_fault(RunFault::TooMany, errors),
-        StartFault::Memory => report_fault(RunFault::Memory, errors),
-    }
+    let (fault, record, line) = match fault {
+        StartFault::Unusable(error) => return report_unusable(name, error, errors),
+        StartFault::Records {
+            fault,
+            record,
+            line,
+        } => (fault, record, line),
+    };
+    let _ = match fault {
+        RestoreFault::Rejected(fault) => write!(
+            errors,
+            "olr-keep: record {record} of {name}, line {line}, is rejected: {fault}"
+        ),
+        RestoreFault::NoChange => writeln!(
+            errors,
+            "olr-keep: record {record} of {name}, line {line}, is no change, begin or commit"
+        ),
+        RestoreFault::Open => writeln!(errors, "olr-keep: {name} ends in a batch"),
+        RestoreFault::TooMany => return report_fault(RunFault::TooMany, errors),
+        RestoreFault::Memory => return report_fault(RunFault::Memory, errors),
+    };
+    REJECTED
 }
 
 /// The exit status after a run with a log. Reports why it was cut off, or that it ended in a batch.
@@ -168,7 +159,7 @@ pub(crate) struct LogRun<'a> {
     /// Whether to stop at the first rejected record.
     pub(crate) stop: bool,
     /// The least length of the log that is replaced by the records of the register.
-    pub(crate) from: CompactionLength,
+    pub(crate) from: usize,
 }
 
 /// The log of a run. Its padding is cut off after a run that was not cut off. If that fails, the next start does without it.
@@ -209,7 +200,7 @@ pub(crate) fn with_log<D: Disk + Drop, G: Folder<D>, S: Source + Drop, W: Write 
     errors: &mut E,
 ) -> (u8, Option<LogFile<D, G>>)
     ensures ends { (records : Records) → IfSome records (S.left source) →
-        WithLog W.contents opened result.1 run.now.from.bytes run.now.stop records output.old output.new result.0 }
+        WithLog W.contents opened result.1 run.now.from run.now.stop records output.old output.new result.0 }
     ensures bounded { result.0 ≤ 7 }
     ensures sent { (result.0 ≤ 1) ⊎ (result.0 ≡ 6) → pending output.new ≡ [] }
     ensures lacks { length (pending output.new) ≤ most_pending }

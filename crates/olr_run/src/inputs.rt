@@ -2,31 +2,15 @@
 
 ghost use Rattle.std.specs.Prelude.{IfOk, IfSome};
 ghost use Rattle.olr_run.specs.Runs.{file_bytes, records_read};
-ghost use Rattle.olr_input.specs.Inputs.{input_records, InputLeft};
-ghost use Rattle.olr_input.specs.Sessions.{FirstLeft, JoinedLeft};
+ghost use Rattle.olr_input.specs.Inputs.{InputLeft};
+ghost use Rattle.olr_input.specs.Sessions.{JoinedLeft};
 
 use olr_input::{Input, Joined};
 use std::alloc::{AllocError, Global};
 use std::io::Read;
 
-/// The records of a file, if there is one.
-#[tactic(auto, using(crate::proofs::InputRuns::none_left))]
-fn file_source<F: Read + Drop>(
-    alloc: Global,
-    file: Option<F>,
-    single: bool,
-) -> Result<Option<Input<F>>, AllocError>
-    ensures { IfOk result (λ f. IfSome (input_records single (file_bytes F.remaining file))
-        (FirstLeft (InputLeft F.remaining) f)) }
-{
-    match file {
-        Some(file) => Ok(Some(Input::new(alloc, file, single)?)),
-        None => Ok(None),
-    }
-}
-
 /// The records of a file, if there is one, and then those of an input. A batch that the file leaves open stays open.
-#[tactic(auto, using(crate::proofs::InputRuns::both_left))]
+#[tactic(auto, using(crate::proofs::InputRuns::none_left, crate::proofs::InputRuns::both_left))]
 pub(crate) fn both_sources<F: Read + Drop, R: Read + Drop>(
     alloc: Global,
     file: Option<F>,
@@ -36,8 +20,10 @@ pub(crate) fn both_sources<F: Read + Drop, R: Read + Drop>(
     ensures { IfOk result (λ s. IfSome (records_read single (file_bytes F.remaining file) (R.remaining input))
         (JoinedLeft (InputLeft F.remaining) (InputLeft R.remaining) s.first s.second)) }
 {
-    let first = file_source(alloc, file, single)?;
+    let first = match file {
+        Some(file) => Some(Input::new(alloc, file, single)?),
+        None => None,
+    };
     let second = Input::new(alloc, input, single)?;
-    let both = Joined::new(first, second);
-    Ok(both)
+    Ok(Joined::new(first, second))
 }

@@ -27,5 +27,5 @@ pub use olr_input::{
     Buffered, Gate, Journal, LogFault, RunFault, Session, Status, exit_code, report_fault,
 };
 pub use records::{Scratch, run, run_bytes, run_session, run_source};
-pub use sizes::{CompactionLength, compaction_length};
+pub use sizes::compaction_length;
 pub use streams::program;

@@ -5,10 +5,10 @@ ghost use Rattle.csv.specs.Records.{fields_of};
 ghost use Rattle.olr_commands.specs.State as state;
 ghost use Rattle.olr_commands.specs.State.{start_state, Content, Begin, Commit};
 ghost use Rattle.olr_commands.specs.Words.{command_of, command_fault_of};
-ghost use Rattle.olr_register.specs.Built.{Changes, EncodedOnce, IsChange};
+ghost use Rattle.olr_register.specs.Built.{EncodedOnce, IsChange};
 ghost use Rattle.olr_register.specs.RegisterState.{Represents};
 ghost use Rattle.olr_run.specs.Logged.{closed, IsLogged, Leads};
-ghost use Rattle.olr_run.specs.Restored.{HasContentOf, LeadsNowhere, Loaded, Loads, LoadsRecord, NeverChanges, Refuses, RefusesRecord, is_rejection, kind_by};
+ghost use Rattle.olr_run.specs.Restored.{HasContentOf, LeadsNowhere, Loaded, Loads, LoadsRecord, Refuses, RefusesRecord, is_rejection};
 ghost use Rattle.olr_run.specs.declared.loader.RestoreFault.TheVariants as restore;
 
 use csv::ByteRecord;
@@ -65,11 +65,6 @@ pub struct Loader {
     count: u32,
 }
 
-/// A record of a log is rejected with this fault.
-fn rejected(fault: CommandFault) -> RestoreFault {
-    RestoreFault::Rejected(fault_text(fault))
-}
-
 /// The fault of a rejected command of a log.
 fn restore_fault(fault: CommandFault) -> RestoreFault
     ensures { is_rejection result ≡ true → command_fault_of fault ≡ state.Memory → ⊥ }
@@ -79,41 +74,6 @@ fn restore_fault(fault: CommandFault) -> RestoreFault
         return RestoreFault::Memory;
     }
     RestoreFault::Rejected(line)
-}
-
-/// What a command is to a log.
-#[derive(Clone, Copy)]
-pub enum Kind {
-    Change,
-    Begin,
-    Commit(u32),
-    Other,
-}
-
-/// The kind of a command.
-fn kind_of(command: &Command) -> Kind
-    ensures { result ≡ kind_by command.now }
-{
-    match command {
-        Command::Edit(_)
-        | Command::AddPath(..)
-        | Command::SetPath(..)
-        | Command::DropPath(_)
-        | Command::SetMargin(_) => Kind::Change,
-        Command::Begin => Kind::Begin,
-        Command::Commit(count) => Kind::Commit(*count),
-        _ => Kind::Other,
-    }
-}
-
-/// Makes a change, which has to be accepted.
-#[tactic(auto, using(crate::proofs::Refusing::not_made))]
-fn change(building: &mut Building, command: Command) -> Result<(), RestoreFault>
-    requires { IsChange (command_of command) }
-    ensures made { OnOk result (Changes building.old (command_of command) building.new) }
-    ensures refused { IfErr result (λ e. is_rejection e ≡ true → NeverChanges building.old (command_of command)) }
-{
-    building.change(command).map_err(restore_fault)
 }
 
 impl Loader {
@@ -129,20 +89,21 @@ impl Loader {
     }
 
     /// Makes a change, which the log's batch has to have room for, if one is open.
-    #[tactic(auto, using(crate::proofs::Refusing::change_never, crate::proofs::Refusing::change_full))]
+    #[tactic(auto, using(crate::proofs::Refusing::change_full))]
     fn change(&mut self, command: Command) -> Result<(), RestoreFault>
         requires { IsChange (command_of command) }
         ensures loaded { OnOk result (Loaded self.old (command_of command) self.new) }
         ensures refused { IfErr result (λ e. is_rejection e ≡ true → Refuses self.old (command_of command)) }
     {
-        if !self.in_batch {
-            return change(&mut self.building, command);
+        if self.in_batch && self.count >= FULL {
+            return Err(restore_fault(CommandFault::BatchFull));
         }
-        if self.count >= FULL {
-            return Err(rejected(CommandFault::BatchFull));
+        if let Err(fault) = self.building.change(command) {
+            return Err(restore_fault(fault));
         }
-        change(&mut self.building, command)?;
-        self.count += 1;
+        if self.in_batch {
+            self.count += 1;
+        }
         Ok(())
     }
 
@@ -153,7 +114,7 @@ impl Loader {
         ensures refused { IfErr result (λ e. is_rejection e ≡ true → Refuses self.old Begin) }
     {
         if self.in_batch {
-            return Err(rejected(CommandFault::BatchOpen));
+            return Err(restore_fault(CommandFault::BatchOpen));
         }
         self.in_batch = true;
         self.count = 0;
@@ -167,27 +128,31 @@ impl Loader {
         ensures refused { IfErr result (λ e. is_rejection e ≡ true → Refuses self.old (Commit count)) }
     {
         if !self.in_batch {
-            return Err(rejected(CommandFault::NoBatch));
+            return Err(restore_fault(CommandFault::NoBatch));
         }
         if count != self.count {
-            return Err(rejected(CommandFault::CountDiffers));
+            return Err(restore_fault(CommandFault::CountDiffers));
         }
         self.in_batch = false;
         Ok(())
     }
 
     /// Carries out a command of a log.
-    #[tactic(auto, using(crate::proofs::Restoring::refused_result, crate::proofs::Restoring::kind_is))]
+    #[tactic(auto, using(crate::proofs::Restoring::refused_result))]
     fn carry_out(&mut self, command: Command) -> Result<(), RestoreFault>
         ensures loaded { OnOk result (IsLogged (command_of command) × Loaded self.old (command_of command) self.new) }
         ensures refused { IfErr result (λ e. is_rejection e ≡ true
             → IsLogged (command_of command) → Refuses self.old (command_of command)) }
     {
-        match kind_of(&command) {
-            Kind::Change => self.change(command),
-            Kind::Begin => self.begin(),
-            Kind::Commit(count) => self.commit(count),
-            Kind::Other => Err(RestoreFault::NoChange),
+        match command {
+            Command::Edit(_) => self.change(command),
+            Command::AddPath(..) => self.change(command),
+            Command::SetPath(..) => self.change(command),
+            Command::DropPath(_) => self.change(command),
+            Command::SetMargin(_) => self.change(command),
+            Command::Begin => self.begin(),
+            Command::Commit(count) => self.commit(count),
+            _ => Err(RestoreFault::NoChange),
         }
     }
 
@@ -212,15 +177,10 @@ impl Loader {
         ensures refused { IfErr result (λ e. is_rejection e ≡ true
             → (s : state.State) → Loads self s → (c : Content) → s ≡ closed c → ⊥) }
     {
-        let Loader {
-            building,
-            in_batch,
-            count: _,
-        } = self;
-        if in_batch {
+        if self.in_batch {
             return Err(RestoreFault::Open);
         }
-        match building.finish() {
+        match self.building.finish() {
             Ok(register) => Ok(register),
             Err(_) => Err(RestoreFault::Memory),
         }
@@ -228,22 +188,12 @@ impl Loader {
 }
 
 /// How far the records of a log were carried out.
-#[derive(Clone, Copy, Debug)]
+#[derive(Clone, Copy, Debug, Default)]
 pub struct Progress {
     /// The number of records that were taken.
     pub taken: u64,
     /// How many bytes of the text come after those that were carried out.
     pub left: usize,
-}
-
-impl Progress {
-    /// Before the first record.
-    pub fn none() -> Progress {
-        Progress {
-            taken: 0,
-            left: usize::MAX,
-        }
-    }
 }
 
 /// The register with the content of a log: that to which its records lead from the empty register, each accepted, with no
@@ -263,17 +213,15 @@ pub fn restore(
     let mut loader = Loader::new(alloc);
     let mut records = InMemory::new(alloc, text);
     let mut fields = ByteRecord::new(alloc);
-    let mut taken: u64 = 0;
     *progress = Progress {
-        taken,
+        taken: 0,
         left: records.left(),
     };
     'records: while records.next(&mut fields)? {
-        if taken == MOST_RECORDS {
+        if progress.taken == MOST_RECORDS {
             return Err(RestoreFault::TooMany);
         }
-        taken += 1;
-        progress.taken = taken;
+        progress.taken += 1;
         loader.take(alloc, &fields)?;
         progress.left = records.left();
     }

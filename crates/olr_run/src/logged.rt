@@ -1,13 +1,12 @@
 //! Runs whose accepted changes are stored in a log before their answers are sent.
 
 ghost use Rattle.std.specs.Prelude.{◌≡◌, [], IfSome, OnOk};
-ghost use Rattle.olr_run.specs.Logs.{LastsWhole, LastsCut};
+ghost use Rattle.olr_run.specs.Logs.{Lasts, LastsWhole};
 ghost use Rattle.olr_run.specs.Runs.{once_sent, EndedOn, Records};
 ghost use Rattle.olr_input.specs.Buffers.{pending, written};
 ghost use Rattle.olr_input.specs.Gates.{compaction};
 
 use crate::records::{Scratch, run_session};
-use crate::sizes::CompactionLength;
 use olr_input::{Buffered, Gate, Journal, Logged, RunFault, Source, Status};
 use olr_register::Register;
 use std::alloc::Global;
@@ -20,11 +19,9 @@ pub(crate) fn end_sent(
 ) -> Result<Status, RunFault>
     ensures { result ≡ once_sent ended sent }
 {
-    match (ended, sent) {
-        (Ok(status), Ok(())) => Ok(status),
-        (Ok(_), Err(fault)) => Err(fault),
-        (Err(fault), _) => Err(fault),
-    }
+    let status = ended?;
+    sent?;
+    Ok(status)
 }
 
 /// Runs the records of a source, as `run_source` does, with a log that leads to the content of the register. Each accepted
@@ -40,19 +37,19 @@ pub fn run_with_log<S: Source + Drop, W: Write + Drop, J: Journal + Drop>(
     register: &mut Register,
     source: S,
     journal: J,
-    from: CompactionLength,
+    from: usize,
     output: &mut Buffered<W>,
     stop: bool,
 ) -> (Result<Status, RunFault>, Gate<J>)
     ensures ended { (records : Records) → IfSome records (S.left source) →
         EndedOn (LastsWhole J.stored J.may_leave W.contents journal output.old result.1 output.new)
-        (LastsCut J.stored J.may_leave W.contents journal output.old result.1 output.new) stop register.old records
-        (written W.contents output.old) register.new (written W.contents output.new) result.0 }
+        (Lasts J.stored J.may_leave W.contents journal output.old (J.may_leave result.1.journal) output.new) stop
+        register.old records (written W.contents output.old) register.new (written W.contents output.new) result.0 }
     ensures sent { OnOk result.0 (pending output.new ≡ []) }
-    ensures length { (compaction result.1).compacted_from ≡ from.bytes }
+    ensures length { (compaction result.1).compacted_from ≡ from }
 {
     register.is_sound();
-    let gate = Gate::new(alloc, journal, from.get());
+    let gate = Gate::new(alloc, journal, from);
     let mut session = Logged::new(source, gate);
     let mut scratch = Scratch::new(alloc);
     let ended = run_session(alloc, register, &mut session, output, stop, &mut scratch);

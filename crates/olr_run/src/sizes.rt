@@ -42,28 +42,12 @@ fn size(text: &str) -> Option<usize>
     count.checked_mul(unit)
 }
 
-/// The least length of a log that is compacted. It comes from an option, and from nowhere else.
-#[derive(Clone, Copy)]
-pub struct CompactionLength {
-    bytes: usize,
-}
-
-impl CompactionLength {
-    /// The number of bytes.
-    pub fn get(self) -> usize
-        ensures { result ≡ self.bytes }
-    {
-        self.bytes
-    }
-}
-
 /// The least length of a log that is compacted; none is if no size is given. None if what is given is no size.
-pub fn compaction_length(chosen: Option<&str>) -> Option<CompactionLength>
-    ensures { IsLength (option_map (λ text. text.now) chosen.entry) (option_map (λ l. l.bytes) result) }
+pub fn compaction_length(chosen: Option<&str>) -> Option<usize>
+    ensures { IsLength (option_map (λ text. text.now) chosen.entry) result }
 {
-    let bytes = match chosen {
-        Some(text) => size(text)?,
-        None => usize::MAX,
-    };
-    Some(CompactionLength { bytes })
+    match chosen {
+        Some(text) => size(text),
+        None => Some(usize::MAX),
+    }
 }

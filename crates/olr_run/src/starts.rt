@@ -3,12 +3,11 @@
 ghost use Rattle.std.specs.Prelude.{◌≡◌, ◌⊎◌, true, false, ℕ, List, IfOk, IfErr, OnOk};
 ghost use Rattle.olr_log.specs.Logs.{stored_of, left_of, is_own_of, is_clean};
 ghost use Rattle.olr_run.specs.LogEnds.{AreRecordsOf, BegunFrom, Unbegun, is_rejected};
-ghost use Rattle.olr_run.specs.Restored.{HasContentOf, LeadsNowhere, is_rejection};
+ghost use Rattle.olr_run.specs.Restored.{HasContentOf, LeadsNowhere};
 ghost use Rattle.olr_input.specs.Journals.{Only};
 
 use crate::answers::records_text;
 use crate::loader::{Progress, RestoreFault, restore};
-use crate::sizes::CompactionLength;
 use olr_input::{Journal, is_whole};
 use olr_log::{Folder, LogFile};
 use olr_register::Register;
@@ -16,61 +15,20 @@ use sqlite_disk::Disk;
 use std::alloc::Global;
 use std::io;
 
-/// A record of a log that is rejected.
-#[derive(Clone, Copy, Debug)]
-pub struct RejectedRecord {
-    /// Its number among the records.
-    pub record: u64,
-    /// The number of the line of the file on which it begins.
-    pub line: u64,
-    /// The line of its fault. None if it is no change, `begin` or `commit`.
-    pub fault: Option<&'static str>,
-}
-
 /// Why a run can't begin with a log.
 #[derive(Clone, Copy, Debug)]
 pub enum StartFault {
-    /// The log can't be read or written.
+    /// The log can't be read or written, or there is no memory.
     Unusable(io::Error),
-    /// A record is rejected, or is no change, `begin` or `commit`.
-    Rejected(RejectedRecord),
-    /// The log ends in a batch.
-    Open,
-    /// There are too many records.
-    TooMany,
-    /// Out of memory.
-    Memory,
-}
-
-/// The fault of a call on a log that failed.
-fn log_fault(error: io::Error) -> StartFault
-    ensures { is_rejected result ≡ false }
-{
-    if error.kind() == io::ErrorKind::OutOfMemory {
-        return StartFault::Memory;
-    }
-    StartFault::Unusable(error)
-}
-
-/// The fault of a log whose records can't be carried out, at this record on this line.
-fn records_fault(fault: RestoreFault, record: u64, line: u64) -> StartFault
-    ensures { is_rejected result ≡ is_rejection fault }
-{
-    match fault {
-        RestoreFault::Memory => StartFault::Memory,
-        RestoreFault::Rejected(fault) => StartFault::Rejected(RejectedRecord {
-            record,
-            line,
-            fault: Some(fault),
-        }),
-        RestoreFault::NoChange => StartFault::Rejected(RejectedRecord {
-            record,
-            line,
-            fault: None,
-        }),
-        RestoreFault::Open => StartFault::Open,
-        RestoreFault::TooMany => StartFault::TooMany,
-    }
+    /// Its records can't be carried out.
+    Records {
+        /// Why not.
+        fault: RestoreFault,
+        /// The number of the last record that was taken.
+        record: u64,
+        /// The number of the line of the file on which it begins.
+        line: u64,
+    },
 }
 
 /// The number of lines that end before the record that follows the first bytes of a text, and the empty lines behind them.
@@ -103,16 +61,20 @@ fn read_log<D: Disk + Drop, G: Folder<D>>(
 {
     let text = match log.text(alloc) {
         Ok(text) => text,
-        Err(error) => return Err(log_fault(error)),
+        Err(error) => return Err(StartFault::Unusable(error)),
     };
-    let mut progress = Progress::none();
+    let mut progress = Progress::default();
     match restore(alloc, text.as_slice(), &mut progress) {
         Ok(register) => Ok((register, progress.taken)),
         Err(fault) => {
             let start = text.len().saturating_sub(progress.left);
             let first = 1 + u64::from(log.is_own());
             let line = lines_before(text.as_slice(), start).saturating_add(first);
-            Err(records_fault(fault, progress.taken, line))
+            Err(StartFault::Records {
+                fault,
+                record: progress.taken,
+                line,
+            })
         }
     }
 }
@@ -137,18 +99,8 @@ fn put_records<D: Disk + Drop, G: Folder<D>>(
     }
     match log.replace(text.as_slice()) {
         Ok(done) => Ok(done),
-        Err(error) => Err(log_fault(error)),
+        Err(error) => Err(StartFault::Unusable(error)),
     }
-}
-
-/// Overwrites what stands behind the text of the program's own log.
-fn wipe_rest<D: Disk + Drop, G: Folder<D>>(log: &mut LogFile<D, G>) -> Result<(), StartFault>
-    ensures stored { OnOk result (is_clean log.new ≡ true → stored_of log.new ≡ stored_of log.old) }
-    ensures durable { Only (stored_of log.old) (left_of log.old) → OnOk result (Only (stored_of log.new) (left_of log.new)) }
-    ensures cut { (t : List ℕ) → left_of log.new t → left_of log.old t ⊎ (t ≡ stored_of log.old) }
-    ensures fails { IfErr result (λ e. is_rejected e ≡ false) }
-{
-    log.wipe_rest().map_err(log_fault)
 }
 
 /// Brings a log, from which the register was read, into the form in which records can be stored: what stands behind the
@@ -157,7 +109,7 @@ fn wipe_rest<D: Disk + Drop, G: Folder<D>>(log: &mut LogFile<D, G>) -> Result<()
 fn prepare_log<D: Disk + Drop, G: Folder<D>>(
     log: &mut LogFile<D, G>,
     register: &Register,
-    from: CompactionLength,
+    from: usize,
 ) -> Result<(), StartFault>
     ensures own { OnOk result (is_own_of log.old ≡ true → is_clean log.new ≡ true
         → (stored_of log.new ≡ stored_of log.old) ⊎ AreRecordsOf register.now (stored_of log.new)) }
@@ -168,8 +120,8 @@ fn prepare_log<D: Disk + Drop, G: Folder<D>>(
     ensures fails { IfErr result (λ e. is_rejected e ≡ false) }
 {
     let is_own = log.is_own();
-    if is_own && log.len() < from.get() {
-        return wipe_rest(log);
+    if is_own && log.len() < from {
+        return log.wipe_rest().map_err(StartFault::Unusable);
     }
     let is_done = put_records(log, register)?;
     if is_done {
@@ -177,12 +129,10 @@ fn prepare_log<D: Disk + Drop, G: Folder<D>>(
     }
     if is_own {
         log.report_unreplaced(log.refusal().is_some());
-        return wipe_rest(log);
+        return log.wipe_rest().map_err(StartFault::Unusable);
     }
-    match log.refusal() {
-        Some(error) => Err(log_fault(error)),
-        None => Err(StartFault::Memory),
-    }
+    let error = log.refusal();
+    Err(StartFault::Unusable(error.unwrap_or(io::ErrorKind::OutOfMemory.into())))
 }
 
 /// Begins with a log that was opened. Returns the register with the log's content, and the number of the log's records. From
@@ -190,7 +140,7 @@ fn prepare_log<D: Disk + Drop, G: Folder<D>>(
 pub fn begin_with<D: Disk + Drop, G: Folder<D>>(
     alloc: Global,
     log: &mut LogFile<D, G>,
-    from: CompactionLength,
+    from: usize,
 ) -> Result<(Register, u64), StartFault>
     ensures begun { IfOk result (λ r. BegunFrom log.old log.new r.0) }
     ensures unbegun { IfErr result (λ e. Unbegun log.old log.new (is_rejected e)) }

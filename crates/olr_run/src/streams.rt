@@ -3,7 +3,7 @@
 ghost use Rattle.std.specs.Prelude.{◌≡◌, ◌≤◌, ◌⊎◌, [], length, map, None, Some, IfOk, IfErr, IfSome};
 ghost use Rattle.olr_run.specs.Opens.{IsFile, Opens};
 ghost use Rattle.olr_run.specs.Options.{options, options_of};
-ghost use Rattle.olr_run.specs.Ends.{Ends, NoSources, OpensLog, WithoutLog, lacks_log};
+ghost use Rattle.olr_run.specs.Ends.{Ends, NoSources, OpensLog, WithoutLog};
 ghost use Rattle.olr_run.specs.Runs.{Records, records_read};
 ghost use Rattle.olr_run.specs.Sizes.{IsLength};
 ghost use Rattle.olr_input.specs.Buffers.{pending, written};
@@ -18,7 +18,7 @@ use crate::from_log::{LogRun, OpenLog, with_log};
 use crate::inputs::both_sources;
 use crate::logged::end_sent;
 use crate::records::{Scratch, run_source};
-use crate::sizes::{CompactionLength, compaction_length};
+use crate::sizes::compaction_length;
 use olr_input::{Buffered, Input, Joined, RunFault, Source, end_status, report_fault};
 use olr_log::{Folder, LogFile};
 use olr_register::Register;
@@ -30,13 +30,6 @@ use std::{io, mem};
 
 /// The exit status if the command file can't be opened.
 const NO_FILE: u8 = 3;
-
-/// Whether options are about a log, but name none.
-fn lacks_log(options: &Options<'_>) -> bool
-    ensures { result ≡ lacks_log (options_of options.now) }
-{
-    options.log.is_none() && (options.new || options.compact_at.is_some())
-}
 
 /// Runs the records of a source on an empty register, sends the answers, and returns the exit status. The register is not
 /// dropped: its memory is left to the end of the process.
@@ -70,18 +63,19 @@ fn sources<F: Read + Drop, O: FnOnce(&str) -> io::Result<F>, R: Read + Drop, E: 
     open_records: O,
     input: R,
     errors: &mut E,
-) -> Result<(Joined<Input<F>, Input<R>>, CompactionLength), u8>
+) -> Result<(Joined<Input<F>, Input<R>>, usize), u8>
     requires { O.IsAlwaysCallable open_records }
     ensures left { IfOk result (λ r. (file : Known)
         × IsFile (options_of options.now).file (Opens O.FnOnce F.remaining open_records) file
         × IfSome (records_read options.now.lines file (R.remaining input))
         (JoinedLeft (InputLeft F.remaining) (InputLeft R.remaining) r.0.first r.0.second)
-        × IsLength (options_of options.now).compact_at (Some r.1.bytes)) }
+        × IsLength (options_of options.now).compact_at (Some r.1)) }
     ensures refused { IfErr result (NoSources (Opens O.FnOnce F.remaining open_records) (options_of options.now)) }
     ensures status { IfErr result (λ code. (2 ≤ code) × (code ≤ 4)) }
     ensures quiet { IfOk result (λ _. errors.new ≡ errors.old) }
 {
-    if lacks_log(options) {
+    let lacks_log = options.log.is_none() && (options.new || options.compact_at.is_some());
+    if lacks_log {
         let _ = errors.write_all(b"olr-keep: --new and --compact-at need -l LOG\n");
         return Err(WRONG_ARGUMENTS);
     }

@@ -183,7 +183,7 @@ fn log_that_is_moved(rt: HostRuntime) -> Result<(), AllocError> {
 
 /// Starts from a log, and asserts the reply to `dump`.
 fn expect_dump<R: Abort + AllocGlobal>(rt: &R, log: &[u8], dump: &[u8]) {
-    let mut progress = Progress::none();
+    let mut progress = Progress::default();
     match restore(rt.alloc(), log, &mut progress) {
         Ok(mut register) => {
             let mut output = Vec::new(rt.alloc());
@@ -198,7 +198,7 @@ fn expect_dump<R: Abort + AllocGlobal>(rt: &R, log: &[u8], dump: &[u8]) {
 
 /// Asserts that a log is rejected, at this record.
 fn expect_rejected<R: Abort + AllocGlobal>(rt: &R, log: &[u8], fault: RestoreFault, at: u64) {
-    let mut progress = Progress::none();
+    let mut progress = Progress::default();
     match restore(rt.alloc(), log, &mut progress) {
         Ok(register) => {
             drop(register);

@@ -14,7 +14,7 @@ records-init c = record {
 
 pub records-preserved : goal.records-preserved
 records-preserved c = record {
-  few = omega (arith, c.records.invariant.few, c.if-taken-eq-MOST_RECORDS.false);
+  few = omega (arith, c.records.invariant.few, c.if-progress-eq-MOST_RECORDS.false);
   loading = loading_more (records_of c.args.text.now) c.records.records c.next.new.self c.records.loader c.take.new.self
       (fields_of c.next.new.row) c.records.invariant.loading (rw c.if-branch.true at c.in_ok-next.ensures.takes)
       c.in_ok-take.ensures.loads;

@@ -32,4 +32,4 @@ returns-clause-length g c =
     ∙ run_length g.S.Source.left g.W.Write.contents g.J.Journal c.args.stop c.args.register.now r.new.register
     (c.new-session.result, c.args.output.now) (r.new.session, r.new.output) r.result r.ensures.ran r.ensures.cut
     ∙ ap (λ (x : Gate g.row.J.Denot). x.compacted_from) c.new-session.ensures.gate
-    ∙ ap (λ (x : Compaction). x.compacted_from) c.new-gate.ensures.due ∙ c.get.ensures
+    ∙ ap (λ (x : Compaction). x.compacted_from) c.new-gate.ensures.due

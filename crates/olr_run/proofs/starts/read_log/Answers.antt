@@ -1,5 +1,5 @@
 -- The text of the log is what was read.
-use Rattle.olr_run.proofs.Common.{◌∙◌, ℕ, List, sym, subst, HasContentOf, LeadsNowhere}
+use Rattle.olr_run.proofs.Common.{◌∙◌, ℕ, List, subst, HasContentOf, LeadsNowhere}
 use Rattle.olr_run.proofs.starts.read_log.Goals as goal
 
 pub returns-in-Ok-restore-clause-content : goal.returns-in-Ok-restore-clause-content
@@ -10,4 +10,4 @@ returns-in-Ok-restore-clause-content g c = λ clean.
 pub returns-clause-refused : goal.returns-clause-refused
 returns-clause-refused g c = λ is clean.
     subst LeadsNowhere (c.as_slice.ensures.value ∙ c.in-Ok.ensures.text clean)
-    (c.in-Err-restore.ensures.refused (sym c.records_fault.ensures ∙ is))
+    (c.in-Err-restore.ensures.refused is)

@@ -23,6 +23,6 @@ returns-clause-ends g c =
     let s = c.in-Ok-sources.ensures.left in
     Carried_out c.in-Ok.ensures.kinds
     (rw (← c.in-Ok.ensures.ok)
-    (With c.in-Some.name.now (rw c.in-Some.is refl) s.0 s.1 c.in-Ok-sources.sources.1.bytes s.3 c.open-opened.result
+    (With c.in-Some.name.now (rw c.in-Some.is refl) s.0 s.1 c.in-Ok-sources.sources.1 s.3 c.open-opened.result
     c.open-opened.ensures
     (c.with_log.ensures.ends (records_read c.in-Ok.options.lines s.0 (g.R.Read.remaining c.args.input)) s.2)))

@@ -1,7 +1,7 @@
 -- What the arguments ask for, from their parts.
-use Rattle.olr_run.proofs.Common.{◌∙◌, refl, sym, file_bytes, options_of, Log_lacking, Not_opened, No_size, No_memory, Bor}
+use Rattle.olr_run.proofs.Common.{refl, file_bytes, options_of, Log_lacking, Not_opened, No_size, No_memory, Bor}
 use Rattle.olr_run.proofs.Common.{Opens, Known, IsFile, OpensFile, ◌≡◌, ℕ, List, Option, Some, None, Result, Ok, Err, IsLength}
-use Rattle.olr_run.proofs.Common.{NoSize}
+use Rattle.olr_run.proofs.Common.{NoSize, rules}
 use Rattle.std.specs.Fn.{Once}
 use Rattle.olr_run.proofs.streams.sources.Goals as goal
 
@@ -27,7 +27,7 @@ no_size None h = absurd cc
 no_size (Some text) h = (text, refl, h)
 
 pub returns-then-lacks_log-clause-refused : goal.returns-then-lacks_log-clause-refused
-returns-then-lacks_log-clause-refused g c = Log_lacking (sym c.lacks_log.ensures ∙ c.if-lacks_log.true) refl
+returns-then-lacks_log-clause-refused g c = Log_lacking (search rules) refl
 
 pub returns-in_default-clause-refused : goal.returns-in_default-clause-refused
 returns-in_default-clause-refused g c =
