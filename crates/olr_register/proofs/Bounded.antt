@@ -4,11 +4,10 @@ use Rattle.olr_register.proofs.Common.{◌≡◌, ℕ, subst, List, [], Ok, inl,
 use Rattle.olr_register.proofs.Common.{DistanceBounds, Item, HasBounds, IsFalse, nodes_of, IsTrue, has_node, end, none_differs}
 use Rattle.olr_register.proofs.Common.{slot_of, KeepsSlots, AddsNoNode, IsEdit, IsUnderWay, SameBut, edit_under_way}
 use Rattle.olr_register.proofs.Common.{AreBoundsOf, CanRenewUnder, under_overlay, Overlay, NamesDiffer, CanUpdate, arith, IsMap}
-use Rattle.olr_register.proofs.Common.{cases_eq, has_line, Err, Result, IsErrAnd, IsEditMade, ChangeSet, Margin, Renewed}
+use Rattle.olr_register.proofs.Common.{cases_eq, has_line}
 use Rattle.olr_spec.proofs.AgreeLemmas.{turned_round}
 use Rattle.olr_renewal.specs.declared.update.MapUpdate.{MapUpdate}
 use Rattle.olr_spec.proofs.EditLemmas.{edit_laws, left_other}
-use Rattle.std.specs.declared.alloc.AllocError.{AllocError}
 use Rattle.olr_register.proofs.Listed.{named_to_renew}
 
 -- unknown bounds say nothing
@@ -100,14 +99,6 @@ module _ (old new : RoadMap) (slots : KeepsSlots old new) where
 
     pub bounds_stay : N ≡ M → {T : List ℕ} → HasBounds old T is bounds → HasBounds new T is bounds
     bounds_stay same {T} h = record { under_way = under_way_stays same T bounds h.under_way; sources = h.sources }
-
--- if it is not made, because an allocation fails, nothing changes but the bounds
-pub edit_unmade : {g : Margin} {old new : RoadMap} {e : Edit} {t : ChangeSet} {is js : List Item} {f : DistanceBounds}
-    {r : Result Renewed AllocError} (P : AllocError → Type 0) → IsErrAnd r P → HasBounds new [] js f → map_of new ≡ map_of old → js ≡ is →
-    IsEditMade g old new e t is js f r
-edit_unmade {r = Ok n} P failed bounded map list = absurd failed
-edit_unmade {r = Err error} P failed bounded map list =
-    record { done = tt; renewed = tt; bounded = bounded; same_map = map; same_list = list }
 
 -- ---- after edits were undone, none of which dropped a node
 

@@ -44,9 +44,9 @@ pub use Rattle.olr_register.specs.BatchChanges.{AreGiven, ByContent, HoldsChange
 pub use Rattle.olr_register.specs.BatchChanges.{StaysUnderWay, change_of, content_with, path_by}
 pub use Rattle.olr_register.specs.Contents.{AreTouched, CanRenew, CanRenewTo, CanUpdate, HasBounds, IsHeld, IsHeldAs}
 pub use Rattle.olr_register.specs.Contents.{IsStateRight, IsRegister, KeepsMargin, batch_of, content_on, content_under, held_of}
-pub use Rattle.olr_register.specs.Contents.{state_of, accepted_map, option_batch, under_batch}
+pub use Rattle.olr_register.specs.Contents.{state_of, accepted_map, under_batch}
 pub use Rattle.olr_register.specs.CountChanges.{NoneFalls, encodes}
-pub use Rattle.olr_register.specs.JudgedEdits.{CanRenewAfter, IsEditMade, IsTouchedBy}
+pub use Rattle.olr_register.specs.JudgedEdits.{IsTouchedBy}
 pub use Rattle.olr_register.specs.Recordables.{is_recordable_line_at, is_recordable_node_at}
 pub use Rattle.olr_register.specs.RegisterState.{Batch as Outcome, IsBatchOf, RegisterState, Represents}
 pub use Rattle.olr_register.specs.RegisterState.{RepresentsBatch, named_held}

@@ -7,8 +7,8 @@ use Rattle.olr_register.proofs.Common.{HasCoords, Differences, takes_memory, may
 use Rattle.olr_register.proofs.Common.{reply_of, command_fault_of, Reply, CommandFault, changes_keep, DistanceBounds, Item}
 use Rattle.olr_register.proofs.Common.{AreEncodings, all_named, arith, IsRenewal, nodes_of, lines_of, changed_of, ChangeSet}
 use Rattle.olr_register.proofs.Common.{follows_self, has_name, Registered, content_on, items, state_of, HasBounds, IsStateRight}
-use Rattle.olr_register.proofs.Common.{CanRenewAfter, MayReport, ByContent, Lacks, Answered, IsTouchedBy, encodes, begins_drop}
-use Rattle.olr_register.proofs.Common.{append-nil, Margin, Set_margin, to_renew, is_margin, IsTrue, option_batch, CanRenewTo}
+use Rattle.olr_register.proofs.Common.{CanRenew, MayReport, ByContent, Lacks, Answered, IsTouchedBy, encodes, begins_drop}
+use Rattle.olr_register.proofs.Common.{append-nil, Margin, Set_margin, to_renew, is_margin, IsTrue, option_map, batch_of, CanRenewTo}
 use Rattle.olr_register.proofs.Common.{raised_work, entries_of, Renewed, IsState, named_of, length-map, IsPaths, CountIs}
 use Rattle.olr_register.proofs.Common.{paths_raise, Inside, IsRefusal}
 use Rattle.std.proofs.lemmas.List.{nil_from_length}
@@ -53,7 +53,7 @@ module _ (r : Inside) {x : Registered} (view : of_parts r.margin r.roads (items 
 
   shut : r.batch ≡ None
   shut =
-      let closed : option_batch r.roads is r.batch ≡ None = ap (λ (y : Registered). y.state.batch) view ∙ none in
+      let closed : option_map (batch_of r.roads is) r.batch ≡ None = ap (λ (y : Registered). y.state.batch) view ∙ none in
       grind (arith, closed)
 
   pub no_path : length x.state.content.paths ≡ 0 → is ≡ []
@@ -130,7 +130,11 @@ module _ (r : Inside) {x : Registered} (view : of_parts r.margin r.roads (items 
 
     -- ---- edits
 
-    pub can_edit : (e : Edit) (t : ChangeSet) → IsTouchedBy M e t → CanRenewAfter g M e is t
+    -- after the edit, which touches t, the list can be renewed
+    abbrev pub CanRenewAfter : Edit → ChangeSet → Type 0
+    CanRenewAfter e t = (N : Map) → edited M e ≡ Ok N → CanRenew g M N is is t
+
+    pub can_edit : (e : Edit) (t : ChangeSet) → IsTouchedBy M e t → CanRenewAfter e t
     can_edit e t touched N done = record {
       names = right.register.content.names;
       follows = follows_self is right.register.content.names;

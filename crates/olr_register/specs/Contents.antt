@@ -6,13 +6,12 @@
 --     KeepsMargin g b      the batch has the margin g, unless one of its changes sets another
 --     HasBounds roads T is bounds      each coverage query of the list is a source of the bounds, and once they are settled
 --         they are right on the map, if the nodes T are reopened before
---     touched_in batch      the nodes that the edits of an open batch touched
 --     IsStateRight      what is true of the whole
 --     CanRenew g M N is ls t      the list ls, which the changes of a batch made of the list is, can be renewed after
 --         edits t that led from M to N
 --     CanRenewTo g roads t bounds is ls      the same, where the bounds are still those before the edits
 --     CanUpdate u bounds is ls      the same after the update u
-use Rattle.std.specs.Prelude.{◌≡◌, ℕ, List, [], map, Contains, Option, Some, None, is_none, IfSome, IsTrue, IsFalse}
+use Rattle.std.specs.Prelude.{◌≡◌, ℕ, List, [], map, Contains, Option, Some, None, option_map, unwrap_or, is_none, IfSome, IsTrue, IsFalse}
 use Rattle.olr_spec.specs.Map.{Map, has}
 use Rattle.olr_spec.specs.Margins.{Margin}
 use Rattle.olr_spec.specs.Detours.{ChangedLine, Difference}
@@ -66,15 +65,11 @@ abbrev pub accepted_map : RoadMap → Option Batch → Map
 accepted_map roads None = map_of roads
 accepted_map roads (Some b) = map_before roads b.log
 
-abbrev pub option_batch : RoadMap → List Item → Option Batch → Option states.Batch
-option_batch roads is None = None
-option_batch roads is (Some b) = Some (batch_of roads is b)
-
 abbrev pub state_of : Margin → RoadMap → List Item → Option Batch → states.RegisterState
 state_of g roads is batch =
     record {
       content = content_on g (accepted_map roads batch) is;
-      batch = option_batch roads is batch;
+      batch = option_map (batch_of roads is) batch;
     }
 
 -- ---- invariants
@@ -108,10 +103,6 @@ pub record IsRegister (g : Margin) (roads : RoadMap) (is : List Item) (batch : O
   pub held : IfSome batch (IsHeld roads is)
   pub margin : IfSome batch (KeepsMargin g)
 
-abbrev pub touched_in : Option Batch → List ℕ
-touched_in None = []
-touched_in (Some b) = nodes_of b.touched
-
 pub record HasBounds (roads : RoadMap) (T : List ℕ) (is : List Item) (bounds : DistanceBounds) : Type 0 where
   pub under_way : IsUnderWay (map_of roads) (slot_of roads) T bounds
   pub sources : (l : CoverageQuery) → Begins is l → IsSource bounds l.from l.within
@@ -119,7 +110,7 @@ pub record HasBounds (roads : RoadMap) (T : List ℕ) (is : List Item) (bounds :
 pub record IsStateRight (g : Margin) (roads : RoadMap) (is : List Item) (batch : Option Batch) (bounds : DistanceBounds) : Type 0
   where
     pub register : IsRegister g roads is batch
-    pub bounded : HasBounds roads (touched_in batch) is bounds
+    pub bounded : HasBounds roads (unwrap_or (option_map (λ b. nodes_of b.touched) batch) []) is bounds
 
 pub record CanRenew (g : Margin) (M N : Map) (is ls : List Item) (t : ChangeSet) : Type 0 where
   pub names : NamesDiffer (all_named ls)

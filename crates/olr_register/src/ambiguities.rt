@@ -1,5 +1,5 @@
 //! The ambiguities of strings.
-ghost use Rattle.std.specs.Prelude.{◌≡◌, ◌++◌, ◌+◌, option_map, length, All, IfOk, IfSome, IsTrue, OnOk, map as list_map};
+ghost use Rattle.std.specs.Prelude.{◌≡◌, ◌++◌, ◌+◌, option_map, IfOk, IfSome, IsTrue, OnOk, map as list_map};
 ghost use Rattle.olr_ambiguity.specs.Grids.{IsGrid};
 ghost use Rattle.olr_answers.specs.Ambiguities.{found_of};
 ghost use Rattle.olr_answers.specs.Answers.{answer_of};
@@ -10,16 +10,14 @@ ghost use Rattle.olr_paths.specs.Items.{AreEncodings, all_named, items, known_in
 ghost use Rattle.olr_refs.specs.Referring.{IsEncoding};
 ghost use Rattle.olr_spec.specs.Ambiguity.{obstacles};
 ghost use Rattle.olr_spec.specs.Extension.{Path, is_path};
-ghost use Rattle.olr_spec.specs.Map.{has_line};
 ghost use Rattle.olr_spec.specs.Margins.{Margin};
-ghost use Rattle.olr_spec.specs.Receiver.{last_number};
 
 use crate::register::Register;
 use olr_ambiguity::{Grid, obstacles, obstacles_near};
 use olr_answers::{Answer, Found, KnownQuery, Path};
 use olr_binary::Reference;
 use olr_commands::{CommandFault, NamedObstacle, Reply};
-use olr_map::{LineId, RoadMap};
+use olr_map::RoadMap;
 use olr_paths::{PathList, Published};
 use olr_refs::{Encoding, Margin, encode_again};
 use olr_route::Dijkstra;
@@ -44,29 +42,8 @@ fn push_found(
     Ok(())
 }
 
-/// The ambiguities of a reference, by the grid of the map, or if there is none by one pass over its nodes.
-fn found_by(
-    alloc: Global,
-    roads: &RoadMap,
-    grid: Option<&Grid>,
-    reference: &Reference,
-    own: &[LineId],
-) -> Result<Vec<Found>, AllocError>
-    requires grid { IfSome grid (λ g. IsGrid (map_of roads.now) g.now.nodes.items) }
-    requires own { All (λ x. IsTrue (has_line (map_of roads.now) x)) own.now }
-    requires count { length own.now ≡ last_number reference.now + 1 }
-    ensures { IfOk result (λ found. list_map found_of found.items ≡ obstacles (map_of roads.now) reference.now own.now) }
-{
-    match grid {
-        Some(grid) => obstacles(alloc, roads, grid, reference, own),
-        None => {
-            let nodes = roads.node_places();
-            obstacles_near(alloc, roads, nodes.ids, nodes.places, reference, own)
-        }
-    }
-}
-
-/// The ambiguities of the string of an encoded path: none if it has none.
+/// The ambiguities of the string of an encoded path, by the grid of the map, or if there is none by one pass over its
+/// nodes. Without a string there are none.
 fn found_in(
     alloc: Global,
     roads: &RoadMap,
@@ -78,9 +55,16 @@ fn found_in(
     ensures { IfOk result (λ found. list_map found_of found.items
         ≡ obstacles_of (map_of roads.now) (answer_of encoding.now.answer) encoding.now.own.items) }
 {
+    let own = encoding.own.as_slice();
     match &encoding.answer {
         Answer::Refused(_) => Ok(Vec::new(alloc)),
-        Answer::Points(reference) => found_by(alloc, roads, grid, reference, &encoding.own),
+        Answer::Points(reference) => match grid {
+            Some(grid) => obstacles(alloc, roads, grid, reference, own),
+            None => {
+                let nodes = roads.node_places();
+                obstacles_near(alloc, roads, nodes.ids, nodes.places, reference, own)
+            }
+        },
     }
 }
 
@@ -141,14 +125,6 @@ fn own_ambiguity(
     Ok(own)
 }
 
-/// The nodes of the map by cells.
-fn grid_of(alloc: Global, roads: &RoadMap) -> Result<Grid, AllocError>
-    ensures { IfOk result (λ grid. IsGrid (map_of roads.now) grid.nodes.items) }
-{
-    let nodes = roads.node_ids(alloc)?;
-    Grid::new(alloc, roads, &nodes)
-}
-
 impl Register {
     ghost use Rattle.std.specs.Prelude.{Some, None, string_bytes};
     ghost use Rattle.olr_commands.specs.State.{Ambiguous};
@@ -173,7 +149,8 @@ impl Register {
         if self.batch.is_some() {
             return Err(CommandFault::BatchOpen);
         }
-        let grid = grid_of(self.alloc, &self.roads)?;
+        let nodes = self.roads.node_ids(self.alloc)?;
+        let grid = Grid::new(self.alloc, &self.roads, &nodes)?;
         let search = &mut self.searches.query;
         let margin = self.margin;
         let all = all_ambiguities(self.alloc, &self.roads, &grid, &self.paths, margin, search)?;

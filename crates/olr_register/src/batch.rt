@@ -1,6 +1,6 @@
 //! An open batch, and the changes that it holds.
 
-use crate::change::{Change, PathParts, path_unless};
+use crate::change::{Change, path_unless};
 use crate::edits::line_changed;
 use olr_commands::{CommandFault, Reply};
 use olr_map::{Edit, RoadMap, UndoLog, judge};
@@ -30,14 +30,13 @@ pub struct Batch {
 }
 
 impl Batch {
-    ghost use Rattle.std.specs.Prelude.{◌≡◌, List, nat_le, string_bytes};
-    ghost use Rattle.olr_commands.specs.State.{On_map, Add_path, Set_path, Drop_path, full, NamesDiffer};
+    ghost use Rattle.std.specs.Prelude.{◌≡◌, List, nat_le};
+    ghost use Rattle.olr_commands.specs.State.{On_map, full};
     ghost use Rattle.olr_map.specs.RoadMaps.{CanUndoAll};
     ghost use Rattle.olr_model.specs.Edits.{edit_of};
-    ghost use Rattle.olr_paths.specs.Items.{Item, items, all_named};
-    ghost use Rattle.olr_map.specs.declared.road_map.RoadMap.{RoadMap as Roads};
-    ghost use Rattle.olr_register.specs.Contents.{IsHeld, under_batch};
-    ghost use Rattle.olr_register.specs.BatchChanges.{Makes, HoldsChange, path_by, change_of};
+    ghost use Rattle.olr_paths.specs.Items.{Item, items};
+    ghost use Rattle.olr_register.specs.Contents.{IsHeld};
+    ghost use Rattle.olr_register.specs.BatchChanges.{Makes, HoldsChange, change_of};
 
     /// Whether it holds the greatest number of changes.
     fn is_full(&self) -> bool
@@ -61,53 +60,6 @@ impl Batch {
         Ok(())
     }
 
-    /// Adds a path. After a fault the batch is unchanged.
-    fn add_path(
-        &mut self,
-        alloc: Global,
-        list: &PathList,
-        name: String,
-        parts: PathParts,
-    ) -> Result<(), CommandFault>
-        ensures { (roads : Roads) → Makes roads roads (items list.now) self.old self.new
-            (Add_path (string_bytes name) (path_by parts)) result }
-    {
-        let taken = self.overlay.has(list, &name);
-        let path = path_unless(alloc, taken, CommandFault::PathExists, parts)?;
-        self.overlay.hold(alloc, name, path)?;
-        Ok(())
-    }
-
-    /// Replaces the path of a name. After a fault the batch is unchanged.
-    fn set_path(
-        &mut self,
-        alloc: Global,
-        list: &PathList,
-        name: &str,
-        parts: PathParts,
-    ) -> Result<(), CommandFault>
-        requires { NamesDiffer (all_named (under_batch (items list.now) self.old)) }
-        ensures { (roads : Roads) → Makes roads roads (items list.now) self.old self.new
-            (Set_path name.now (path_by parts)) result }
-    {
-        let missing = !self.overlay.has(list, name);
-        let path = path_unless(alloc, missing, CommandFault::NoPath, parts)?;
-        self.overlay.hold_other(alloc, name, path)?;
-        Ok(())
-    }
-
-    /// Removes a path. After a fault the batch is unchanged.
-    fn drop_path(&mut self, alloc: Global, list: &PathList, name: &str) -> Result<(), CommandFault>
-        requires { NamesDiffer (all_named (under_batch (items list.now) self.old)) }
-        ensures { (roads : Roads) → Makes roads roads (items list.now) self.old self.new (Drop_path name.now) result }
-    {
-        if !self.overlay.has(list, name) {
-            return Err(CommandFault::NoPath);
-        }
-        self.overlay.drop_path(alloc, name)?;
-        Ok(())
-    }
-
     /// Makes a change. After a fault, map and batch are unchanged.
     fn make(
         &mut self,
@@ -120,18 +72,31 @@ impl Batch {
         ensures { Makes roads.old roads.new (items list.now) self.old self.new (change_of change) result }
     {
         match change {
-            Change::Edit(edit) => self.edit(roads, edit),
-            Change::AddPath(name, parts) => self.add_path(alloc, list, name, parts),
-            Change::SetPath(name, parts) => self.set_path(alloc, list, &name, parts),
-            Change::DropPath(name) => self.drop_path(alloc, list, &name),
+            Change::Edit(edit) => return self.edit(roads, edit),
+            Change::AddPath(name, parts) => {
+                let taken = self.overlay.has(list, &name);
+                let path = path_unless(alloc, taken, CommandFault::PathExists, parts)?;
+                self.overlay.hold(alloc, name, path)?;
+            }
+            Change::SetPath(name, parts) => {
+                let missing = !self.overlay.has(list, &name);
+                let path = path_unless(alloc, missing, CommandFault::NoPath, parts)?;
+                self.overlay.hold_other(alloc, &name, path)?;
+            }
+            Change::DropPath(name) => {
+                if !self.overlay.has(list, &name) {
+                    return Err(CommandFault::NoPath);
+                }
+                self.overlay.drop_path(alloc, &name)?;
+            }
             Change::SetMargin(margin) => {
                 // For the proof alone: the margin is in range.
                 let _routes = margin.routes();
                 self.margin = margin;
                 self.all = true;
-                Ok(())
             }
         }
+        Ok(())
     }
 
     /// Makes a change and holds it. After a fault, map and batch are unchanged.

@@ -88,22 +88,11 @@ impl Register {
     pub(crate) fn abort(&mut self) -> Result<Reply, CommandFault>
         ensures { Answered self.old Abort result self.new }
     {
-        match self.batch.take() {
-            Some(
-                Batch {
-                    log,
-                    overlay,
-                    touched,
-                    ..
-                },
-            ) => {
-                let bounds = &mut self.searches.bounds;
-                undo_edits(&mut self.roads, bounds, log, &touched);
-                drop(overlay);
-                drop(touched);
-                Ok(Reply::Paths(Vec::new(self.alloc)))
-            }
-            None => Err(CommandFault::NoBatch),
-        }
+        let Some(batch) = self.batch.take() else {
+            return Err(CommandFault::NoBatch);
+        };
+        let bounds = &mut self.searches.bounds;
+        undo_edits(&mut self.roads, bounds, batch.log, &batch.touched);
+        Ok(Reply::Paths(Vec::new(self.alloc)))
     }
 }

@@ -21,24 +21,14 @@ use olr_renewal::{
 };
 use std::alloc::{AllocError, Global};
 
-/// The bounds are rebuilt only after searches that found no path have labelled more nodes than this.
-const LEAST: usize = 65_536;
-
-/// Makes the bounds right on the map. If an allocation fails, they are unknown, and searches go as far as they may.
-pub(crate) fn make_right(bounds: &mut DistanceBounds, roads: &RoadMap)
-    ensures { (is : List Item) → HasBounds roads.now [] is bounds.old
-        → AreBoundsOf (map_of roads.now) (slot_of roads.now) bounds.new is }
-{
-    let _ = bounds.settle(roads);
-}
-
-/// The same after edits that touched these nodes.
+/// Makes the bounds right on the map after edits that touched these nodes. If an allocation fails, they are unknown, and
+/// searches go as far as they may.
 fn make_right_after(bounds: &mut DistanceBounds, roads: &RoadMap, touched: &ChangeSet)
     ensures { (is : List Item) → HasBounds roads.now (nodes_of touched.now) is bounds.old
         → AreBoundsOf (map_of roads.now) (slot_of roads.now) bounds.new is }
 {
-    let _ = bounds.reopen(touched.nodes());
-    make_right(bounds, roads);
+    bounds.reopen(touched.nodes());
+    bounds.settle(roads);
 }
 
 /// Adds coverage queries, whose lines are followed when the bounds are settled. If an allocation fails, the bounds are
@@ -52,7 +42,7 @@ fn add_sources(bounds: &mut DistanceBounds, queries: &[CoverageQuery])
         return;
     }
     for query in queries {
-        let _ = bounds.add(query.from, query.within);
+        bounds.add(query.from, query.within);
     }
 }
 
@@ -71,16 +61,6 @@ fn bounds_from_scratch(alloc: Global, bounds: &mut DistanceBounds, paths: &PathL
     }
 }
 
-/// Whether the bounds are unknown, or searches that found no path have labelled more nodes in all than it costs to rebuild
-/// the bounds.
-fn must_rebuild(bounds: &DistanceBounds, paths: &PathList) -> bool {
-    if !bounds.is_known() {
-        return true;
-    }
-    let cost = bounds.len().saturating_add(paths.len()).saturating_mul(4);
-    bounds.wasted_labels() > cost.saturating_add(LEAST)
-}
-
 /// Adds sources to the bounds where new coverage queries of the list begin, or begins the bounds from scratch if they are
 /// unknown, or if searches that found no path have cost more than that would. The next edit settles them.
 pub(crate) fn renew_bounds(
@@ -93,11 +73,9 @@ pub(crate) fn renew_bounds(
         → AreNewQueries renewed.now.queries.items is (items paths.now) → HasBounds roads T (items paths.now) bounds.new }
 {
     add_sources(bounds, &renewed.queries);
-    bounds.add_wasted_labels(renewed.wasted_labels);
-    if !must_rebuild(bounds, paths) {
-        return;
+    if bounds.add_wasted_labels(renewed.wasted_labels, paths.len()) {
+        bounds_from_scratch(alloc, bounds, paths);
     }
-    bounds_from_scratch(alloc, bounds, paths);
 }
 
 /// Encodes the affected paths again after edits that led to the map, with the changes of an overlay, and adds their new
@@ -151,7 +129,7 @@ pub(crate) fn preview(
 {
     make_right_after(&mut searches.bounds, update.map, update.touched);
     let new_results = renewal_over(paths, update, overlay, searches)?;
-    Ok(new_results.into_renewed())
+    Ok(new_results.renewal.renewed)
 }
 
 /// Undoes the edits of a log, which touched these nodes and lines, and reopens the nodes. The bounds are unknown after that
@@ -175,5 +153,5 @@ pub(crate) fn undo_edits(
         bounds.forget();
         return;
     }
-    let _ = bounds.reopen(touched.nodes());
+    bounds.reopen(touched.nodes());
 }

@@ -4,7 +4,6 @@ ghost use Rattle.std.specs.Prelude.{◌≡◌};
 ghost use Rattle.olr_map.specs.RoadMaps.{map_of};
 ghost use Rattle.olr_spec.specs.Map.{has_node};
 
-use crate::bounds::make_right;
 use crate::register::Register;
 use olr_commands::{CommandFault, Reply};
 use olr_map::{EditFault, MapRead, NodeId, RoadMap};
@@ -36,7 +35,7 @@ impl Register {
             return Err(CommandFault::Map(EditFault::NoNode));
         }
         let around = ChangeSet::around(self.alloc, &self.roads, nodes)?;
-        make_right(&mut self.searches.bounds, &self.roads);
+        self.searches.bounds.settle(&self.roads);
         let update = MapUpdate {
             alloc: self.alloc,
             map: &self.roads,

@@ -1,15 +1,14 @@
 //! Dumps: the records that build the register from an empty one.
 ghost use Rattle.std.specs.List.{list_all, concat};
-ghost use Rattle.std.specs.Prelude.{◌≡◌, ◌++◌, ℕ, map, flat_map, length, All, IsTrue, IsFalse, IfOk, OnOk, slice_get, Some};
+ghost use Rattle.std.specs.Prelude.{◌≡◌, ◌++◌, ℕ, map, flat_map, length, All, IsTrue, IsFalse, IfOk, OnOk, Some};
 ghost use Rattle.olr_commands.specs.Dump.{node_change, line_change, path_change, margin_changes, dump_lines};
 ghost use Rattle.olr_commands.specs.RecordText.{record_line};
-ghost use Rattle.olr_commands.specs.State.{Named, is_recordable};
+ghost use Rattle.olr_commands.specs.State.{is_recordable};
 ghost use Rattle.olr_map.specs.RoadMaps.{map_of, slot_of};
 ghost use Rattle.olr_paths.specs.Items.{items, all_named};
 ghost use Rattle.olr_spec.specs.Map.{has_node, has_line, coord_at, line_at};
 ghost use Rattle.olr_spec.specs.Margins.{no_margin};
 ghost use Rattle.olr_commands.specs.Recordable as recordable;
-ghost use Rattle.olr_commands.specs.Dump as spec;
 ghost use Rattle.olr_register.specs.Contents.{content_on};
 ghost use Rattle.olr_register.specs.Recordables as numbered;
 
@@ -75,22 +74,15 @@ fn is_recordable_map(roads: &RoadMap) -> bool
     true
 }
 
-/// Whether records can have the name of path k.
-fn is_recordable_name(paths: &PathList, k: usize) -> bool
-    ensures { (p : Named) → slice_get (all_named (items paths.now)) k ≡ Some p → result ≡ recordable.is_name p.name }
-{
-    let Some((name, _)) = paths.path_at(k) else {
-        return true;
-    };
-    is_name(name.as_bytes())
-}
-
 /// Whether records can have the name of each path.
 fn are_recordable_names(paths: &PathList) -> bool
     ensures { result ≡ list_all (λ p. recordable.is_name p.name) (all_named (items paths.now)) }
 {
     for k in 0..paths.len() {
-        if !is_recordable_name(paths, k) {
+        let Some((name, _)) = paths.path_at(k) else {
+            unreachable!()
+        };
+        if !is_name(name.as_bytes()) {
             return false;
         }
     }
@@ -104,19 +96,12 @@ fn is_recordable(roads: &RoadMap, paths: &PathList) -> bool
     is_recordable_map(roads) && are_recordable_names(paths)
 }
 
-/// Whether a margin adds nothing.
-fn adds_nothing(margin: Margin) -> bool
-    ensures { result ≡ spec.adds_nothing margin }
-{
-    margin.routes() == 0 && margin.classes() == 0
-}
-
 /// Appends the record of the margin, if it adds something. Returns the number of records.
 fn push_margin(text: &mut Vec<u8>, margin: Margin) -> Result<usize, AllocError>
     ensures { IfOk result (λ n. (n ≡ length (margin_changes margin))
         × (text.new.items ≡ text.old.items ++ concat (map record_line (margin_changes margin)))) }
 {
-    if adds_nothing(margin) {
+    if margin.routes() == 0 && margin.classes() == 0 {
         return Ok(0);
     }
     push_margin_record(text, margin)?;

@@ -3,19 +3,18 @@ ghost use Rattle.std.specs.Option.{option_to_list};
 ghost use Rattle.std.specs.Prelude.{◌≡◌, ◌≢◌, ℕ, length, None, OnOk, map as list_map};
 ghost use Rattle.olr_map.specs.EditPlans.{IsEditPlan, planned_changes};
 ghost use Rattle.olr_model.specs.Edits.{edit_of};
-ghost use Rattle.olr_paths.specs.Items.{items};
 ghost use Rattle.olr_renewal.specs.ChangeSets.{change_of};
 ghost use Rattle.olr_spec.specs.Map.{Map, Edit as EditRecord};
-ghost use Rattle.olr_register.specs.JudgedEdits.{IsTouchedBy, CanMakeEdit, IsEditMade};
+ghost use Rattle.olr_register.specs.JudgedEdits.{IsTouchedBy};
 
 use crate::bounds::renew;
 use crate::register::Register;
 use olr_commands::{CommandFault, Reply};
-use olr_map::{Edit, EditPlan, RoadMap, judge};
-use olr_paths::{Overlay, PathList};
+use olr_map::{Edit, EditPlan, judge};
+use olr_paths::Overlay;
 use olr_refs::Margin;
-use olr_renewal::{ChangeSet, ChangedLine, MapUpdate, Renewed, Searches, renew_unaffected};
-use std::alloc::{AllocError, Global};
+use olr_renewal::{ChangeSet, ChangedLine, MapUpdate, renew_unaffected};
+use std::alloc::AllocError;
 
 /// The line that a judged edit changes: its ends, and the lesser of its lengths before and after. None if the edit is
 /// of a node, or leaves the line as long as it was.
@@ -43,61 +42,6 @@ fn touch_only(touched: &mut ChangeSet, plan: &EditPlan) -> Result<(), AllocError
     Ok(())
 }
 
-/// An edit that was judged, and what it touches.
-#[derive(Drop)]
-struct JudgedEdit<'a> {
-    edit: Edit,
-    plan: EditPlan,
-    touched: &'a ChangeSet,
-}
-
-/// Makes a judged edit, and encodes the affected paths again. If it is known without a search that there are none, little
-/// more is done than to make the edit. If an allocation fails, map and list are unchanged.
-fn make_and_renew(
-    alloc: Global,
-    roads: &mut RoadMap,
-    margin: Margin,
-    paths: &mut PathList,
-    judged: JudgedEdit<'_>,
-    searches: &mut Searches,
-) -> Result<Renewed, AllocError>
-    requires { CanMakeEdit margin roads.old (edit_of judged.edit) judged.plan judged.touched.now (items paths.old)
-        searches.old.bounds }
-    ensures { IsEditMade margin roads.old roads.new (edit_of judged.entry.edit) judged.entry.touched.now (items paths.old)
-        (items paths.new) searches.new.bounds result }
-{
-    let JudgedEdit {
-        edit,
-        plan,
-        touched,
-    } = judged;
-    if let Some(renewed) = renew_unaffected(paths, alloc, roads, touched, &searches.bounds) {
-        roads.make_kept(edit, &plan)?;
-        return Ok(renewed);
-    }
-    let undo = roads.make(edit, &plan)?;
-    let none = Overlay::new(alloc);
-    let update = MapUpdate {
-        alloc,
-        map: &*roads,
-        margin,
-        sets_margin: false,
-        touched,
-    };
-    let renewed = renew(&update, paths, &none, searches);
-    drop(none);
-    match renewed {
-        Ok(renewed) => {
-            roads.keep(undo);
-            Ok(renewed)
-        }
-        Err(error) => {
-            roads.undo(undo);
-            Err(error)
-        }
-    }
-}
-
 impl Register {
     ghost use Rattle.olr_commands.specs.State.{Make, On_map};
     ghost use Rattle.olr_register.specs.Answered.{Answered};
@@ -121,7 +65,8 @@ impl Register {
         Ok(Reply::Paths(Vec::new(self.alloc)))
     }
 
-    /// The same, where there are paths. It is not inlined into what edits run through while a map is read.
+    /// The same, where there are paths. If it is known without a search that none is affected, little more is done than to
+    /// make the edit. It is not inlined into what edits run through while a map is read.
     #[inline(never)]
     fn edit_among_paths(&mut self, edit: Edit) -> Result<Reply, CommandFault>
         requires open { self.old.state.batch ≡ None }
@@ -133,20 +78,32 @@ impl Register {
             Err(fault) => return Err(CommandFault::Map(fault)),
         };
         touch_only(&mut self.touched, &plan)?;
-        let judged = JudgedEdit {
-            edit,
-            plan,
-            touched: &self.touched,
+        let (alloc, roads, paths) = (self.alloc, &mut self.roads, &mut self.paths);
+        let (touched, searches) = (&self.touched, &mut self.searches);
+        if let Some(renewed) = renew_unaffected(paths, alloc, roads, touched, &searches.bounds) {
+            roads.make_kept(edit, &plan)?;
+            self.work = self.work.plus(renewed.work);
+            return Ok(Reply::Paths(renewed.entries));
+        }
+        let undo = roads.make(edit, &plan)?;
+        let none = Overlay::new(alloc);
+        let update = MapUpdate {
+            alloc,
+            map: &*roads,
+            margin: self.margin,
+            sets_margin: false,
+            touched,
         };
-        let renewed = make_and_renew(
-            self.alloc,
-            &mut self.roads,
-            self.margin,
-            &mut self.paths,
-            judged,
-            &mut self.searches,
-        )?;
-        self.work = self.work.plus(renewed.work);
-        Ok(Reply::Paths(renewed.entries))
+        match renew(&update, paths, &none, searches) {
+            Ok(renewed) => {
+                roads.keep(undo);
+                self.work = self.work.plus(renewed.work);
+                Ok(Reply::Paths(renewed.entries))
+            }
+            Err(_) => {
+                roads.undo(undo);
+                Err(CommandFault::Memory)
+            }
+        }
     }
 }

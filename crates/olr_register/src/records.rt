@@ -2,7 +2,7 @@
 ghost use Rattle.std.specs.FinMap.{get};
 ghost use Rattle.std.specs.List.{concat};
 ghost use Rattle.std.specs.Prelude.{◌≡◌, ◌++◌, map, length, Some, IsTrue, IfOk, OnOk};
-ghost use Rattle.olr_commands.specs.Dump.{node_change, end_changes, line_changes};
+ghost use Rattle.olr_commands.specs.Dump.{node_change, line_changes};
 ghost use Rattle.olr_commands.specs.RecordText.{record_line};
 ghost use Rattle.olr_map.specs.RoadMaps.{map_of};
 ghost use Rattle.olr_spec.specs.Map.{has_node, coord_at};
@@ -26,28 +26,6 @@ pub(crate) fn push_node(text: &mut Vec<u8>, roads: &RoadMap, id: NodeId) -> Resu
     push_node_record(text, id, roads.node(id).unwrap())
 }
 
-/// Appends the records of two nodes of the map, or of one if both are the same. Returns their number.
-fn push_ends(
-    text: &mut Vec<u8>,
-    roads: &RoadMap,
-    from: NodeId,
-    to: NodeId,
-) -> Result<usize, AllocError>
-    requires begin { IsTrue (has_node (map_of roads.now) from) }
-    requires end { IsTrue (has_node (map_of roads.now) to) }
-    requires recordable_begin { IsTrue (recordable.has_node_record (map_of roads.now) from) }
-    requires recordable_end { IsTrue (recordable.has_node_record (map_of roads.now) to) }
-    ensures { IfOk result (λ n. (n ≡ length (end_changes (map_of roads.now) from to))
-        × (text.new.items ≡ text.old.items ++ concat (map record_line (end_changes (map_of roads.now) from to)))) }
-{
-    push_node(text, roads, from)?;
-    if from == to {
-        return Ok(1);
-    }
-    push_node(text, roads, to)?;
-    Ok(2)
-}
-
 /// The records of the ends of a line of the map, each once, and of the line.
 fn line_records(alloc: Global, roads: &RoadMap, id: LineId, line: &Line) -> Result<Dump, AllocError>
     requires line { get (map_of roads.now).lines id ≡ Some line.now }
@@ -56,12 +34,14 @@ fn line_records(alloc: Global, roads: &RoadMap, id: LineId, line: &Line) -> Resu
         × (d.text.items ≡ concat (map record_line (line_changes (map_of roads.now) id)))) }
 {
     let mut text = Vec::new(alloc);
-    let ends = push_ends(&mut text, roads, line.from, line.to)?;
+    push_node(&mut text, roads, line.from)?;
+    if line.from == line.to {
+        push_line_record(&mut text, id, line)?;
+        return Ok(Dump { count: 2, text });
+    }
+    push_node(&mut text, roads, line.to)?;
     push_line_record(&mut text, id, line)?;
-    Ok(Dump {
-        count: ends + 1,
-        text,
-    })
+    Ok(Dump { count: 3, text })
 }
 
 /// Whether records can have this line of the map and its ends.

@@ -29,10 +29,10 @@ pub use Rattle.olr_paths.specs.declared.path_list.NamedPath.{NamedPath}
 pub use Rattle.olr_paths.specs.declared.path_list.PathList.{PathList}
 pub use Rattle.olr_paths.specs.declared.published.Published.{Published}
 pub use Rattle.olr_renewal.specs.Actions.{ToSkip, ToName, Retains, IsActionFor}
-pub use Rattle.olr_renewal.specs.AffectedSearches.{AreDetours, IsExactAt, IsSearchedFor, sources, sources_in}
+pub use Rattle.olr_renewal.specs.AffectedSearches.{AreDetours, IsSearchedFor, sources, sources_in}
 pub use Rattle.olr_renewal.specs.Bounds.{AreUnderWay, IsUnderWay, IsEdit, IsUnbounded, IsLed, AreLed, IsFollowed}
 pub use Rattle.olr_renewal.specs.Bounds.{IsRight, IsSource, source_of, bound_at, AreClosed, AreMet, AreRight, IsDue}
-pub use Rattle.olr_renewal.specs.Candidates.{AreFound, Covers, CoversSearched, Finds, FindsChanged, Includes}
+pub use Rattle.olr_renewal.specs.Candidates.{Covers, CoversSearched, Finds, FindsChanged, Includes}
 pub use Rattle.olr_renewal.specs.ChangeSets.{changed_of, lines_of, nodes_of, IsLineAround}
 pub use Rattle.olr_renewal.specs.Changes.{IsAffected, IsBefore, Follows, By_name, By_node, By_line, with_made, AreRemade}
 pub use Rattle.olr_renewal.specs.Changes.{IsRemade, AffectedNames}

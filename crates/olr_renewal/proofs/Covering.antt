@@ -5,7 +5,7 @@ use Rattle.olr_renewal.proofs.Common.{All, append_assoc, All-contains, FindsChan
 use Rattle.olr_renewal.proofs.Common.{inl, inr, ◌≡◌, ◌==◌, ◌||◌, List, ◌++◌, Some, None, refl, Item, items, Path, Made, First}
 use Rattle.olr_renewal.proofs.Common.{◌≢◌, ℕ, ◌+◌, ◌<◌, ◌≤◌, ◌⊎◌, ◌∷◌, sym, ap, ◌∙◌, min, Map, has, Rc}
 use Rattle.olr_renewal.proofs.Common.{false, Includes, has_node, label_at, nodes_of, change_at, same_name, all_named, same_flip}
-use Rattle.olr_renewal.proofs.Common.{[], Against, made_of, lines_of, BeginsIn, PathList, Changes, AreFound, Dijkstra, items_of}
+use Rattle.olr_renewal.proofs.Common.{[], Against, made_of, lines_of, BeginsIn, PathList, Changes, Dijkstra, items_of}
 use Rattle.olr_renewal.proofs.Common.{slice_get, slice_get_within, CoverageQuery, GREATEST_LIMIT, IsSearchedFor, CoversSearched}
 use Rattle.olr_renewal.proofs.Common.{subst, arith, IsMap, holds, Index, Finds, AreFar, Begins, Finder, ToSkip, String, Global}
 use Rattle.olr_renewal.proofs.Common.{nat_tests, LackQueries, RemovesNone, under_change, NamesDiffer, path_ids_of, begins_there}
@@ -57,6 +57,9 @@ put_none number path_ids index xs old now k d v of lt is ids none h = record {
 }
 
 -- ---- the positions that are found have all paths that edits affect
+
+abbrev pub AreFound : List ℕ → Index → List ℕ → List ℕ → Type 0
+AreFound path_ids i vs found = All (λ v. Finds path_ids i v found) vs
 
 is_there : (o : Option (Rc Published Global)) → o ≢ None → (p : Rc Published Global) × (o ≡ Some p)
 is_there None h = absurd (h refl)

@@ -1,8 +1,8 @@
 -- How far the distance bounds let a search go, and of which queries it shows whether they reach a touched node.
 use Rattle.olr_renewal.proofs.Common.{ℕ, ◌≤◌, min, IsTrue, arith, Map, IsMap, has_node, GREATEST_LIMIT, IsUnder, Against}
 use Rattle.olr_renewal.proofs.Common.{IsRight, IsSource, ◌≡◌, List, [], slice_get, Some, label_at, Near, CoverageQuery}
-use Rattle.olr_renewal.proofs.Common.{AreLengths, Item, nodes_of, sources, IsExactAt, IsSearchedFor, Begins, BeginsIn}
-use Rattle.olr_renewal.proofs.Common.{ChangeSet, Dijkstra, begins_there, IsSearch, DistanceBounds}
+use Rattle.olr_renewal.proofs.Common.{AreLengths, Item, nodes_of, sources, IsSearchedFor, Begins, BeginsIn}
+use Rattle.olr_renewal.proofs.Common.{ChangeSet, Dijkstra, begins_there, IsSearch, DistanceBounds, Leads}
 use Rattle.olr_renewal.proofs.Distances.{near_labelled, near_found}
 
 -- no source is beyond bounds that are right
@@ -39,9 +39,13 @@ module _ (N : Map) (slot : ℕ → ℕ) (t : ChangeSet) (near : Dijkstra) where
         found = λ l q there short. absurd (far l q short);
       }
 
+  -- no route of at most w from the touched nodes to v is shorter than the label of v
+  abbrev pub IsExactAt : ℕ → ℕ → Type 0
+  IsExactAt v w = (d : ℕ) → d ≤ w → IsTrue (has_node N v) → Leads N Against (sources t) v d → label_at near (slot v) ≤ d
+
   -- as far as each query reaches
   pub searched_from_touched : IsMap N → (Q : CoverageQuery → Type 0) → AreLengths N slot Against (sources t) near →
-      ((l : CoverageQuery) → Q l → IsExactAt N slot t near l.from (min l.within GREATEST_LIMIT)) →
+      ((l : CoverageQuery) → Q l → IsExactAt l.from (min l.within GREATEST_LIMIT)) →
       IsSearchedFor N slot t near Q
   searched_from_touched n Q lengths exact =
       record {

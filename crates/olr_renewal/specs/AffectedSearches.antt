@@ -1,5 +1,4 @@
 -- The searches of a renewal.
---     IsExactAt N slot t s v w      no route of at most w from the touched nodes to v is shorter than the label of v
 --     IsSearchedFor N slot t near Q      the search near, against the lines from touched nodes, shows of each of the queries
 --         Q whether it reaches a touched node
 --     source_in, sources_in direction      where the search in a direction begins at changed lines, and its start values
@@ -10,7 +9,6 @@ use Rattle.olr_spec.specs.Map.{Map, has_node}
 use Rattle.olr_spec.specs.Queries.{CoverageQuery}
 use Rattle.olr_spec.specs.Detours.{ChangedLine, Near}
 use Rattle.olr_route.specs.Bounds.{AreLengths, label_at}
-use Rattle.olr_route.specs.Distances.{Leads}
 use Rattle.olr_route.specs.Searches.{IsSearch}
 use Rattle.olr_route.specs.declared.distances.Dijkstra.{Dijkstra}
 use Rattle.olr_route.specs.declared.distances.Direction.TheVariants.{Along, Against}
@@ -26,10 +24,6 @@ use Rattle.olr_renewal.specs.declared.distance_bounds.DistanceBounds.{DistanceBo
 
 abbrev pub sources : ChangeSet → List (ℕ × ℕ)
 sources t = map (λ v. (v, 0)) (nodes_of t)
-
-abbrev pub IsExactAt : Map → (ℕ → ℕ) → ChangeSet → Dijkstra → ℕ → ℕ → Type 0
-IsExactAt N slot t s v w =
-    (d : ℕ) → d ≤ w → IsTrue (has_node N v) → Leads N Against (sources t) v d → label_at s (slot v) ≤ d
 
 pub record IsSearchedFor (N : Map) (slot : ℕ → ℕ) (t : ChangeSet) (near : Dijkstra) (Q : CoverageQuery → Type 0) : Type 0
   where
@@ -49,10 +43,6 @@ sources_in direction C = map (source_in direction) C
 pub record AreDetours (N : Map) (slot : ℕ → ℕ) (t : ChangeSet) (d : Detours) : Type 0 where
   pub before : IsSearch N slot Against (sources_in Against (changed_of t)) d.before
   pub after : IsSearch N slot Along (sources_in Along (changed_of t)) d.after
-
--- with more changed lines than this, no detours are searched for
-abbrev pub most_changed : ℕ
-most_changed = 8
 
 pub record AreBoundsOf (N : Map) (slot : ℕ → ℕ) (f : DistanceBounds) (is : List Item) : Type 0 where
   pub right : IsRight N slot f

@@ -1,7 +1,6 @@
 -- Distance bounds, by the slots of the nodes, and how they keep up with edits.
 --     source_of f v      the bound, in decimetres, that the queries from node v require there
 --     bound_at f p      the bound in slot p; greater than the limit if there is none
---     bounds_len f      how many slots have a bound
 --     Within S v d      S has a bound for node v, of at most d
 --     IsSource f v w      a query of length w begins at node v, and requires a bound of at most the limit less w there
 --     IsClosed M s L x      where line x leads within the limit, the bound at its end is no greater than the way there
@@ -22,7 +21,7 @@
 --     IsFollowed M s f v      the lines from v are closed, or its slot is queued at its bound
 -- Where the bounds are unknown nothing is said.
 use Rattle.std.specs.Prelude.{◌≡◌, ◌≢◌, ℕ, ◌+◌, ◌-◌, ◌≤◌, ◌<◌, ◌⊎◌, List, Option, Some, None, IsTrue, IsFalse, nat_eq}
-use Rattle.std.specs.Prelude.{min, length}
+use Rattle.std.specs.Prelude.{min}
 use Rattle.std.specs.HashMap.{get}
 use Rattle.olr_spec.specs.Map.{Map, IsMap, has_node, has_line, start, end, dm, SameRound, has}
 use Rattle.olr_spec.specs.Routes.{IsRoute, dm_of}
@@ -38,9 +37,6 @@ source_of f v = get nat_eq f.sources v
 
 abbrev pub bound_at : DistanceBounds → ℕ → ℕ
 bound_at f p = label_of f.bounds p
-
-abbrev pub bounds_len : DistanceBounds → ℕ
-bounds_len f = length f.bounds.reached.items
 
 pub record Within (S : ℕ → Option ℕ) (v d : ℕ) : Type 0 where
   pub number : ℕ

@@ -1,12 +1,11 @@
 -- Positions of paths that edits may affect.
 --     Includes xs ys      the numbers of xs are among those of ys
 --     Finds path_ids i v found      the positions of the path ids of the number v are found.
---     AreFound      the same for each number
 --     Covers N T X is found      a path whose position isn't found is not affected
 --     CoversSearched N slot t near is found      the same for the paths for whose queries it was searched
 --     FindsChanged cs is found      a path whose position isn't found is not changed
 --     AreCandidates N slot t near is found      what a renewal finds before it takes an action for each path
-use Rattle.std.specs.Prelude.{◌≡◌, ℕ, ◌<◌, List, All, Some, None, false, length, get_or, slice_get, IsTrue}
+use Rattle.std.specs.Prelude.{◌≡◌, ℕ, ◌<◌, List, Some, None, false, length, get_or, slice_get, IsTrue}
 use Rattle.std.specs.List.Sorted.{IsStrictlyIncreasing}
 use Rattle.olr_spec.specs.Map.{Map, has}
 use Rattle.olr_paths.specs.PathIds.{holds}
@@ -26,9 +25,6 @@ Includes xs ys = (k : ℕ) → IsTrue (has xs k) → IsTrue (has ys k)
 abbrev pub Finds : List ℕ → Index → ℕ → List ℕ → Type 0
 Finds path_ids i v found = (k : ℕ) → k < length path_ids → IsTrue (holds i v (get_or path_ids k 0)) →
     IsTrue (has found k)
-
-abbrev pub AreFound : List ℕ → Index → List ℕ → List ℕ → Type 0
-AreFound path_ids i vs found = All (λ v. Finds path_ids i v found) vs
 
 abbrev pub Covers : Map → List ℕ → List ℕ → List Item → List ℕ → Type 0
 Covers N T X is found = (k : ℕ) (i : Item) → slice_get is k ≡ Some i → has found k ≡ false → ToSkip N T X i.made i.path

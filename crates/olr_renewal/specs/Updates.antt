@@ -13,11 +13,12 @@ use Rattle.olr_route.specs.declared.distances.Dijkstra.{Dijkstra}
 use Rattle.olr_paths.specs.Items.{Item}
 use Rattle.olr_paths.specs.Origins.{AreShort}
 use Rattle.olr_renewal.specs.Actions.{ToSkip, ToName, IsActionFor}
-use Rattle.olr_renewal.specs.AffectedSearches.{AreBoundsOf, AreDetours, IsSearchedFor, most_changed}
+use Rattle.olr_renewal.specs.AffectedSearches.{AreBoundsOf, AreDetours, IsSearchedFor}
 use Rattle.olr_renewal.specs.Candidates.{AreCandidates}
 use Rattle.olr_renewal.specs.ChangeSets.{nodes_of, lines_of, changed_of}
 use Rattle.olr_renewal.specs.declared.actions.Action.{Action}
 use Rattle.olr_renewal.specs.declared.detours.Detours.{Detours}
+use Rattle.olr_renewal.specs.declared.detours.TheConstants.{MOST_CHANGED}
 use Rattle.olr_renewal.specs.declared.distance_bounds.DistanceBounds.{DistanceBounds}
 use Rattle.olr_renewal.specs.declared.update.MapUpdate.{MapUpdate}
 
@@ -33,7 +34,7 @@ module _ {M : Type 0} (map : M → Map) (slot : M → ℕ → ℕ) (u : MapUpdat
   AreReady d = AreDetours (map u.map.now) (slot u.map.now) u.touched.now d
 
   abbrev pub AreReadyIfFew : Detours → Type 0
-  AreReadyIfFew d = length (changed_of u.touched.now) ≤ most_changed → AreReady d
+  AreReadyIfFew d = length (changed_of u.touched.now) ≤ MOST_CHANGED → AreReady d
 
   abbrev pub FindsCandidates : Dijkstra → List Item → List ℕ → Type 0
   FindsCandidates near is found = AreCandidates (map u.map.now) (slot u.map.now) u.touched.now near is found

@@ -1,18 +1,14 @@
 //! The searches of a renewal, and which paths the edits of the map affect.
-ghost use Rattle.std.specs.Prelude.{◌≡◌, ◌≤◌, ◌↔◌, ◌⊎◌, ℕ, min, Contains, IsTrue, IfOk, OnOk};
+ghost use Rattle.std.specs.Prelude.{◌≡◌, ◌↔◌, ◌⊎◌, ℕ, min, Contains, IsTrue, IfOk, OnOk};
 ghost use Rattle.std.specs.List.{list_any};
 ghost use Rattle.olr_spec.specs.Map.{has};
 ghost use Rattle.olr_spec.specs.Detours.{Near};
-ghost use Rattle.olr_route.specs.Bounds.{AreLengths};
-ghost use Rattle.olr_route.specs.declared.distances.Direction.TheVariants.{Against};
 ghost use Rattle.olr_paths.specs.Items.{made_of, items};
 ghost use Rattle.olr_paths.specs.Views.{shown_items};
 ghost use Rattle.olr_paths.specs.Changes.{LineTouched, QueryTouched, TraversedTouched};
 ghost use Rattle.olr_paths.specs.Origins as origins;
 ghost use Rattle.olr_paths.specs.Origins.{Begins, LackQueries};
-ghost use Rattle.olr_renewal.specs.Bounds.{IsRight, IsSource};
 ghost use Rattle.olr_renewal.specs.ChangeSets.{nodes_of, lines_of};
-ghost use Rattle.olr_renewal.specs.AffectedSearches.{sources, IsExactAt};
 ghost use Rattle.olr_renewal.specs.Updates.{CanSearch, Searched, FindsCandidates};
 
 use crate::candidates::positions;
@@ -36,30 +32,6 @@ fn farthest(margin: Margin) -> u32
     2 * LEG_LIMIT
 }
 
-/// Searches against the lines from all touched nodes. If the distance bounds are known, they limit the search; otherwise
-/// the length of coverage queries with the margin does.
-fn search_near<M: MapRead>(
-    update: &MapUpdate<'_, M>,
-    bounds: &DistanceBounds,
-    near: &mut Dijkstra,
-) -> Result<(), AllocError>
-    ensures lengths { OnOk result (AreLengths (M.map update.now.map.now) (M.node_slot update.now.map.now) Against
-        (sources update.now.touched.now) near.new) }
-    ensures returned { OnOk result (IsRight (M.map update.now.map.now) (M.node_slot update.now.map.now) bounds.now
-        → (v w : ℕ) → IsSource bounds.now v w → w ≤ origins.farthest update.now.margin
-        → IsExactAt (M.map update.now.map.now) (M.node_slot update.now.map.now) update.now.touched.now near.new v
-        (min w GREATEST_LIMIT)) }
-{
-    let (map, nodes) = (update.map, update.touched.nodes());
-    begin_at(update.alloc, map, Direction::Against, nodes, near)?;
-    if bounds.is_known() {
-        near.settle_under(map, bounds.bounds())?;
-        return Ok(());
-    }
-    near.settle_to(map, farthest(update.margin))?;
-    Ok(())
-}
-
 /// Whether it is known that no path of a list has a coverage query.
 #[tactic(auto, using(olr_paths::proofs::NotedPositions::lack_by))]
 fn lacks_queries(list: &PathList) -> bool
@@ -76,8 +48,9 @@ fn is_without_queries(overlaid: OverlaidList<'_>) -> bool
     lacks_queries(overlaid.list) && lacks_queries(&overlaid.overlay.added)
 }
 
-/// Searches against the lines from the touched nodes; from none of them, if no coverage query can reach one: the distance
-/// bounds show so, or no path has a query.
+/// Searches against the lines from the touched nodes, as far as the distance bounds let it or, if they are unknown, the
+/// length of coverage queries with the margin; from none of the nodes, if no coverage query can reach one: the bounds show
+/// so, or no path has a query.
 fn search_touched<M: MapRead>(
     update: &MapUpdate<'_, M>,
     overlaid: OverlaidList<'_>,
@@ -87,11 +60,17 @@ fn search_touched<M: MapRead>(
     requires { CanSearch M.map M.node_slot update.now bounds.now (shown_items overlaid) }
     ensures { OnOk result (Searched M.map M.node_slot update.now near.new (Begins (shown_items overlaid.entry))) }
 {
-    if bounds.are_unbounded(update.map, update.touched.nodes()) || is_without_queries(overlaid) {
-        near.begin(update.map, Direction::Against, &[])?;
+    let (map, nodes) = (update.map, update.touched.nodes());
+    if bounds.are_unbounded(map, nodes) || is_without_queries(overlaid) {
+        near.begin(map, Direction::Against, &[])?;
         return Ok(());
     }
-    search_near(update, bounds, near)?;
+    begin_at(update.alloc, map, Direction::Against, nodes, near)?;
+    if bounds.is_known() {
+        near.settle_under(map, &bounds.bounds)?;
+        return Ok(());
+    }
+    near.settle_to(map, farthest(update.margin))?;
     Ok(())
 }
 

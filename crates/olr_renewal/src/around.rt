@@ -1,23 +1,8 @@
 //! What edits around some nodes may touch.
-ghost use Rattle.std.specs.Prelude.{◌↔◌, ℕ, IsTrue, IfOk};
-ghost use Rattle.olr_spec.specs.Map.{has};
-ghost use Rattle.olr_renewal.specs.ChangeSets.{IsLineAround};
 
 use crate::change_set::ChangeSet;
-use olr_model::{LineId, MapRead, NodeId};
+use olr_model::{MapRead, NodeId};
 use std::alloc::{AllocError, Global};
-
-/// The lines that begin or end at one of these nodes. A line may be repeated.
-fn lines_at<M: MapRead>(alloc: Global, map: &M, nodes: &[NodeId]) -> Result<Vec<LineId>, AllocError>
-    ensures { IfOk result (λ lines. (x : ℕ) → IsTrue (has lines.items x) ↔ IsLineAround (M.map map.now) nodes.now x) }
-{
-    let mut lines = Vec::new(alloc);
-    for node in nodes {
-        lines.extend_from_slice(map.in_lines(*node))?;
-        lines.extend_from_slice(map.out_lines(*node))?;
-    }
-    Ok(lines)
-}
 
 impl ChangeSet {
     ghost use Rattle.std.specs.Prelude.{IfOk};
@@ -35,7 +20,11 @@ impl ChangeSet {
         let mut own = Vec::from_slice(alloc, nodes)?;
         own.sort_unstable();
         own.dedup();
-        let mut lines = lines_at(alloc, map, &own)?;
+        let mut lines = Vec::new(alloc);
+        for node in &own {
+            lines.extend_from_slice(map.in_lines(*node))?;
+            lines.extend_from_slice(map.out_lines(*node))?;
+        }
         lines.sort_unstable();
         lines.dedup();
         Ok(ChangeSet {

@@ -1,15 +1,13 @@
 //! Which paths the edits may affect: found by what they touched, without a pass over all paths.
 ghost use Rattle.std.specs.Prelude.{◌≡◌, ◌<◌, ◌≤◌, ℕ, [], Some, All, Contains, length, get_or, IsTrue, IsFalse, IfOk, OnOk};
 ghost use Rattle.std.specs.List.Sorted.{IsStrictlyIncreasing};
-ghost use Rattle.olr_spec.specs.Map.{Map, has, has_node};
+ghost use Rattle.olr_spec.specs.Map.{has, has_node};
 ghost use Rattle.olr_paths.specs.PathIds.{path_ids_of};
-ghost use Rattle.olr_renewal.specs.Bounds.{IsEdit, IsRight, IsUnderWay};
 ghost use Rattle.olr_paths.specs.Items.{items};
 ghost use Rattle.olr_paths.specs.Overlaid.{overlay_changes};
 ghost use Rattle.olr_paths.specs.Origins.{Begins};
 ghost use Rattle.olr_paths.specs.Views.{shown_items};
 ghost use Rattle.olr_renewal.specs.ChangeSets.{nodes_of, lines_of};
-ghost use Rattle.olr_renewal.specs.AffectedSearches.{AreBoundsOf};
 ghost use Rattle.olr_renewal.specs.Candidates.{Includes, Finds, Covers, CoversSearched, FindsChanged};
 ghost use Rattle.olr_renewal.specs.Updates.{Searched};
 
@@ -137,7 +135,7 @@ fn put_touched<M: MapRead>(
     let nodes = touched.nodes();
     put_found(ids, &list.finder.traversed, nodes, found)?;
     put_found(ids, &list.finder.by_query_origin, nodes, found)?;
-    put_found(ids, &list.finder.lines, touched.lines(), found)?;
+    put_found(ids, &list.finder.lines, &touched.lines, found)?;
     put_found_at(
         map,
         near.labelled_slots(),
@@ -198,39 +196,11 @@ pub(crate) fn positions<M: MapRead>(
 }
 
 /// Whether no path has an index entry for one of these.
-fn finds_none<T: Numbered>(index: &Index, items: &[T]) -> bool
+pub(crate) fn finds_none<T: Numbered>(index: &Index, items: &[T]) -> bool
     ensures { IsTrue result → All (λ x. path_ids_of index.now (T.number_of x) ≡ []) items.now }
 {
     index.is_empty()
         || items
             .iter()
             .all(|item| index.of(item.index_number()).is_empty())
-}
-
-/// Whether it is known without a search that edits affect no path of the list: all were encoded, none has a touched
-/// node or line, and no coverage query reaches a touched node. If so, the edits leave the bounds right. `map` is the
-/// map before the edits.
-pub(crate) fn affects_none<M: MapRead>(
-    map: &M,
-    list: &PathList,
-    touched: &ChangeSet,
-    bounds: &DistanceBounds,
-) -> bool
-    ensures covers { IsTrue result → (N : Map) (slot : ℕ → ℕ)
-        → IsEdit (nodes_of touched.now) (M.map map.now) (M.node_slot map.now) N slot
-        → AreBoundsOf N slot bounds.now (items list.now)
-        → Covers N (nodes_of touched.now) (lines_of touched.now) (items list.now) [] }
-    ensures right { IsTrue result → (N : Map) (slot : ℕ → ℕ)
-        → IsEdit (nodes_of touched.now) (M.map map.now) (M.node_slot map.now) N slot
-        → IsUnderWay (M.map map.now) (M.node_slot map.now) [] bounds.now → IsRight N slot bounds.now }
-{
-    if list.held
-        || !list.finder.indexed
-        || !bounds.is_settled()
-        || !bounds.are_unbounded(map, touched.nodes())
-    {
-        return false;
-    }
-    finds_none(&list.finder.traversed, touched.nodes())
-        && finds_none(&list.finder.lines, touched.lines())
 }

@@ -101,13 +101,6 @@ impl ChangeSet {
         self.nodes.as_slice()
     }
 
-    /// The touched lines, each once, in ascending order.
-    pub(crate) fn lines(&self) -> &[LineId]
-        ensures { result.now ≡ lines_of self.now }
-    {
-        self.lines.as_slice()
-    }
-
     /// Whether the node was touched, by binary search.
     pub fn has_node(&self, node: NodeId) -> bool
         ensures { result ≡ has (nodes_of self.now) node }

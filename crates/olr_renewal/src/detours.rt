@@ -6,7 +6,7 @@ ghost use Rattle.olr_spec.specs.Queries.{IsClear};
 ghost use Rattle.olr_route.specs.Distances.{Leads};
 ghost use Rattle.olr_route.specs.Searches.{IsSearch};
 ghost use Rattle.olr_paths.specs.Changes.{StayKnown};
-ghost use Rattle.olr_renewal.specs.AffectedSearches.{AreDetours, most_changed};
+ghost use Rattle.olr_renewal.specs.AffectedSearches.{AreDetours};
 ghost use Rattle.olr_renewal.specs.ChangeSets.{changed_of};
 ghost use Rattle.olr_renewal.specs.Updates.{AreReady, AreReadyIfFew};
 ghost use Rattle.olr_renewal.specs.declared.change_set.ChangeSet.{ChangeSet as Touched};
@@ -17,7 +17,7 @@ use crate::update::MapUpdate;
 use olr_answers::{CoverageQuery, KnownQuery};
 use olr_model::MapRead;
 use olr_route::{Dijkstra, Direction, GREATEST_LIMIT};
-use std::alloc::{AllocError, Global};
+use std::alloc::AllocError;
 
 /// The searches for detours over changed lines. Each renewal starts them again, and each test continues them.
 #[derive(Drop)]
@@ -28,22 +28,12 @@ pub struct Detours {
     pub(crate) after: Dijkstra,
 }
 
-impl Detours {
-    /// Searches that have not begun. Takes no memory.
-    pub(crate) fn new(alloc: Global) -> Detours {
-        Detours {
-            before: Dijkstra::new(alloc),
-            after: Dijkstra::new(alloc),
-        }
-    }
-}
-
 /// With more changed lines than this, no detours are searched for: nearly every path is encoded anyway.
 const MOST_CHANGED: usize = 8;
 
 /// Whether so few lines changed that detours over them are searched for.
 pub(crate) fn are_few(touched: &ChangeSet) -> bool
-    ensures { IsTrue result ↔ (length (changed_of touched.now) ≤ most_changed) }
+    ensures { IsTrue result ↔ (length (changed_of touched.now) ≤ MOST_CHANGED) }
 {
     touched.changed.len() <= MOST_CHANGED
 }

@@ -12,6 +12,9 @@ use std::alloc::{AllocError, Global};
 use std::collections::HashMap;
 use std::hash::BuildHasherDefault;
 
+/// The bounds are begun from scratch only after searches that found no path have labelled more nodes than this.
+const LEAST_WASTED: usize = 65_536;
+
 /// A bound, in decimetres, for each node that a query reaches. A query begins at its source and has a length, and reaches
 /// the nodes that a route of at most that length leads to. The bound is at most `GREATEST_LIMIT` less what is left of the
 /// query's length at the node. If lines get longer or are removed, or queries are removed, bounds may be too small, and
@@ -26,7 +29,7 @@ pub struct DistanceBounds {
     /// By node number, the bound that the queries from the node require there: the limit less the longest one's length.
     sources: HashMap<u32, u32, BuildHasherDefault<NumberHasher>>,
     /// The bounds by slot. Outside `settle` nothing is queued.
-    bounds: Frontier,
+    pub(crate) bounds: Frontier,
     /// The nodes whose sources and lines are to be looked at again.
     opened: Vec<NodeId>,
     known: bool,
@@ -100,10 +103,10 @@ fn look_at<M: MapRead>(
 }
 
 impl DistanceBounds {
-    ghost use Rattle.std.specs.Prelude.{◌<◌, ◌-◌, ◌↔◌, List, [], None, IsFalse, OnErr, min};
+    ghost use Rattle.std.specs.Prelude.{◌<◌, ◌-◌, ◌↔◌, List, [], None, IsFalse, min};
     ghost use Rattle.olr_spec.specs.Map.{Map, has};
     ghost use Rattle.olr_spec.specs.Detours.{Near};
-    ghost use Rattle.olr_renewal.specs.Bounds.{source_of, bound_at, bounds_len, IsSource, IsRight, IsUnderWay, IsEdit};
+    ghost use Rattle.olr_renewal.specs.Bounds.{source_of, bound_at, IsSource, IsRight, IsUnderWay, IsEdit};
     ghost use Rattle.olr_renewal.specs.Bounds.{IsUnbounded, IsLowered, IsReopened};
 
     /// No sources and no bounds. Does not allocate.
@@ -128,20 +131,6 @@ impl DistanceBounds {
         ensures { result ≡ self.now.known }
     {
         self.known
-    }
-
-    /// The number of nodes that have a bound.
-    pub fn len(&self) -> usize
-        ensures { result ≡ bounds_len self.now }
-    {
-        self.bounds.labelled_slots().len()
-    }
-
-    /// The bounds, for a search.
-    pub fn bounds(&self) -> &Frontier
-        ensures { result.now ≡ self.now.bounds }
-    {
-        &self.bounds
     }
 
     /// Discards all sources and bounds, and starts from scratch. Does not allocate.
@@ -171,16 +160,15 @@ impl DistanceBounds {
         self.wasted_labels = 0;
     }
 
-    /// How many nodes were labelled by searches that found no affected path, since the bounds were begun.
-    pub fn wasted_labels(&self) -> usize {
-        self.wasted_labels
-    }
-
-    /// Adds labels of a search that found no affected path. Nothing else changes.
-    pub fn add_wasted_labels(&mut self, labels: usize)
+    /// Adds labels of a search that found no affected path; nothing else changes. True if the bounds are to begin from
+    /// scratch: they are unknown, or these labels are more in all than it costs to do so for a number of paths.
+    pub fn add_wasted_labels(&mut self, labels: usize, paths: usize) -> bool
         ensures { self.new ≡ record self.old { wasted_labels = self.new.wasted_labels } }
     {
         self.wasted_labels = self.wasted_labels.saturating_add(labels);
+        let bounded = self.bounds.labelled_slots().len();
+        let cost = bounded.saturating_add(paths).saturating_mul(4);
+        !self.known || self.wasted_labels > cost.saturating_add(LEAST_WASTED)
     }
 
     /// Whether the bounds are settled: no node is to be looked at again.
@@ -226,60 +214,49 @@ impl DistanceBounds {
         true
     }
 
-    /// Adds a query of a length in decimetres that begins at the source, which is then to be looked at again.
-    pub fn add(&mut self, source: NodeId, within: u32) -> Result<(), AllocError>
+    /// Adds a query of a length in decimetres that begins at the source, which is then to be looked at again. If an
+    /// allocation fails, the bounds are unknown.
+    pub fn add(&mut self, source: NodeId, within: u32)
         ensures source { IsSource self.new source within }
-        ensures lowered { OnOk result (IsLowered self.old self.new source (GREATEST_LIMIT - within)) }
-        ensures bounds { OnOk result ((p : ℕ) → bound_at self.new p ≡ bound_at self.old p) }
+        ensures lowered { IsTrue self.new.known → IsLowered self.old self.new source (GREATEST_LIMIT - within) }
+        ensures bounds { IsTrue self.new.known → (p : ℕ) → bound_at self.new p ≡ bound_at self.old p }
         ensures sources { (v w : ℕ) → IsSource self.old v w → IsSource self.new v w }
         ensures under_way { (M : Map) (s : ℕ → ℕ) (T : List ℕ) → IsUnderWay M s T self.old
             → IsUnderWay M s T self.new }
-        ensures ok { OnOk result (self.new.known ≡ self.old.known) }
-        ensures err { OnErr result (IsFalse self.new.known) }
     {
-        match self.lower(source, GREATEST_LIMIT.saturating_sub(within)) {
-            Ok(()) => Ok(()),
-            Err(error) => {
-                self.forget();
-                Err(error)
-            }
+        if self
+            .lower(source, GREATEST_LIMIT.saturating_sub(within))
+            .is_err()
+        {
+            self.forget();
         }
     }
 
-    /// Has these nodes looked at again when the bounds are settled: required of the nodes that edits touched.
-    pub fn reopen(&mut self, nodes: &[NodeId]) -> Result<(), AllocError>
+    /// Has these nodes looked at again when the bounds are settled: required of the nodes that edits touched. If an
+    /// allocation fails, the bounds are unknown.
+    pub fn reopen(&mut self, nodes: &[NodeId])
         ensures sources { (v w : ℕ) → IsSource self.old v w → IsSource self.new v w }
-        ensures bounds { OnOk result ((p : ℕ) → bound_at self.new p ≡ bound_at self.old p) }
+        ensures bounds { IsTrue self.new.known → (p : ℕ) → bound_at self.new p ≡ bound_at self.old p }
         ensures under_way { (M : Map) (s : ℕ → ℕ) → IsUnderWay M s nodes.now self.old → IsUnderWay M s [] self.new }
-        ensures ok { OnOk result (self.new.known ≡ self.old.known) }
-        ensures err { OnErr result (IsFalse self.new.known) }
     {
         match self.opened.extend_from_slice(nodes) {
-            Ok(()) => Ok(()),
-            Err(error) => {
-                self.forget();
-                Err(error)
-            }
+            Ok(()) => (),
+            Err(_) => self.forget(),
         }
     }
 
-    /// Looks at the open nodes again, and follows lines until the bounds are right.
-    pub fn settle<M: MapRead>(&mut self, map: &M) -> Result<(), AllocError>
+    /// Looks at the open nodes again, and follows lines until the bounds are right. If an allocation fails, the bounds are
+    /// unknown.
+    pub fn settle<M: MapRead>(&mut self, map: &M)
         ensures sources { (v w : ℕ) → IsSource self.old v w → IsSource self.new v w }
-        ensures same { OnOk result ((v : ℕ) → source_of self.new v ≡ source_of self.old v) }
+        ensures same { IsTrue self.new.known → (v : ℕ) → source_of self.new v ≡ source_of self.old v }
         ensures right { IsUnderWay (M.map map.now) (M.node_slot map.now) [] self.old
             → IsRight (M.map map.now) (M.node_slot map.now) self.new }
-        ensures reached { OnOk result (AreLed (M.map map.now) (M.node_slot map.now) (source_of self.old)
-            (bound_at self.old) (bound_at self.new)) }
-        ensures ok { OnOk result (self.new.known ≡ self.old.known) }
-        ensures err { OnErr result (IsFalse self.new.known) }
+        ensures reached { IsTrue self.new.known → AreLed (M.map map.now) (M.node_slot map.now) (source_of self.old)
+            (bound_at self.old) (bound_at self.new) }
     {
-        match self.settle_open(map) {
-            Ok(()) => Ok(()),
-            Err(error) => {
-                self.forget();
-                Err(error)
-            }
+        if self.settle_open(map).is_err() {
+            self.forget();
         }
     }
 

@@ -24,6 +24,6 @@ pub use detours::Detours;
 pub use distance_bounds::DistanceBounds;
 pub use naming::affected_names;
 pub use reencode::{NewResults, renew_over, renew_unaffected, renewal_over};
-pub use renewal::Renewed;
+pub use renewal::{Renewal, Renewed};
 pub use searches::Searches;
 pub use update::MapUpdate;

@@ -13,7 +13,7 @@ ghost use Rattle.olr_renewal.specs.ChangeSets.{nodes_of};
 ghost use Rattle.olr_renewal.specs.Reencoded.{WasBefore, IsRenewal, CanRenewUnder, AreRenewed, IsRenewed, IsPutIn, to_renew_by};
 ghost use Rattle.olr_renewal.specs.Reencoded.{after_renewal, entries_of};
 
-use crate::candidates::affects_none;
+use crate::candidates::finds_none;
 use crate::change_set::ChangeSet;
 use crate::distance_bounds::DistanceBounds;
 use crate::renewal::{Renewal, Renewed, renewal_of};
@@ -22,27 +22,14 @@ use crate::update::MapUpdate;
 use olr_model::MapRead;
 use olr_paths::{OverlaidList, Overlay, PathList, fresh_queries, put_in};
 use std::alloc::{AllocError, Global};
-use std::mem;
 
 /// The renewal of a list under changes, before it is put in place.
 #[derive(Drop)]
 pub struct NewResults {
-    renewal: Renewal,
+    /// What was encoded, and what is reported and counted.
+    pub renewal: Renewal,
     /// If the changes remove a path, the list under them.
     copy: Option<PathList>,
-}
-
-impl NewResults {
-    /// What is reported and counted, if it isn't put in place.
-    pub fn into_renewed(self) -> Renewed
-        ensures { result ≡ self.renewal.renewed }
-    {
-        let NewResults { renewal, copy } = self;
-        drop(copy);
-        let Renewal { fresh, renewed } = renewal;
-        drop(fresh);
-        renewed
-    }
 }
 
 /// The renewal of a list under changes: new and replaced paths are encoded, and those whose answer the edits of the map may
@@ -109,9 +96,10 @@ fn put_results<M: MapRead>(
     Ok(renewed)
 }
 
-/// The renewal of a list without changes, if it is known without a search that edits affect none of its paths: nothing
-/// is reported or counted, and the bounds are right on the map after the edits. None if that is not known. `map` is the
-/// map before the edits. Takes no memory.
+/// The renewal of a list without changes, if it is known without a search that edits affect none of its paths: all were
+/// encoded, none has a touched node or line, and no coverage query reaches a touched node. Then nothing is reported or
+/// counted, and the bounds are right on the map after the edits. None if that is not known. `map` is the map before the
+/// edits. Takes no memory.
 pub fn renew_unaffected<M: MapRead>(
     list: &PathList,
     alloc: Global,
@@ -129,7 +117,13 @@ pub fn renew_unaffected<M: MapRead>(
 {
     // For the proof alone: no name occurs twice.
     let _names = list.len();
-    if !affects_none(map, list, touched, bounds) {
+    if list.held
+        || !list.finder.indexed
+        || !bounds.is_settled()
+        || !bounds.are_unbounded(map, touched.nodes())
+        || !finds_none(&list.finder.traversed, touched.nodes())
+        || !finds_none(&list.finder.lines, &touched.lines)
+    {
         return None;
     }
     Some(Renewal::none(alloc).renewed)
@@ -160,16 +154,7 @@ pub fn renew_over<M: MapRead>(
     };
     let none = Overlay::new(update.alloc);
     let renewed = put_results(&mut copy, update, &none, renewal)?;
-    drop(none);
-    replace_by(list, update.alloc, copy);
+    *list = copy;
+    list.index(update.alloc);
     Ok(renewed)
-}
-
-/// Replaces the list by another, and adds the index entries of its paths.
-#[inline(never)]
-fn replace_by(list: &mut PathList, alloc: Global, other: PathList)
-    ensures { items list.new ≡ items other }
-{
-    drop(mem::replace(list, other));
-    list.index(alloc);
 }

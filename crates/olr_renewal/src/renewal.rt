@@ -1,19 +1,17 @@
 //! Encodes again the paths whose answer a change of the map may have changed.
-ghost use Rattle.std.specs.Prelude.{◌≡◌, ◌↔◌, ◌<◌, Some, map as list_map, length, true, IsTrue, IfOk, OnOk};
+ghost use Rattle.std.specs.Prelude.{◌≡◌, ◌<◌, Some, map as list_map, true, IfOk, OnOk};
 ghost use Rattle.olr_spec.specs.Map.{Map};
 ghost use Rattle.olr_commands.specs.Words.{entry_of};
-ghost use Rattle.olr_paths.specs.Items.{made_of, items, answer_in};
+ghost use Rattle.olr_paths.specs.Items.{made_of, items};
 ghost use Rattle.olr_paths.specs.Views.{shown_items, shown_item};
 ghost use Rattle.olr_paths.specs.Changes.{to_renew};
-ghost use Rattle.olr_renewal.specs.Changes.{Follows};
 ghost use Rattle.olr_renewal.specs.Reencoded.{after_renewal, ReportsIfOther, IsStep, IsGiven, WasBefore};
 ghost use Rattle.olr_renewal.specs.Reencoded.{IsRenewal, IsRenewable, CanRenewOver, IsRenewed};
-ghost use Rattle.olr_renewal.specs.Updates.{AreReadyIfFew, FindsCandidates};
 ghost use Rattle.olr_renewal.specs.declared.change_set.ChangeSet.{ChangeSet as Touched};
 
 use crate::actions::{Action, decide};
 use crate::affected::find_candidates;
-use crate::detours::{Detours, begin_detours};
+use crate::detours::begin_detours;
 use crate::encoding::encode;
 use crate::searches::Searches;
 use crate::update::MapUpdate;
@@ -23,16 +21,6 @@ use olr_paths::{NamedPath, OverlaidList, PathList, PathView, Published};
 use olr_refs::CoverageQuery;
 use olr_route::{Dijkstra, Work};
 use std::alloc::{AllocError, Global};
-
-/// Whether a name had the same answer in an earlier list.
-fn is_same_as_before(before: &PathList, name: &str, published: &Published) -> bool
-    ensures { IsTrue result ↔ (answer_in (items before.now) name.now ≡ Some (made_of published.now).answer) }
-{
-    match before.published_of(name) {
-        Some(earlier) => earlier.has_answer_of(published),
-        None => false,
-    }
-}
 
 /// Appends the entry of a path, if its answer differs from that of its name in an earlier list.
 pub(crate) fn push_if_changed(
@@ -45,7 +33,9 @@ pub(crate) fn push_if_changed(
     ensures { OnOk result (ReportsIfOther (items before.now) name.now (made_of published.now).answer
         (list_map entry_of entries.old.items) (list_map entry_of entries.new.items)) }
 {
-    if is_same_as_before(before, name, published) {
+    if let Some(earlier) = before.published_of(name)
+        && earlier.has_answer_of(published)
+    {
         return Ok(());
     }
     entries.push(published.entry(alloc, name)?)?;
@@ -67,15 +57,15 @@ pub struct Renewed {
 
 /// The renewal of a list, before its results are put in the list.
 #[derive(Drop)]
-pub(crate) struct Renewal {
+pub struct Renewal {
     /// The paths that were encoded again, each with its position in the list.
     pub(crate) fresh: Vec<(usize, NamedPath)>,
     /// What is reported and counted.
-    pub(crate) renewed: Renewed,
+    pub renewed: Renewed,
 }
 
 impl Renewal {
-    ghost use Rattle.std.specs.Prelude.{◌≡◌, ℕ, List, []};
+    ghost use Rattle.std.specs.Prelude.{◌≡◌, []};
     ghost use Rattle.olr_route.specs.Counts.{no_work};
 
     /// Of a list without affected paths. Takes no memory.
@@ -136,35 +126,6 @@ impl Renewal {
     }
 }
 
-/// The renewal of a list under changes, whose candidates are found, and for which the searches for detours have begun.
-fn renewal_by<M: MapRead>(
-    update: &MapUpdate<'_, M>,
-    overlaid: OverlaidList<'_>,
-    positions: &[usize],
-    near: &Dijkstra,
-    detours: &mut Detours,
-    query: &mut Dijkstra,
-) -> Result<Renewal, AllocError>
-    requires candidates { FindsCandidates M.map M.node_slot update.now near.now (shown_items overlaid) positions.now }
-    requires detours { 0 < length positions.now → AreReadyIfFew M.map M.node_slot update.now detours.old }
-    requires follows { Follows (items overlaid.before.now) (shown_items overlaid) }
-    requires before { (L : Map) × WasBefore update.now.margin L (M.map update.now.map.now) update.now.touched.now
-        (shown_items overlaid) }
-    ensures { IfOk result (λ r. IsRenewal update.now.margin (M.map update.now.map.now) update.now.touched.now
-        (items overlaid.entry.before.now) (shown_items overlaid.entry) (after_renewal r (shown_items overlaid.entry))
-        r.renewed) }
-{
-    let mut renewal = Renewal::none(update.alloc);
-    for position in positions {
-        let Some(shown) = overlaid.at(*position) else {
-            continue;
-        };
-        let action = decide(update, near, detours, shown)?;
-        renewal.advance(update, overlaid.before, *position, shown, action, query)?;
-    }
-    Ok(renewal)
-}
-
 /// The renewal of a list under changes, each of whose paths is encoded again, without known coverage queries.
 #[inline(never)]
 fn renewal_of_all<M: MapRead>(
@@ -202,18 +163,23 @@ fn renewal_of_some<M: MapRead>(
     ensures bounds { searches.new.bounds ≡ searches.old.bounds }
 {
     let found = find_candidates(update, overlaid, &searches.bounds, &mut searches.near)?;
-    begin_detours(update, &found, &mut searches.detours)?;
-    let mut renewal = renewal_by(
-        update,
-        overlaid,
-        &found,
-        &searches.near,
-        &mut searches.detours,
-        &mut searches.query,
-    )?;
-    if overlaid.len() > 0 && renewal.renewed.work.encodings == 0 {
-        renewal.renewed.wasted_labels = searches.near.labelled_slots().len();
+    let (near, detours) = (&searches.near, &mut searches.detours);
+    begin_detours(update, &found, detours)?;
+    let query = &mut searches.query;
+    let mut renewal = Renewal::none(update.alloc);
+    for position in &found {
+        let Some(shown) = overlaid.at(*position) else {
+            continue;
+        };
+        let action = decide(update, near, detours, shown)?;
+        renewal.advance(update, overlaid.before, *position, shown, action, query)?;
     }
+    let wasted = if overlaid.len() > 0 && renewal.renewed.work.encodings == 0 {
+        near.labelled_slots().len()
+    } else {
+        0
+    };
+    renewal.renewed.wasted_labels = wasted;
     Ok(renewal)
 }
 

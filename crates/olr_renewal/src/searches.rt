@@ -31,7 +31,10 @@ impl Searches {
         Searches {
             bounds: DistanceBounds::new(alloc),
             near: Dijkstra::new(alloc),
-            detours: Detours::new(alloc),
+            detours: Detours {
+                before: Dijkstra::new(alloc),
+                after: Dijkstra::new(alloc),
+            },
             query: Dijkstra::new(alloc),
         }
     }

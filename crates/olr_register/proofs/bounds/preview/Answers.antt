@@ -9,7 +9,7 @@ renewal_over-requires c =
 pub returns-clause-renewed : goal.returns-clause-renewed
 returns-clause-renewed c =
     let ls = to_renew_by c.args.update.now (under_overlay (items c.args.paths.now) c.args.overlay.now) in
-    (after_renewal c.in_ok-new_results.new_results.renewal ls, rw c.into_renewed.ensures c.in_ok-new_results.ensures.renewed)
+    (after_renewal c.in_ok-new_results.new_results.renewal ls, c.in_ok-new_results.ensures.renewed)
 
 pub returns-clause-bounded : goal.returns-clause-bounded
 returns-clause-bounded c = λ T is h. rw c.renewal_over.ensures.bounds (settled_bounds (c.make_right_after.ensures is h))

@@ -1,8 +1,8 @@
 use Rattle.olr_register.proofs.Common.{inl, inr, map_of, slot_of}
 use Rattle.olr_register.proofs.bounds.renew_bounds.Goals as goal
 
-pub returns-then-not-must_rebuild : goal.returns-then-not-must_rebuild
-returns-then-not-must_rebuild c = λ roads T is h new. rw c.add_wasted_labels.ensures (record {
+pub returns-else-add_wasted_labels : goal.returns-else-add_wasted_labels
+returns-else-add_wasted_labels c = λ roads T is h new. rw c.add_wasted_labels.ensures (record {
   under_way = λ known.
       let right = c.add_sources.ensures.under_way (map_of roads) (slot_of roads) T h.under_way known in
       record { closed = right.closed; sources = right.sources };
@@ -12,5 +12,5 @@ returns-then-not-must_rebuild c = λ roads T is h new. rw c.add_wasted_labels.en
   ];
 })
 
-pub returns : goal.returns
-returns c = λ roads T is h new. c.bounds_from_scratch.ensures roads T
+pub returns-then-add_wasted_labels : goal.returns-then-add_wasted_labels
+returns-then-add_wasted_labels c = λ roads T is h new. c.bounds_from_scratch.ensures roads T

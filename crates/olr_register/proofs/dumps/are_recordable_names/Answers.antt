@@ -1,18 +1,31 @@
-use Rattle.olr_register.proofs.Common.{[], sym, arith, length-map, is_name, Named, items, named_of, all_named}
+use Rattle.olr_register.proofs.Common.{[], sym, ◌∙◌, ◌≡◌, arith, length-map, is_name, Named, items, named_of, all_named}
+use Rattle.olr_register.proofs.Common.{inl, inr, slice_get_cases, ap, unwrap_or, Option}
 use Rattle.olr_register.proofs.DumpTexts.{one_fails, one_more}
 use Rattle.olr_register.proofs.dumps.are_recordable_names.Goals as goal
 
 no_path : Named
 no_path = record { name = []; path = record { lines = []; pos = 0; neg = 0 } }
 
-pub returns-then-not-is_recordable_name : goal.returns-then-not-is_recordable_name
-returns-then-not-is_recordable_name c =
+pub unreachable-requires : goal.unreachable-requires
+unreachable-requires c =
+    let is = items c.args.paths.now in
+    elim (slice_get_cases (all_named is) c.loop-k.k).1 [
+      | inl s ↦ let never = c.in_default.ensures ∙ s.2 in absurd cc
+      | inr p ↦ omega (arith, p.0, c.loop-k-test.true, length-map is named_of, c.len-k-end.ensures.len)
+    ]
+
+pub returns-then-not-is_name : goal.returns-then-not-is_name
+returns-then-not-is_name c =
     let is = items c.args.paths.now in
     sym (one_fails (λ p. is_name p.name) (all_named is) c.loop-k.k no_path
-    (omega (arith, length-map is named_of, c.len-k-end.ensures.len)) c.if-not-is_recordable_name.ensures)
+    (omega (arith, length-map is named_of, c.len-k-end.ensures.len)) (λ p at.
+    let name : c.in-Some.name.now ≡ p.name = ap (λ (o : Option Named). (unwrap_or o no_path).name) (c.in-Some.ensures ∙ at) in
+    rw (← name, ← c.as_bytes.ensures.value) c.if-not-is_name.ensures))
 
 pub loop-k-preserved : goal.loop-k-preserved
 loop-k-preserved c =
     let is = items c.args.paths.now in
     one_more (λ p. is_name p.name) (all_named is) c.loop-k.k no_path
-    (omega (arith, length-map is named_of, c.len-k-end.ensures.len)) c.if-not-is_recordable_name.ensures c.loop-k.invariant
+    (omega (arith, length-map is named_of, c.len-k-end.ensures.len)) (λ p at.
+    let name : c.in-Some.name.now ≡ p.name = ap (λ (o : Option Named). (unwrap_or o no_path).name) (c.in-Some.ensures ∙ at) in
+    rw (← name, ← c.as_bytes.ensures.value) c.if-not-is_name.ensures) c.loop-k.invariant

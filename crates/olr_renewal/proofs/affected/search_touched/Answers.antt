@@ -1,5 +1,5 @@
-use Rattle.olr_renewal.proofs.Common.{shown_items, Begins}
-use Rattle.olr_renewal.proofs.SearchedLemmas.{searched_from_none, searched_from_touched}
+use Rattle.olr_renewal.proofs.Common.{shown_items, Begins, IsTrue, sym, ◌∙◌, arith, Against, sources}
+use Rattle.olr_renewal.proofs.SearchedLemmas.{searched_from_none, searched_from_touched, source_under}
 use Rattle.olr_renewal.proofs.BoundLemmas.{edit_same}
 use Rattle.olr_renewal.proofs.affected.search_touched.Goals.{then-are_unbounded-via-then-are_unbounded}
 use Rattle.olr_renewal.proofs.affected.search_touched.Goals.{then-are_unbounded-via-else-are_unbounded+then-is_without_queries}
@@ -13,15 +13,31 @@ returns-then-are_unbounded g c =
     searched_from_none N slot _ c.begin.new.self (Begins (shown_items c.args.overlaid))
     c.in_ok-begin.ensures.search (elim c.then-are_unbounded.branch [
       | then-are_unbounded-via-then-are_unbounded w ↦ λ l b.
-          (rw c.nodes.ensures at c.are_unbounded.ensures.unbounded) w.if-are_unbounded.true N slot l.from l.within same c.requires.bounds.right
+          (rw c.nodes-nodes.ensures at c.are_unbounded.ensures.unbounded) w.if-are_unbounded.true N slot l.from l.within same c.requires.bounds.right
           (c.requires.bounds.sources l b)
       | then-are_unbounded-via-else-are_unbounded+then-is_without_queries w ↦ λ l b. absurd (w.is_without_queries.ensures w.if-is_without_queries.true l b)
     ])
 
+-- as far as the bounds let it
+pub returns-then-is_known : goal.returns-then-is_known
+returns-then-is_known g c =
+    let N = g.M.MapRead.map c.args.update.now.map.now in
+    let f = c.args.bounds.now in
+    let from = sources c.args.update.now.touched.now in
+    let begun = rw c.nodes-nodes.ensures at c.in_ok-begin_at.ensures in
+    let known : IsTrue f.known = sym c.is_known.ensures ∙ c.if-is_known.true in
+    searched_from_touched _ _ _ c.settle_under.new.self (g.met.M.MapRead.sound c.args.update.now.map.now)
+    (Begins (shown_items c.args.overlaid)) (c.in_ok-settle_under.ensures.labelled Against from begun)
+    (λ l b d le there way. c.in_ok-settle_under.ensures.settled Against from begun (c.requires.bounds.right known).closed
+    l.from d there
+    (source_under N _ f l.from l.within d known c.requires.bounds.right (c.requires.bounds.sources l b) there le) way)
+
+-- as far as a query can reach
 pub returns : goal.returns
 returns g c =
-    let e = c.in_ok-search_near.ensures in
-    searched_from_touched _ _
-    _ c.search_near.new.near (g.met.M.MapRead.sound c.args.update.now.map.now)
-    (Begins (shown_items c.args.overlaid)) e.lengths
-    (λ l b. e.returned c.requires.bounds.right l.from l.within (c.requires.bounds.sources l b) (c.requires.short l b))
+    let begun = rw c.nodes-nodes.ensures at c.in_ok-begin_at.ensures in
+    let h = c.in_ok-settle_to.ensures.search Against (sources c.args.update.now.touched.now) begun in
+    searched_from_touched _ _ _ c.settle_to.new.self (g.met.M.MapRead.sound c.args.update.now.map.now)
+    (Begins (shown_items c.args.overlaid)) h.under_way.labelled
+    (λ l b d le there way. let short = c.requires.short l b in
+    h.settled l.from d there (omega (arith, c.in_ok-settle_to.ensures.limit, c.farthest.ensures)) way)

@@ -15,7 +15,7 @@ returns g c =
     let same = c.as_slice-ids.ensures.value in
     let one = rw (same, c.nodes-nodes.ensures) at c.in_ok-put_found.ensures.put in
     let two = rw (same, c.nodes-nodes.ensures) at c.in_ok-put_found-2.ensures.put in
-    let three = rw (same, c.lines.ensures) at c.in_ok-put_found-3.ensures.put in
+    let three = rw (same, c.deref.ensures.value) at c.in_ok-put_found-3.ensures.put in
     covers_by _ t l c.requires.encoded c.requires.indexed four
     (λ i d lt k low on. grown4 k (grown3 k (grown2 k (one i d lt k low on))))
     (λ i d lt k low on. grown4 k (three i d lt k low on)) (g.met.M.MapRead.sound c.args.map.now) slot _

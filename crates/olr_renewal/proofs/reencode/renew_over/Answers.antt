@@ -39,11 +39,11 @@ put_results-requires-2 g c =
 
 pub returns-clause-renewed : goal.returns-clause-renewed
 returns-clause-renewed g c =
-    rw c.replace_by.ensures (put g.M.MapRead.map c.args.update.now _ _ _ _ _ c.in_ok-renewal.ensures.renewed
+    rw c.index-2.ensures (put g.M.MapRead.map c.args.update.now _ _ _ _ _ c.in_ok-renewal.ensures.renewed
     (rw (rw c.in-Some.is at c.in_ok-renewal.ensures.copied) at (rw (c.new-none.ensures (items c.in-Some.copy)) at
     c.in_ok-renewed-2.ensures.put)))
 
 pub returns-clause-queries : goal.returns-clause-queries
 returns-clause-queries g c =
-    rw c.replace_by.ensures (rw (rw c.in-Some.is at c.in_ok-renewal.ensures.copied) at
+    rw c.index-2.ensures (rw (rw c.in-Some.is at c.in_ok-renewal.ensures.copied) at
     (rw (c.new-none.ensures (items c.in-Some.copy)) at c.in_ok-renewed-2.ensures.put).queries)

@@ -11,23 +11,23 @@ undo_edits-requires c =
     let right = right_as s (sym c.in-Some.ensures.value) c.self.invariant in
     record { undo = right.register.held.undo; edits = right.register.held.edits }
 
-pub invariant_of-self : goal.invariant_of-self
-invariant_of-self c =
+pub invariant_of-self-2 : goal.invariant_of-self-2
+invariant_of-self-2 c =
     let s = c.self.inside in
     let right = right_as s (sym c.in-Some.ensures.value) c.self.invariant in
     rw c.take.ensures.after (record {
       register =
-          register_moved s.margin s.roads c.undo_edits.new.roads (items s.paths) (Some c.in-Some.field-0) None
+          register_moved s.margin s.roads c.undo_edits.new.roads (items s.paths) (Some c.in-Some.batch) None
           c.undo_edits.ensures.map tt tt right.register;
       bounded = c.undo_edits.ensures.bounded (items s.paths) right.bounded;
     })
 
-pub returns-in-Some : goal.returns-in-Some
-returns-in-Some c =
+pub returns : goal.returns
+returns c =
     let s = c.self.inside in
-    let k : RegisterState = record { content = content_on s.margin (map_before s.roads c.in-Some.field-0.log) (items s.paths); batch = None } in
+    let k : RegisterState = record { content = content_on s.margin (map_before s.roads c.in-Some.batch.log) (items s.paths); batch = None } in
     rw (← c.self.view_is, ← c.in-Some.ensures.value, c.take.ensures.after, c.undo_edits.ensures.map)
-    (answered_uncounted _ k Abort (reply.Paths c.new.result) (in_states (record k { batch = Some (batch_of s.roads (items s.paths) c.in-Some.field-0) })
+    (answered_uncounted _ k Abort (reply.Paths c.new.result) (in_states (record k { batch = Some (batch_of s.roads (items s.paths) c.in-Some.batch) })
     (Keeps k Abort (reply.Paths c.new.result)) (λ xs i. (
       refl,
       (
@@ -37,6 +37,6 @@ returns-in-Some c =
       ),
     ))))
 
-pub returns-in-None : goal.returns-in-None
-returns-in-None c =
-    rw (← c.self.view_is, ← c.in-None.ensures.value, c.take.ensures.after) (answered_refused _ _ Abort _ _ refl refl (ByState refl))
+pub returns-in_default : goal.returns-in_default
+returns-in_default c =
+    rw (← c.self.view_is, ← c.in_default.ensures.value, c.take.ensures.after) (answered_refused _ _ Abort _ _ refl refl (ByState refl))

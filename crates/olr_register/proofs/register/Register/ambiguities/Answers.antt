@@ -5,9 +5,14 @@ use Rattle.olr_register.proofs.register.Register.ambiguities.Goals as goal
 pub returns-then-is_some : goal.returns-then-is_some
 returns-then-is_some c = open_refused c.self.inside c.self.view_is c.if-is_some.ensures (λ d xs. refl)
 
+pub returns-in_err-nodes : goal.returns-in_err-nodes
+returns-in_err-nodes c =
+    shut_refused c.self.inside c.self.view_is c.if-is_some.ensures No_memory c.from_residual.ensures.1 (Lacks_memory refl refl)
+
 pub returns-in_err-grid : goal.returns-in_err-grid
 returns-in_err-grid c =
-    shut_refused c.self.inside c.self.view_is c.if-is_some.ensures No_memory c.from_residual.ensures.1 (Lacks_memory refl refl)
+    shut_refused c.self.inside c.self.view_is c.if-is_some.ensures No_memory c.from_residual-in_err-grid.ensures.1
+    (Lacks_memory refl refl)
 
 pub all_ambiguities-requires-clause-made : goal.all_ambiguities-requires-clause-made
 all_ambiguities-requires-clause-made c = (shut_right c.self.inside c.if-is_some.ensures c.self.invariant).register.made

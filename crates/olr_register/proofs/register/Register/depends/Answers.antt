@@ -31,19 +31,33 @@ affected_names-requires-clause-before c =
 
 pub affected_names-requires-clause-bounds : goal.affected_names-requires-clause-bounds
 affected_names-requires-clause-bounds c =
-    c.make_right.ensures _ (shut_right c.self.inside c.if-is_some.ensures c.self.invariant).bounded
+    let h = (shut_right c.self.inside c.if-is_some.ensures c.self.invariant).bounded in
+    record {
+      right = c.settle.ensures.right h.under_way;
+      sources = λ l on. c.settle.ensures.sources l.from l.within (h.sources l on);
+    }
 
 pub invariant_of-self : goal.invariant_of-self
-invariant_of-self c = rw c.affected_names.ensures.bounds (record {
-  register = c.self.invariant.register;
-  bounded = settled_bounds (c.make_right.ensures _ (shut_right c.self.inside c.if-is_some.ensures c.self.invariant).bounded);
-})
+invariant_of-self c =
+    let h = (shut_right c.self.inside c.if-is_some.ensures c.self.invariant).bounded in
+    rw c.affected_names.ensures.bounds (record {
+      register = c.self.invariant.register;
+      bounded = settled_bounds (record {
+        right = c.settle.ensures.right h.under_way;
+        sources = λ l on. c.settle.ensures.sources l.from l.within (h.sources l on);
+      });
+    })
 
 pub invariant_of-self-2 : goal.invariant_of-self-2
-invariant_of-self-2 c = rw c.affected_names.ensures.bounds (record {
-  register = c.self.invariant.register;
-  bounded = settled_bounds (c.make_right.ensures _ (shut_right c.self.inside c.if-is_some.ensures c.self.invariant).bounded);
-})
+invariant_of-self-2 c =
+    let h = (shut_right c.self.inside c.if-is_some.ensures c.self.invariant).bounded in
+    rw c.affected_names.ensures.bounds (record {
+      register = c.self.invariant.register;
+      bounded = settled_bounds (record {
+        right = c.settle.ensures.right h.under_way;
+        sources = λ l on. c.settle.ensures.sources l.from l.within (h.sources l on);
+      });
+    })
 
 pub returns-in_err-names : goal.returns-in_err-names
 returns-in_err-names c =
