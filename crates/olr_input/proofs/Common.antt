@@ -7,13 +7,13 @@ pub use Rattle.csv.specs.declared.parser.Action.{Action}
 pub use Rattle.csv.specs.declared.parser.State.{State}
 pub use Rattle.memchr.specs.Find.{NoneBefore, Nowhere, Passes, is_byte, is_byte2, is_byte3}
 pub use Rattle.olr_input.specs.Blocks.{block_of, input_left}
-pub use Rattle.olr_input.specs.Gates.{LostLine, PassesAll, Replacement, Storing, Untouched, is_closed}
+pub use Rattle.olr_input.specs.Gates.{LostLine, Replacement, Storing, Untouched, is_closed}
 pub use Rattle.olr_input.specs.Journals.{IsFront, MayHaveStored, Only, is_empty, is_whole, is_whole_from, stays_open}
-pub use Rattle.olr_input.specs.LineRecords.{Finds, HasNoEnd, Kept, formless, if_any, is_rejected, line_left, unmarked}
+pub use Rattle.olr_input.specs.LineRecords.{HasNoEnd, formless, if_any, is_rejected, line_left, unmarked}
 pub use Rattle.olr_input.specs.Lines.{BetweenRecords, is_line_end}
 pub use Rattle.olr_input.specs.Machine.{csv_state, is_quoted, state_after}
-pub use Rattle.olr_input.specs.Sessions.{Answer, AreKnown, BeginsWith, Compacted, Event, HasNone, History, IsOfTaking, IsPlain}
-pub use Rattle.olr_input.specs.Sessions.{Known, StaysPlain, TakesLeft, TakesOne, Took, Writes, WritesAll, Wrote, csv_left}
+pub use Rattle.olr_input.specs.Sessions.{AllOrFront, Answer, Compacted, Event, HasNone, History, IsOfTaking, IsPlain}
+pub use Rattle.olr_input.specs.Sessions.{Known, StaysPlain, TakesLeft, TakesOne, Took, Writes, Wrote, csv_left}
 pub use Rattle.olr_input.specs.Sessions.{csv_records}
 pub use Rattle.olr_input.specs.StoredLines.{IsLineFor, Turns, effect_by, has_line, is_clean, line_of, turned, word_effect}
 pub use Rattle.olr_input.specs.declared.buffered.Buffered.{Buffered}

@@ -2,11 +2,15 @@
 use Rattle.olr_input.proofs.Common.{◌≡◌, ◌≤◌, ◌<◌, ◌+◌, ◌-◌, ◌++◌, ℕ, List, [], ◌∷◌, Some, None, true, false, refl, length}
 use Rattle.olr_input.proofs.Common.{take, drop, sym, ap, ◌∙◌, arith, length-drop, get_or, get_or-drop, drop-cons, add-one, step}
 use Rattle.olr_input.proofs.Common.{ends_at_end, is_end, fields_after, field_after, default_config, is_bom, csv_state}
-use Rattle.olr_input.proofs.Common.{drop-length, take-length, append-nil, append_assoc, take_more, if◌then◌else◌, State}
+use Rattle.olr_input.proofs.Common.{drop-length, append-nil, append_assoc, take_more, if◌then◌else◌, State}
 use Rattle.csv.specs.declared.parser.State.TheVariants.{StartRecord}
-use Rattle.olr_input.specs.Machine.{csv_action, csv_step}
+use Rattle.olr_input.specs.Machine.{csv_action}
 use Rattle.olr_input.specs.declared.machine.Action.{Action}
 use Rattle.std.proofs.Math.ListN.{drop_of_length-le}
+use Rattle.std.proofs.Common.{Bor, subst}
+use Rattle.std.proofs.lemmas.Bool.{and_parts, cases_Bool}
+use Rattle.std.specs.Prelude.{MatchOption, Option, unwrap_or}
+use Rattle.std.specs.Str.{bytes_eq}
 use Rattle.csv.specs.Machine.{next_record}
 use Rattle.csv.specs.Reading.{strip_bom}
 use Rattle.csv.specs.declared.parser.Action.{Action as CsvAction}
@@ -14,7 +18,7 @@ use Rattle.olr_input.specs.declared.machine.State.{State as Here}
 use Rattle.csv.specs.declared.parser.Action.TheVariants as act
 
 -- the effect of a byte, by the state and the action after it
-pub did : (r : Here × Action) (a : Action) (x : State × CsvAction) → csv_step r ≡ x → r.1 ≡ a →
+pub did : (r : Here × Action) (a : Action) (x : State × CsvAction) → (csv_state r.0, csv_action r.1) ≡ x → r.1 ≡ a →
     x ≡ (csv_state r.0, csv_action a)
 did r a x e h = sym e ∙ ap (λ (k : Action). (csv_state r.0, csv_action k)) h
 
@@ -87,22 +91,34 @@ none_left s f p text i high ends = rw (drop_of_length-le text {i = i} high, ends
 
 -- ---- byte order marks
 
-pub no_mark_in_few : (xs : List ℕ) → length xs < 3 → xs ≡ strip_bom xs
+marked : (xs : List ℕ) → bytes_eq (take 3 xs) (239 ∷ 187 ∷ 191 ∷ []) ≡ true → drop 3 xs ≡ strip_bom xs
 unfolding strip_bom
-no_mark_in_few [] few = refl
-no_mark_in_few (a ∷ []) few = refl
-no_mark_in_few (a ∷ b ∷ []) few = refl
-no_mark_in_few (a ∷ b ∷ c ∷ rest) few = absurd (omega arith)
+marked [] e = refl
+marked (a ∷ []) e = absurd (grind (arith, and_parts))
+marked (a ∷ b ∷ []) e = absurd (grind (arith, and_parts))
+marked (a ∷ b ∷ c ∷ rest) e =
+    let mark : is_bom a b c ≡ true = grind (arith, cases_Bool, and_parts) in
+    rw mark refl
 
-pub mark_goes : (xs : List ℕ) → 3 ≤ length xs → is_bom (get_or xs 0 0) (get_or xs 1 0) (get_or xs 2 0) ≡ true →
-    take (length xs - 3) (drop 3 xs) ≡ strip_bom xs
+unmarked : (xs : List ℕ) → bytes_eq (take 3 xs) (239 ∷ 187 ∷ 191 ∷ []) ≡ false → xs ≡ strip_bom xs
 unfolding strip_bom
-mark_goes [] many e = absurd (omega arith)
-mark_goes (a ∷ []) many e = absurd (omega arith)
-mark_goes (a ∷ b ∷ []) many e = absurd (omega arith)
-mark_goes (a ∷ b ∷ c ∷ rest) many e =
-    let left : length (a ∷ b ∷ c ∷ rest) - 3 ≡ length rest = omega arith in
-    rw e (ap (λ (n : ℕ). take n rest) left ∙ take-length rest)
+unmarked [] e = refl
+unmarked (a ∷ []) e = refl
+unmarked (a ∷ b ∷ []) e = refl
+unmarked (a ∷ b ∷ c ∷ rest) e =
+    let none : is_bom a b c ≡ false = grind (arith, cases_Bool, and_parts) in
+    rw none refl
+
+pub without_mark : (text : Bor (List ℕ)) (mark : List ℕ) (r : Option (Bor (List ℕ))) → mark ≡ 239 ∷ 187 ∷ 191 ∷ [] →
+    MatchOption r (bytes_eq (take (length mark) text.now) mark ≡ false)
+    (λ x. (bytes_eq (take (length mark) text.now) mark ≡ true) × (x.now ≡ drop (length mark) text.now)
+    × (length x.now + length mark ≡ length text.now))
+    → (unwrap_or r text).now ≡ strip_bom text.now
+without_mark text mark None is h =
+    unmarked text.now (subst (λ (m : List ℕ). bytes_eq (take (length m) text.now) m ≡ false) is h)
+without_mark text mark (Some x) is h =
+    h.1 ∙ ap (λ (m : List ℕ). drop (length m) text.now) is
+    ∙ marked text.now (subst (λ (m : List ℕ). bytes_eq (take (length m) text.now) m ≡ true) is h.0)
 
 pub no_mark : (xs : List ℕ) → is_bom (get_or xs 0 0) (get_or xs 1 0) (get_or xs 2 0) ≡ false → xs ≡ strip_bom xs
 unfolding strip_bom

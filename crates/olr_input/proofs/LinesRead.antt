@@ -1,18 +1,32 @@
 -- The records of the lines of an input, as they are read.
-use Rattle.olr_input.proofs.Common.{◌≡◌, ◌≢◌, ◌∙◌, ◌+◌, ◌<◌, ◌≤◌, ℕ, Bool, true, false, List, [], ◌∷◌, ◌++◌, length, take, drop}
+use Rattle.olr_input.proofs.Common.{◌⊎◌, ◌≡◌, ◌≢◌, ◌∙◌, ◌+◌, ◌<◌, ◌≤◌, ℕ, Bool, true, false, List, [], ◌∷◌, ◌++◌, length, take, drop}
 use Rattle.olr_input.proofs.Common.{map, Some, None, inl, inr, refl, sym, ap, subst, arith, length-append, get_or, cases_Bool}
 use Rattle.olr_input.proofs.Common.{cond_both, append-nil, append_assoc, take-append-drop, map-append, if◌then◌else◌, is_bom}
-use Rattle.olr_input.proofs.Common.{HasNoEnd, if_any, is_rejected, formless, unmarked, Kept, Finds, is_line_end, block_of}
+use Rattle.olr_input.proofs.Common.{HasNoEnd, if_any, is_rejected, formless, unmarked, is_line_end, block_of}
 use Rattle.olr_input.proofs.Common.{input_left, Known, IsAtEnd, prepend_known}
 use Rattle.olr_input.specs.LineRecords.{lines_of, most_in_line, line_record, left_after, Steps, lines_from}
 use Rattle.olr_input.specs.declared.blocks.Blocks.{Blocks}
 use Rattle.olr_input.specs.declared.line_records.LineRecords.{LineRecords}
 use Rattle.csv.specs.Reading.{strip_bom}
+use Rattle.csv.specs.declared.parser.State.TheVariants as st
+use Rattle.olr_input.proofs.Common.{Option, csv_state, is_quoted, state_after}
+use Rattle.olr_input.proofs.LineRecords.{reads_some, record_is}
+use Rattle.olr_input.specs.Machine.{IsFirst}
+use Rattle.olr_input.specs.declared.machine.State.{State as Here}
+use Rattle.olr_input.specs.declared.machine.State.TheVariants as here
 use Rattle.olr_input.proofs.CsvBytes.{at, no_mark}
 use Rattle.olr_input.proofs.LineRecords.{IsEnd, end_of, no_end_parts, no_end_join, rejected_record}
 
 abbrev Records : List (List ℕ) → List (List (List ℕ))
 Records lines = map line_record lines
+
+-- what is kept of a line that goes on with more bytes: all of it, or no more of one that is too long, even after a mark
+abbrev pub Kept : (line more kept : List ℕ) → Type 0
+Kept line more kept = (kept ≡ line ++ more) ⊎ ((kept ≡ line) × (most_in_line + 3 < length line))
+
+-- what a record that was found, or none, says of the records of a line
+abbrev pub Finds : List (List ℕ) → Bool → List (List ℕ) → Type 0
+Finds lines found fields = Records lines ≡ (if found then fields ∷ [] else [])
 
 -- ---- lines
 
@@ -285,3 +299,12 @@ pub finds_one : (line : List ℕ) (fields : List (List ℕ)) → line ≢ [] →
     Finds (if_any line) true fields
 finds_one [] fields some is = absurd (some refl)
 finds_one (b ∷ line) fields some is = ap (λ (r : List (List ℕ)). r ∷ []) (sym is)
+
+-- the record of a line that isn't rejected
+pub read_one : (line : List ℕ) (fields : List (List ℕ)) (end : Option (ℕ × Here)) → IsFirst line here.StartRecord fields end →
+    line ≢ [] → HasNoEnd line → length line ≤ most_in_line → is_quoted (state_after st.StartRecord line) ≡ false →
+    Finds (if_any line) true fields
+read_one line fields None first some clean short closed = absurd (reads_some line some clean first)
+read_one line fields (Some e) first some clean short closed =
+    let kept : is_rejected line ≡ false = grind arith in
+    finds_one line fields some (sym (record_is line fields (csv_state e.1) (drop e.0 line) kept first.1))

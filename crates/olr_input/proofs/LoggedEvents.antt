@@ -1,6 +1,7 @@
 -- The events of a session with a log.
-use Rattle.olr_input.proofs.Common.{◌≡◌, Bool, ℕ, List, Ok, Err, Result, PassesAll, Known, Event, Writes, Buffered, RunFault}
+use Rattle.olr_input.proofs.Common.{◌≡◌, Bool, ℕ, List, Ok, Err, Result, AllOrFront, Known, Event, Writes, Buffered, RunFault}
 use Rattle.olr_input.proofs.Common.{Gate}
+use Rattle.olr_input.specs.Gates.{Passes}
 use Rattle.olr_input.specs.LoggedRuns.{LogHappens, Concludes}
 use Rattle.olr_input.specs.declared.logged.Logged.{Logged}
 use Rattle.olr_input.specs.declared.journal.Journal as journal
@@ -11,7 +12,7 @@ module _ {S W J : Type 0} (left : S → List (List (List ℕ)) → Type 0) (cont
 
   pub writes_logged : (s t : Logged S J) (g : Gate J) (o p : Buffered W) (text : List ℕ) (accepted : Bool)
       (r : Result (Unit {0}) RunFault) → t.source ≡ s.source → Concludes j s.gate accepted g →
-      PassesAll j.stored j.may_leave contents g o t.gate p text r → Writes Happens (s, o) text accepted (t, p) r
+      AllOrFront (Passes j.stored j.may_leave contents g o t.gate p) text r → Writes Happens (s, o) text accepted (t, p) r
   writes_logged s t g o p text accepted (Ok done) same concluded passes = (same, (g, concluded, passes))
   writes_logged s t g o p text accepted (Err e) same concluded cut =
       (cut.0, cut.1, cut.2, cut.3, (same, (g, concluded, cut.4)), cut.5)

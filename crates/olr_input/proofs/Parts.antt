@@ -1,7 +1,7 @@
 -- The lines of a log that aren't stored yet, in three parts.
 use Rattle.olr_input.proofs.Common.{◌≡◌, ◌∙◌, ◌≤◌, ◌<◌, ◌-◌, ◌+◌, ℕ, Bool, true, false, List, [], ◌∷◌, ◌++◌, length, take, drop}
 use Rattle.olr_input.proofs.Common.{refl, sym, ap, ◌⊎◌, inl, inr, arith, length-append, length-drop, take-append-drop, take_at}
-use Rattle.olr_input.proofs.Common.{drop_at, drop-drop, append-nil, append_assoc, length-take-le, ◌≢◌, subst, is_empty}
+use Rattle.olr_input.proofs.Common.{take-length, drop_at, drop-drop, append-nil, append_assoc, length-take-le, ◌≢◌, subst, is_empty}
 use Rattle.olr_input.proofs.Common.{is_whole, is_whole_from, IsFront, IsLineFor, Turns, has_line, turned, if◌then◌else◌, Effect}
 use Rattle.olr_input.specs.StoredLines.{AreLines, Waiting, concluded}
 use Rattle.olr_input.specs.declared.unstored.Effect.TheVariants as effect
@@ -43,6 +43,15 @@ parts l r h order within =
       first = length-take-le r l (omega arith);
       second = let size = length-take-le (h - r) (drop r l) (omega (arith, length-drop r l)) in omega arith;
     }
+
+-- once so many bytes are ready, so many are those and the batch's, and the others are dropped, these lines wait
+pub record Ends (l : List ℕ) (w : Waiting) (i j : ℕ) : Type 0 where
+  pub lines : AreLines (take j l) i j effect.Nothing
+  pub waiting : waits (take j l) i j ≡ w
+
+pub ended : {l : List ℕ} {w : Waiting} {i j : ℕ} → Ends l w i j → (m : List ℕ) (x y : ℕ) → m ≡ take j l →
+    (x ≡ i) × (y ≡ j) → waits m x y ≡ w
+ended k m x y is same = (λ n. waits (is n) (same.0 n) (same.1 n)) ∙ k.waiting
 
 -- from these parts, the invariant
 pub lines_are : (l : List ℕ) (r h : ℕ) (e : Effect) (A B N : List ℕ) → Parts l r h A B N → is_whole A ≡ true →
@@ -107,10 +116,6 @@ module _ {l : List ℕ} {r h : ℕ} {e : Effect} (a : AreLines l r h e) where
         second = omega arith;
       }
 
-  -- none is in the batch
-  dropped : Parts (take r l) r r A [] []
-  dropped = record { splits = sym (append-nil A); first = all.first; second = omega arith }
-
   -- those that were ready are gone
   forgotten : Parts (drop r l) 0 (h - r) [] B N
   forgotten =
@@ -120,7 +125,7 @@ module _ {l : List ℕ} {r h : ℕ} {e : Effect} (a : AreLines l r h e) where
         second = let g = all.second in omega arith;
       }
 
-  pub cut_lines : AreLines (take h l) r h effect.Nothing
+  cut_lines : AreLines (take h l) r h effect.Nothing
   cut_lines = lines_are (take h l) r h effect.Nothing _ _ [] cut a.whole a.batch no_line
 
   -- after an empty line
@@ -131,10 +136,6 @@ module _ {l : List ℕ} {r h : ℕ} {e : Effect} (a : AreLines l r h e) where
   added_lines k line none is =
       subst (λ (x : List ℕ). AreLines (x ++ line) r h k) (full none)
       (lines_are (take h l ++ line) r h k _ _ line (with_line line) a.whole a.batch is)
-
-  pub dropped_lines : AreLines (take r l) r r effect.Nothing
-  dropped_lines =
-      lines_are (take r l) r r effect.Nothing _ [] [] dropped a.whole (λ some. absurd (some refl)) no_line
 
   pub forgotten_lines : AreLines (drop r l) 0 (h - r) e
   forgotten_lines = lines_are (drop r l) 0 (h - r) e [] B N forgotten refl a.batch a.next
@@ -158,7 +159,7 @@ module _ {l : List ℕ} {r h : ℕ} {e : Effect} (a : AreLines l r h e) where
   turns_by : (k : Effect) → e ≡ k → has_line k ≡ true → (o : Bool) → Turns o (turned k o) N
   turns_by k is stored o = subst (λ (x : Effect). Turns o (turned x o) N) is (a.next.turns (ap has_line is ∙ stored) o)
 
-  pub held_lines : (n : ℕ) → n ≡ length l → (e ≡ effect.Begin) ⊎ ((e ≡ effect.Change) × (r < h)) →
+  held_lines : (n : ℕ) → n ≡ length l → (e ≡ effect.Begin) ⊎ ((e ≡ effect.Change) × (r < h)) →
       AreLines l r n effect.Nothing
   held_lines n is by =
       subst (λ (m : ℕ). AreLines l r m effect.Nothing) (sym is)
@@ -171,7 +172,7 @@ module _ {l : List ℕ} {r h : ℕ} {e : Effect} (a : AreLines l r h e) where
   closed_by (inl c) = turns_all false (λ _. turns_by effect.Commit c refl true) (λ _. turns_by effect.Commit c refl false)
   closed_by (inr c) = turns_all false (λ some. absurd (some (none_batch c.1))) (λ _. turns_by effect.Change c.0 refl false)
 
-  pub ready_lines : (n : ℕ) → n ≡ length l → (e ≡ effect.Commit) ⊎ ((e ≡ effect.Change) × (h ≤ r)) →
+  ready_lines : (n : ℕ) → n ≡ length l → (e ≡ effect.Commit) ⊎ ((e ≡ effect.Change) × (h ≤ r)) →
       AreLines l n n effect.Nothing
   ready_lines n is by =
       let whole : is_whole (A ++ (B ++ N)) ≡ true =
@@ -186,14 +187,11 @@ module _ {l : List ℕ} {r h : ℕ} {e : Effect} (a : AreLines l r h e) where
   of_parts : (m : List ℕ) (i j : ℕ) (X Y Z : List ℕ) → Parts m i j X Y Z → waits m i j ≡ pair X Y
   of_parts m i j X Y Z p = let is = are m i j X Y Z p in λ k. pair (is.ready k) (is.batch k)
 
-  pub cut_waits : waits (take h l) r h ≡ waits l r h
+  cut_waits : waits (take h l) r h ≡ waits l r h
   cut_waits = of_parts (take h l) r h _ _ [] cut
 
-  pub cut_next : drop h (take h l) ≡ []
+  cut_next : drop h (take h l) ≡ []
   cut_next = (are (take h l) r h _ _ [] cut).next
-
-  pub dropped_waits : waits (take r l) r r ≡ pair (take r l) []
-  dropped_waits = of_parts (take r l) r r _ [] [] dropped
 
   held_waits : (n : ℕ) → n ≡ length l → waits l r n ≡ pair A (B ++ N)
   held_waits n is = ap (waits l r) is ∙ of_parts l r (length l) A (B ++ N) [] pending
@@ -209,13 +207,13 @@ module _ {l : List ℕ} {r h : ℕ} {e : Effect} (a : AreLines l r h e) where
   as_effect : (k : Effect) → e ≡ k → (x : Waiting) → x ≡ concluded k N (pair A B) → x ≡ concluded e N (pair A B)
   as_effect k is x same = same ∙ ap (λ (f : Effect). concluded f N (pair A B)) (sym is)
 
-  pub opened_waits : (n : ℕ) → n ≡ length l → (e ≡ effect.Begin) ⊎ ((e ≡ effect.Change) × (r < h)) →
+  opened_waits : (n : ℕ) → n ≡ length l → (e ≡ effect.Begin) ⊎ ((e ≡ effect.Change) × (r < h)) →
       waits l r n ≡ concluded e (drop h l) (waits l r h)
   opened_waits n len (inl is) = as_effect effect.Begin is _ (held_waits n len)
   opened_waits n len (inr both) =
       as_effect effect.Change both.0 _ (rw (not_empty B (some_batch both.1)) (held_waits n len))
 
-  pub readied_waits : (n : ℕ) → n ≡ length l → (e ≡ effect.Commit) ⊎ ((e ≡ effect.Change) × (h ≤ r)) →
+  readied_waits : (n : ℕ) → n ≡ length l → (e ≡ effect.Commit) ⊎ ((e ≡ effect.Change) × (h ≤ r)) →
       waits l n n ≡ concluded e (drop h l) (waits l r h)
   readied_waits n len (inl is) = as_effect effect.Commit is _ (ready_waits n len)
   readied_waits n len (inr both) =
@@ -224,10 +222,57 @@ module _ {l : List ℕ} {r h : ℕ} {e : Effect} (a : AreLines l r h e) where
       (ready_waits n len ∙ ap (λ (x : List ℕ). pair (A ++ (x ++ N)) []) none
       ∙ ap (λ (x : List ℕ). if is_empty x then pair (A ++ N) [] else pair A (x ++ N)) (sym none))
 
-  pub all_fronts : (n : ℕ) → n ≡ length l → (e ≡ effect.Commit) ⊎ ((e ≡ effect.Change) × (h ≤ r)) → (front : List ℕ) →
+  all_fronts : (n : ℕ) → n ≡ length l → (e ≡ effect.Commit) ⊎ ((e ≡ effect.Change) × (h ≤ r)) → (front : List ℕ) →
       IsFront (take n l) front → IsFront (take r l) front ⊎ (front ≡ take n l)
   all_fronts n is by front f =
       let same : take n l ≡ A ++ (B ++ N) =
       ap (λ (m : ℕ). take m l) is ∙ (are l (length l) (length l) _ [] [] readied).ready in
       subst (λ (x : List ℕ). IsFront A front ⊎ (front ≡ x)) (sym same)
       (front_either A (B ++ N) front a.whole (closed_by by) (subst (λ (x : List ℕ). IsFront x front) same f))
+
+  -- ---- after a record
+
+  all_taken : (n : ℕ) → n ≡ length l → take n l ≡ l
+  all_taken n is = ap (λ (m : ℕ). take m l) is ∙ take-length l
+
+  -- nothing changes
+  pub stays : Ends l (waits l r h) r h
+  stays = record { lines = cut_lines; waiting = cut_waits }
+
+  pub unchanged : (e ≡ effect.Nothing) ⊎ (e ≡ effect.Compact) → Ends l (concluded e (drop h l) (waits l r h)) r h
+  unchanged (inl is) = record { lines = cut_lines; waiting = as_effect effect.Nothing is _ cut_waits }
+  unchanged (inr is) = record { lines = cut_lines; waiting = as_effect effect.Compact is _ cut_waits }
+
+  -- the line that was taken last is another
+  pub taken_next : (m : List ℕ) (y : ℕ) → m ≡ take h l → y ≡ h → drop y m ≡ []
+  taken_next m y is same = (λ n. drop (same n) (is n)) ∙ cut_next
+
+  pub taken_waits : (line k m : List ℕ) (x y : ℕ) → m ≡ k ++ line → k ≡ take h l → (x ≡ r) × (y ≡ h) →
+      waits m x y ≡ waits l r h
+  taken_waits line k m x y is cuts same =
+      (λ n. waits ((is ∙ ap (λ (z : List ℕ). z ++ line) cuts) n) (same.0 n) (same.1 n))
+      ∙ of_parts (take h l ++ line) r h _ _ line (with_line line)
+
+  -- the line waits in the open batch
+  pub opens : (n : ℕ) → n ≡ length l → (e ≡ effect.Begin) ⊎ ((e ≡ effect.Change) × (r < h)) →
+      Ends l (concluded e (drop h l) (waits l r h)) r n
+  opens n is by =
+      record {
+        lines = subst (λ (x : List ℕ). AreLines x r n effect.Nothing) (sym (all_taken n is)) (held_lines n is by);
+        waiting = ap (λ (x : List ℕ). waits x r n) (all_taken n is) ∙ opened_waits n is by;
+      }
+
+  -- all lines are ready
+  pub closes : (n : ℕ) → n ≡ length l → (e ≡ effect.Commit) ⊎ ((e ≡ effect.Change) × (h ≤ r)) →
+      Ends l (concluded e (drop h l) (waits l r h)) n n
+  closes n is by =
+      record {
+        lines = subst (λ (x : List ℕ). AreLines x n n effect.Nothing) (sym (all_taken n is)) (ready_lines n is by);
+        waiting = ap (λ (x : List ℕ). waits x n n) (all_taken n is) ∙ readied_waits n is by;
+      }
+
+  pub closed_fronts : (n : ℕ) → n ≡ length l → (e ≡ effect.Commit) ⊎ ((e ≡ effect.Change) × (h ≤ r)) → (m : List ℕ) (x : ℕ) →
+      m ≡ take n l → x ≡ n → (front : List ℕ) → IsFront (take x m) front → IsFront (take r l) front ⊎ (front ≡ take x m)
+  closed_fronts n is by m x all same =
+      subst (λ (p : List ℕ). (front : List ℕ) → IsFront p front → IsFront (take r l) front ⊎ (front ≡ p))
+      (sym ((λ k. take (same k) (all k)) ∙ ap (take n) (all_taken n is))) (all_fronts n is by)

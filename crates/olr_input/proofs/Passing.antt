@@ -1,7 +1,7 @@
 -- What passes a gate, one part after another.
 use Rattle.olr_input.proofs.Common.{◌≡◌, ◌∙◌, ◌≤◌, ◌<◌, ◌+◌, ℕ, Bool, true, false, List, [], ◌++◌, length, take, drop, refl}
 use Rattle.olr_input.proofs.Common.{sym, ap, subst, Ok, Err, arith, length-drop, Appends-nil, Appends-trans, take-add}
-use Rattle.olr_input.proofs.Common.{both_ways, append-nil, append_assoc, take-append-drop, is_closed, Storing, PassesAll, IfOk}
+use Rattle.olr_input.proofs.Common.{both_ways, append-nil, append_assoc, take-append-drop, is_closed, Storing, AllOrFront, IfOk}
 use Rattle.olr_input.proofs.Common.{IfErr, OnErr, Result, RunFault, MayHaveStored, Only, Known, Buffered, Gate, Write, Appends}
 use Rattle.olr_input.specs.Buffers.{pending, Sends}
 use Rattle.olr_input.specs.Gates.{ready, None_sent, None_ready, All_stored, Cut_off, SameBatch, Passes, PassesSome, compaction}
@@ -120,7 +120,7 @@ module _ {J W : Type 0} {stored : J → List ℕ} {may_leave : J → List ℕ �
 
   pub passed_front : {g h i : Gate J} {o p q : Buffered W} {text : List ℕ} {n : ℕ} →
       Passed stored may_leave contents g o h p text n → n < length text → Passes stored may_leave contents h p i q [] →
-      PassesAll stored may_leave contents g o i q text (Err Write)
+      AllOrFront (Passes stored may_leave contents g o i q) text (Err Write)
   passed_front {g} {h} {i} {o} {p} {q} {text} {n} a more b = (
     take n text,
     drop n text,

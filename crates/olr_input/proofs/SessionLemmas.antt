@@ -1,17 +1,20 @@
 -- Histories of sessions, and the reads of a csv reader.
-use Rattle.olr_input.proofs.Common.{◌≡◌, ℕ, Bool, Ok, inl, inr, true, false, List, [], ◌∷◌, ◌++◌, length, Option, Some, None}
-use Rattle.olr_input.proofs.Common.{◌∙◌, refl, sym, ap, subst, arith, Read, next_record, default_config, strip_bom, State}
-use Rattle.olr_input.proofs.Common.{cases_Bool, option_map, IfSome, Known, Answer, Event, Took, Wrote, Compacted, History}
-use Rattle.olr_input.proofs.Common.{IsPlain, AreKnown, BeginsWith, StaysPlain, TakesLeft, csv_left, csv_records}
-use Rattle.csv.specs.Reading.{is_flexible, ExplainsRead, stops_reader, source_of, buffered_of, reader_source, reader_state}
+use Rattle.olr_input.proofs.Common.{◌≡◌, ℕ, Bool, Ok, inl, inr, true, false, List, [], ◌∷◌, ◌++◌, Option, Some, None}
+use Rattle.olr_input.proofs.Common.{◌∙◌, refl, sym, subst, arith, Read, next_record, default_config, strip_bom, State}
+use Rattle.olr_input.proofs.Common.{cases_Bool, option_map, IfSome, Known, Event, History}
+use Rattle.olr_input.proofs.Common.{IsPlain, StaysPlain, TakesLeft, csv_left, csv_records}
+use Rattle.std.specs.Prelude.{MatchOption}
+use Rattle.csv.specs.Reading.{AreRecords, is_flexible, ExplainsRead, stops_reader, source_of, buffered_of, reader_source, reader_state}
 use Rattle.csv.specs.Reading.{has_failed, reader_trim, took_first, unread_of, NextIs, ReadRecord, ReadsNext, Ready}
 use Rattle.csv.specs.declared.error.ErrorKind.{ErrorKind}
 use Rattle.csv.specs.declared.reader.Reader.{Reader}
-use Rattle.olr_input.specs.Sessions.{Replacement}
 use Rattle.csv.specs.declared.reader.Trim.TheVariants as trim
 use Rattle.csv.specs.declared.error.ErrorKind.TheVariants as kind
 use Rattle.csv.specs.declared.parser.State.TheVariants as st
 use Rattle.olr_input.proofs.CsvRecords.{all_records, none_taken, one_taken}
+
+abbrev AreKnown : State → Known → List (List (List ℕ)) → Type 0
+AreKnown s known rs = MatchOption known ⊥ (λ bytes. AreRecords default_config s bytes rs)
 
 -- a reader that accepts any number of fields is stopped by each fault
 pub stopped : {R : Type 0} (remaining : R → Known) (old new : Reader R) (k : ErrorKind) → is_flexible old ≡ true →
@@ -69,13 +72,13 @@ module _ {R : Type 0} (remaining : R → Known) (old new : Reader R) where
 
   -- before the first read
   pub begins : (known : Known) → has_failed old ≡ false → reader_state old ≡ st.StartRecord →
-      source_of remaining old ≡ option_map strip_bom known → BeginsWith csv_records (csv_left remaining old) known
+      source_of remaining old ≡ option_map strip_bom known → IfSome known (λ bytes. csv_left remaining old (csv_records bytes))
   begins None fresh first source = tt
   begins (Some bytes) fresh first source = rw (first, source, fresh) (all_records bytes)
 
 -- the records of known bytes are left
 pub known_left : (records_of : List ℕ → List (List (List ℕ))) (left : List (List (List ℕ)) → Type 0) (known : Known) →
-    BeginsWith records_of left known → IfSome (option_map records_of known) left
+    IfSome known (λ bytes. left (records_of bytes)) → IfSome (option_map records_of known) left
 known_left records_of left None h = tt
 known_left records_of left (Some bytes) h = h
 

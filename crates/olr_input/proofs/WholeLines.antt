@@ -3,7 +3,10 @@ use Rattle.olr_input.proofs.Common.{◌≡◌, ◌∙◌, ◌+◌, ◌-◌, ◌<
 use Rattle.olr_input.proofs.Common.{ℕ, cases_Bool, drop-drop, NoneBefore, is_byte2, line_feed, HasNoEnd, is_quoted, state_after}
 use Rattle.olr_input.proofs.Common.{◌==◌, true, List, ◌++◌, length, take, drop, subst, arith, Passes, Nowhere, State, is_byte3}
 use Rattle.olr_input.proofs.Common.{false, append_assoc, slice_index, next_record, carriage_return, default_config, is_line_end}
-use Rattle.olr_input.specs.Lines.{HasLinesUpTo, IsWhole, has_line, has_quote}
+use Rattle.olr_input.specs.Lines.{HasLinesUpTo, IsWhole, has_line}
+use Rattle.memchr.specs.Find.{IsFirstByte, IsLastByte, NoneAfter, is_byte}
+use Rattle.olr_input.proofs.Common.{Bool, None, Option, Some, length-take, list_any, unwrap_or}
+use Rattle.olr_input.proofs.LineRecords.{none_pass}
 use Rattle.csv.specs.declared.parser.State.TheVariants as st
 use Rattle.olr_input.proofs.LineRecords.{IsEnd, after, end_of, gives_one, no_end_more, plain, plain_not_quoted}
 use Rattle.olr_input.proofs.LineRecords.{skips, step_plain}
@@ -96,6 +99,9 @@ no_line (x ∷ xs) h =
 
 -- ---- the last end of a line before a quote
 
+abbrev has_quote : List ℕ → Bool
+has_quote bytes = list_any (is_byte default_config.quote) bytes
+
 pub none_up_to : (xs : List ℕ) → HasLinesUpTo 0 xs
 none_up_to xs = record { each = λ i low. absurd (omega arith) }
 
@@ -112,13 +118,18 @@ lines_from (x ∷ xs) (suc n) (suc k) zero none low end from =
 lines_from (x ∷ xs) (suc n) (suc k) (suc i) none low end from =
     lines_from xs n k i (grind arith) (omega arith) end (omega arith)
 
-pub lines_up_to : (front xs : List ℕ) (k : ℕ) → front ≡ take (length front) xs → has_quote front ≡ false →
-    k < length front → Passes (is_byte2 line_feed carriage_return) front k → HasLinesUpTo k xs
-lines_up_to front xs k is none low passes =
-    let plain : has_quote (take (length front) xs) ≡ false = subst (λ (l : List ℕ). has_quote l ≡ false) is none in
-    let end : is_line_end (slice_index (take (length front) xs) k) ≡ true =
-    subst (λ (l : List ℕ). is_line_end (slice_index l k) ≡ true) is passes in
-    record { each = λ i less. lines_from xs (length front) k i plain low end (omega arith) }
+up_to : (xs : List ℕ) (n k : ℕ) → has_quote (take n xs) ≡ false →
+    NoneAfter (Passes (is_byte2 line_feed carriage_return) (take n xs)) 0 (length (take n xs)) k
+    × Passes (is_byte2 line_feed carriage_return) (take n xs) k → HasLinesUpTo k xs
+up_to xs n k none found =
+    let low : k < n = omega (arith, found.0.high, length-take n xs) in
+    record { each = λ i less. lines_from xs n k i none low found.1 (omega arith) }
+
+pub last_end : (xs : List ℕ) (q e : Option ℕ) → IsFirstByte (is_byte default_config.quote) xs q →
+    IsLastByte (is_byte2 line_feed carriage_return) (take (unwrap_or q (length xs)) xs) e → HasLinesUpTo (unwrap_or e 0) xs
+last_end xs q None quote end = none_up_to xs
+last_end xs None (Some k) quote end = up_to xs (length xs) k (none_pass _ xs (length xs) quote) end
+last_end xs (Some n) (Some k) quote end = up_to xs n k (none_pass _ xs n quote.0.before) end
 
 -- from an index on
 pub begins_at : (xs : List ℕ) (start n : ℕ) →

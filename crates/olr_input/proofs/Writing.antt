@@ -1,7 +1,7 @@
 -- The bytes that are written so far.
 use Rattle.olr_input.proofs.Common.{◌≡◌, ◌∙◌, ◌+◌, ◌-◌, ◌≤◌, ◌<◌, ℕ, List, [], length, take, drop, None, Some, Err, refl, ap}
 use Rattle.olr_input.proofs.Common.{sym, arith, length-drop, Appends-trans, Appends-kept, take-add, append-nil}
-use Rattle.olr_input.proofs.Common.{take-append-drop, take_all, Appends, Keeps, Known, WritesAll, Write}
+use Rattle.olr_input.proofs.Common.{take-append-drop, take_all, Appends, Keeps, Known, AllOrFront, Write}
 
 -- the first n bytes
 pub record Written (before now : Known) (bytes : List ℕ) (n : ℕ) : Type 0 where
@@ -22,7 +22,7 @@ written_more before now later bytes n k w l h = grind (arith, rest_is, length-dr
 
 -- the writer took nothing more, or failed: only the first bytes were written, not all of them
 pub front_of : (before now later : Known) (bytes : List ℕ) (n : ℕ) → Written before now bytes n → n < length bytes →
-    Keeps now later → WritesAll before later bytes (Err Write)
+    Keeps now later → AllOrFront (Appends before later) bytes (Err Write)
 front_of before now later bytes n w more k = (
   take n bytes,
   drop n bytes,

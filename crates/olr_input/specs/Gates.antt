@@ -2,7 +2,7 @@
 --     Storing old new sent      what happened to the log while these bytes were sent
 --     Passes g o h p text      a text was written: of what was held back before, and of the text, the first bytes were sent,
 --         and the rest is held back
---     PassesSome, PassesAll      the first bytes of a text were written; or all of it
+--     PassesSome      the first bytes of a text were written
 --     Untouched g h      nothing happened to the log, and it is replaced from the same length on
 --     ConcludedBy u accepted v      the record whose line was taken last was accepted or rejected
 --     Compacts j g records h      these records were given, to be stored in the place of the log
@@ -112,13 +112,6 @@ PassesSome stored may_leave contents g o h p text (Ok n) =
     (n ≤ length text) × Passes stored may_leave contents g o h p (take n text)
 PassesSome stored may_leave contents g o h p text (Err e) =
     Passes stored may_leave contents g o h p [] × (e ≡ fault.Write)
-
-abbrev pub PassesAll : {J W : Type 0} → (J → List ℕ) → (J → List ℕ → Type 0) → (W → Known) → Gate J → Buffered W →
-    Gate J → Buffered W → List ℕ → Result (Unit {0}) RunFault → Type 0
-PassesAll stored may_leave contents g o h p text (Ok done) = Passes stored may_leave contents g o h p text
-PassesAll stored may_leave contents g o h p text (Err e) =
-    (front rest : List ℕ) × (text ≡ front ++ rest) × (rest ≢ []) × Passes stored may_leave contents g o h p front
-    × (e ≡ fault.Write)
 
 pub record ConcludedBy (u : Unstored) (accepted : Bool) (v : Unstored) : Type 0 where
   pub waits : waiting v ≡ (if accepted then concluded u.effect (next_line u) (waiting u) else waiting u)

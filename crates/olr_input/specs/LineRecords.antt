@@ -6,7 +6,7 @@
 --     EachIs Is lines records      there is one record for each line, and this is known of it
 --     left_after first line known rs      these records are left after the first bytes of a line
 --     lines_left remaining s rs      these records are left of a source
-use Rattle.std.specs.Prelude.{◌≡◌, ◌+◌, ◌^◌, ◌<◌, ◌⊎◌, ℕ, Bool, true, false, ◌||◌, nat_lt, if◌then◌else◌, List, [], ◌∷◌, ◌++◌, length, map}
+use Rattle.std.specs.Prelude.{◌≡◌, ◌^◌, ℕ, Bool, true, false, ◌||◌, nat_lt, if◌then◌else◌, List, [], ◌∷◌, ◌++◌, length, map}
 use Rattle.std.specs.Prelude.{codes, Option, Some, None, ⊤}
 use Rattle.std.specs.Bool.{MatchBool}
 use Rattle.std.specs.List.{list_any}
@@ -91,12 +91,3 @@ Steps remaining old new None fields =
 Steps remaining old new (Some true) fields =
     TakesOne (line_left remaining old) (left_after new.is_first [] (input_left remaining new.source)) fields
 Steps remaining old new (Some false) fields = HasNone (line_left remaining old)
-
--- what is kept of a line that goes on with more bytes: all of it, or no more of one that is too long, even after a mark
-abbrev pub Kept : (line more kept : List ℕ) → Type 0
-Kept line more kept = (kept ≡ line ++ more) ⊎ ((kept ≡ line) × (most_in_line + 3 < length line))
-
--- what a record that was found, or none, says of the records of a line
-abbrev pub Finds : List (List ℕ) → Bool → List (List ℕ) → Type 0
-Finds lines true fields = map line_record lines ≡ fields ∷ []
-Finds lines false fields = map line_record lines ≡ []

@@ -5,7 +5,6 @@
 --     IsWhole bytes      bytes begin with a whole record, as csv reads it, whatever follows them
 use Rattle.std.specs.Prelude.{◌≡◌, ℕ, ◌==◌, ◌<◌, Bool, true, false, not, ◌||◌, if◌then◌else◌, List, [], ◌∷◌, ◌++◌, drop}
 use Rattle.std.specs.Prelude.{Some, ◌⊎◌}
-use Rattle.std.specs.List.{list_any}
 use Rattle.csv.specs.Machine.{next_record, line_feed, carriage_return}
 use Rattle.csv.specs.Reading.{default_config}
 use Rattle.csv.specs.declared.parser.State.{State}
@@ -21,9 +20,6 @@ has_line some (byte ∷ bytes) =
     else if not (is_line_end byte) then has_line true bytes
     else if some then true
     else has_line false bytes
-
-abbrev pub has_quote : List ℕ → Bool
-has_quote bytes = list_any (λ byte. byte == default_config.quote) bytes
 
 pub record HasLinesUpTo (last : ℕ) (bytes : List ℕ) : Type 0 where
   pub each : (i : ℕ) → i < last → has_line true (drop i bytes) ≡ true

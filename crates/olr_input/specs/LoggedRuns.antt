@@ -21,9 +21,7 @@ module _ {S W J : Type 0} (left : S → List (List (List ℕ)) → Type 0) (cont
   LogHappens s o t p (Took fields) =
       (g : Gate J) × Passes j.stored j.may_leave contents s.gate o g p [] × TookLine g fields t.gate
       × TakesOne (left s.source) (left t.source) fields
-  LogHappens s o t p Ended =
-      Passes j.stored j.may_leave contents s.gate o t.gate p []
-      × HasNone (left s.source)
+  LogHappens s o t p Ended = Passes j.stored j.may_leave contents s.gate o t.gate p [] × HasNone (left s.source)
   LogHappens s o t p (Not_taken e) =
       (g : Gate J) × Passes j.stored j.may_leave contents s.gate o g p [] × LostLine g t.gate
   LogHappens s o t p Not_sent = (t.source ≡ s.source) × Passes j.stored j.may_leave contents s.gate o t.gate p []

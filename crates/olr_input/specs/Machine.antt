@@ -1,5 +1,5 @@
 -- The machine that reads a record from bytes at hand.
---     csv_state s, csv_step p      a state, and the effect of a byte, in terms of csv's contracts
+--     csv_state s, csv_action a      a state, and the effect of a byte, in terms of csv's contracts
 --     IsFirst text state fields end      the first record of a text, read from a state, and the index and the state
 --         after it
 --     state_after s line      the state of csv after bytes
@@ -28,9 +28,6 @@ csv_action act.Skip = csv_act.Skip
 csv_action act.Copy = csv_act.Copy
 csv_action act.EndField = csv_act.EndField
 csv_action act.EndRecord = csv_act.EndRecord
-
-abbrev pub csv_step : State × Action → CsvState × CsvAction
-csv_step p = (csv_state p.0, csv_action p.1)
 
 abbrev pub IsFirst : List ℕ → State → List (List ℕ) → Option (ℕ × State) → Type 0
 IsFirst text state fields None = next_record default_config (csv_state state) [] [] text ≡ None

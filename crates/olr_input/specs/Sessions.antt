@@ -5,14 +5,13 @@
 --     Replacement      no records were asked for; these were, and they were given; or they could not be made, which was said
 --     History happens a es b      these events, in this order, lead from a to b; happens is the relation of one event
 --     Answer      the text of an answer, and whether it accepts its record
---     WritesAll before later bytes r      all of the bytes were written, or only the first of them
+--     AllOrFront P bytes r      P holds of all bytes, or after a fault only of the first of them
 --     TakesLeft old new failed r fields      what a call that takes a record says of the records that were left, and of those that are
-use Rattle.std.specs.Prelude.{◌≡◌, ◌≢◌, ◌^◌, ℕ, Bool, true, false, List, [], ◌∷◌, ◌++◌, Option, Some, None, Result, Ok, Err, ⊤, ◌⊎◌, IfSome}
+use Rattle.std.specs.Prelude.{◌≡◌, ◌≢◌, ◌^◌, ℕ, Bool, true, false, List, [], ◌∷◌, ◌++◌, Option, Some, None, Result, Ok, Err, ⊤, ◌⊎◌, MatchOption}
 use Rattle.std.specs.Bool.{MatchBool}
 use Rattle.std.specs.Io.KnownBytes.{Appends, Keeps}
 use Rattle.csv.specs.Reading.{AreRecords, default_config, names_headers, reader_config, reader_headers, reader_state}
 use Rattle.csv.specs.Reading.{reader_trim, is_flexible, has_failed, records, source_of, strip_bom, took_first}
-use Rattle.csv.specs.declared.parser.State.{State}
 use Rattle.csv.specs.declared.reader.Reader.{Reader}
 use Rattle.csv.specs.declared.reader.Trim.TheVariants as trim
 use Rattle.olr_input.specs.declared.ends.RunFault.{RunFault}
@@ -69,10 +68,9 @@ Writes happens old text accepts new (Err e) =
     (front rest : List ℕ) × (text ≡ front ++ rest) × (rest ≢ []) × happens old (Cut front rest accepts) new
     × (e ≡ fault.Write)
 
-abbrev pub WritesAll : Known → Known → List ℕ → Result (Unit {0}) RunFault → Type 0
-WritesAll before later bytes (Ok done) = Appends before later bytes
-WritesAll before later bytes (Err e) =
-    (front rest : List ℕ) × (bytes ≡ front ++ rest) × (rest ≢ []) × Appends before later front × (e ≡ fault.Write)
+abbrev pub AllOrFront : (List ℕ → Type 0) → List ℕ → Result (Unit {0}) RunFault → Type 0
+AllOrFront P bytes (Ok done) = P bytes
+AllOrFront P bytes (Err e) = (front rest : List ℕ) × (bytes ≡ front ++ rest) × (rest ≢ []) × P front × (e ≡ fault.Write)
 
 -- ---- sources of records
 
@@ -101,10 +99,6 @@ abbrev pub JoinedLeft : {A B : Type 0} → (A → List (List (List ℕ)) → Typ
     Option A → B → List (List (List ℕ)) → Type 0
 JoinedLeft left_of_first left first second rs =
     (ps qs : List (List (List ℕ))) × FirstLeft left_of_first first ps × left second qs × (rs ≡ ps ++ qs)
-
--- the records of known bytes are left
-abbrev pub BeginsWith : (List ℕ → List (List (List ℕ))) → (List (List (List ℕ)) → Type 0) → Known → Type 0
-BeginsWith records_of left known = IfSome known (λ bytes. left (records_of bytes))
 
 -- the events of a source and a writer whose bytes are known; the writer may be flushed before a record is taken. No records are
 -- asked for
@@ -135,11 +129,8 @@ pub record IsPlain {R : Type 0} (r : Reader R) : Type 0 where
 abbrev pub StaysPlain : {R : Type 0} → Reader R → Type 0
 StaysPlain r = has_failed r ≡ false → IsPlain r
 
-abbrev pub AreKnown : State → Known → List (List (List ℕ)) → Type 0
-AreKnown s None rs = ⊥
-AreKnown s (Some bytes) rs = AreRecords default_config s bytes rs
-
 -- the records that are left of such a reader
 abbrev pub csv_left : {R : Type 0} → (R → Known) → Reader R → List (List (List ℕ)) → Type 0
 csv_left remaining r rs =
-    MatchBool (has_failed r) (rs ≡ []) (AreKnown (reader_state r) (source_of remaining r) rs)
+    MatchBool (has_failed r) (rs ≡ [])
+    (MatchOption (source_of remaining r) ⊥ (λ bytes. AreRecords default_config (reader_state r) bytes rs))

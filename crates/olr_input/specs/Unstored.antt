@@ -1,9 +1,8 @@
 -- Lines that a log doesn't store yet.
 --     waiting u      those of accepted commands
 --     next_line u      the line of the record that is not answered yet
-use Rattle.std.specs.Prelude.{◌≡◌, ◌<◌, ◌≤◌, ◌-◌, ◌⊎◌, ℕ, List, take, drop}
+use Rattle.std.specs.Prelude.{◌-◌, ℕ, List, take, drop}
 use Rattle.olr_input.specs.StoredLines.{Waiting}
-use Rattle.olr_input.specs.declared.unstored.Effect.TheVariants as effect
 use Rattle.olr_input.specs.declared.unstored.Unstored.{Unstored}
 
 abbrev pub waiting : Unstored → Waiting
@@ -12,10 +11,3 @@ waiting u =
 
 abbrev pub next_line : Unstored → List ℕ
 next_line u = drop u.held u.lines.items
-
--- with the line that was taken last, a batch is open, or none is
-abbrev pub Opens : Unstored → Type 0
-Opens u = (u.effect ≡ effect.Begin) ⊎ ((u.effect ≡ effect.Change) × (u.ready < u.held))
-
-abbrev pub Closes : Unstored → Type 0
-Closes u = (u.effect ≡ effect.Commit) ⊎ ((u.effect ≡ effect.Change) × (u.held ≤ u.ready))

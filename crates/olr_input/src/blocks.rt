@@ -29,7 +29,7 @@ pub struct Blocks<R: Drop> {
 }
 
 impl<R: Read + Drop> Blocks<R> {
-    ghost use Rattle.std.specs.Io.KnownBytes.{Keeps, Consumes, IsAtEnd};
+    ghost use Rattle.std.specs.Io.KnownBytes.{Keeps, IsAtEnd};
     ghost use Rattle.olr_input.specs.Blocks.{block_of, bytes_from, input_left};
     ghost use Rattle.olr_input.specs.Lines.{IsWhole, has_line};
 
@@ -74,21 +74,6 @@ impl<R: Read + Drop> Blocks<R> {
         self.end = self.input.read(self.bytes.as_mut_slice())?;
         self.last_plain_end = last_plain_end(&self.bytes.as_slice()[..self.end]);
         Ok(())
-    }
-
-    /// Gives the first bytes of the block.
-    fn give(&mut self, bytes: &mut [u8]) -> usize
-        requires { block_of self.old ≡ [] → IsAtEnd (input_left R.remaining self.old) }
-        ensures within { result ≤ length bytes.new }
-        ensures bytes { Consumes (input_left R.remaining self.old) (input_left R.remaining self.new) (take result bytes.new) }
-        ensures end { result ≡ 0 → 0 < length bytes.new → IsAtEnd (input_left R.remaining self.new) }
-        ensures given { self.new.given ≡ min (self.old.given + result) (2 ^ 64 - 1) }
-    {
-        let block = self.block();
-        let count = block.len().min(bytes.len());
-        bytes[..count].copy_from_slice(&block[..count]);
-        self.consume(count);
-        count
     }
 
     /// Goes on after the first bytes of the block, which were given.
@@ -140,6 +125,10 @@ impl<R: Read + Drop> Read for Blocks<R> {
         ensures err { OnErr result (self.new.given ≡ self.old.given) }
     {
         self.fill()?;
-        Ok(self.give(bytes))
+        let block = self.block();
+        let count = block.len().min(bytes.len());
+        bytes[..count].copy_from_slice(&block[..count]);
+        self.consume(count);
+        Ok(count)
     }
 }

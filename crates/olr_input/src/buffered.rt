@@ -88,7 +88,8 @@ impl<W: Write + Drop> Buffered<W> {
 
     /// Sends what is pending, from its front on. After a failure the rest is still pending, and nothing more is sent. `Write` is
     /// the fault if it can't be sent.
-    pub(crate) fn send_pending(&mut self) -> Result<(), RunFault>
+    pub fn send_all(&mut self) -> Result<(), RunFault>
+        ensures bytes { Keeps (written W.contents self.old) (written W.contents self.new) }
         ensures device { Sends (W.contents self.old.device) (pending self.old) (W.contents self.new.device) (pending self.new) }
         ensures sent { OnOk result (pending self.new ≡ []) }
         ensures fault { IfErr result (λ e. e ≡ RunFault.Write) }
@@ -103,15 +104,6 @@ impl<W: Write + Drop> Buffered<W> {
             return Err(RunFault::Write);
         }
         self.device.flush().map_err(|_| RunFault::Write)
-    }
-
-    /// Sends what is pending, as `flush` does. `Write` is the fault if it can't be sent.
-    pub fn send_all(&mut self) -> Result<(), RunFault>
-        ensures bytes { Keeps (written W.contents self.old) (written W.contents self.new) }
-        ensures sent { OnOk result (pending self.new ≡ []) }
-        ensures fault { IfErr result (λ e. e ≡ RunFault.Write) }
-    {
-        self.send_pending()
     }
 
     /// The device, which has what was sent.
@@ -137,7 +129,6 @@ impl<W: Write + Drop> Write for Buffered<W> {
         ensures bytes { Keeps (written W.contents self.old) (written W.contents self.new) }
         ensures sent { OnOk result (pending self.new ≡ []) }
     {
-        self.send_pending()
-            .map_err(|_| ErrorKind::BrokenPipe.into())
+        self.send_all().map_err(|_| ErrorKind::BrokenPipe.into())
     }
 }

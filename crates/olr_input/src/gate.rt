@@ -2,7 +2,7 @@
 
 ghost use Rattle.std.specs.Prelude.{◌≡◌, ℕ, List, [], None, IfErr, OnOk, IsTrue, false, true};
 ghost use Rattle.csv.specs.Records.{fields_of};
-ghost use Rattle.olr_input.specs.Gates.{Storing, Passes, PassesSome, PassesAll, Untouched, SameBatch, ConcludedBy, Compacts};
+ghost use Rattle.olr_input.specs.Gates.{Storing, Passes, PassesSome, Untouched, SameBatch, ConcludedBy, Compacts};
 ghost use Rattle.olr_input.specs.Gates.{PutsOff, is_closed, ready, batch, compaction, asks, first_from, concluded_compaction};
 ghost use Rattle.olr_input.specs.Gates as gates;
 ghost use Rattle.olr_input.specs.Journals as journals;
@@ -10,6 +10,7 @@ ghost use Rattle.olr_input.specs.declared.unstored.Effect.TheVariants as effect;
 ghost use Rattle.olr_input.specs.StoredLines.{effect_of, stored_line};
 ghost use Rattle.olr_input.specs.Unstored.{waiting, next_line};
 ghost use Rattle.olr_input.specs.Buffers.{pending};
+ghost use Rattle.olr_input.specs.Sessions.{AllOrFront};
 
 use crate::buffered::Buffered;
 use crate::ends::RunFault;
@@ -57,7 +58,12 @@ impl<J: Journal + Drop> Gate<J> {
         ensures due { compaction result
             ≡ record { is_wanted = false; next_from = first_from (J.size journal) compacted_from; compacted_from = compacted_from } }
     {
-        let next_from = first_from(journal.len(), compacted_from);
+        let len = journal.len();
+        let next_from = if len < compacted_from {
+            compacted_from
+        } else {
+            twice(len, compacted_from)
+        };
         Gate {
             journal,
             unstored: Unstored::new(alloc),
@@ -144,22 +150,11 @@ impl<J: Journal + Drop> Gate<J> {
         ensures due { compaction self.new ≡ compaction self.old }
     {
         if self.is_in_place() && is_whole(records) {
-            self.replace(records);
-        }
-    }
-
-    /// The same, of records that are whole, while no batch is open.
-    fn replace(&mut self, records: &[u8])
-        requires whole { IsTrue (journals.is_whole records.now) }
-        requires open { is_closed self.old ≡ false }
-        requires none { batch self.old ≡ [] }
-        ensures compacts { Compacts J.Journal self.old records.now self.new }
-        ensures due { compaction self.new ≡ compaction self.old }
-    {
-        match self.journal.replace(records) {
-            Ok(true) => self.unstored.forget_ready(),
-            Ok(false) => self.journal.report_unreplaced(true),
-            Err(error) => self.fault = Some(LogFault::Unwritten(error)),
+            match self.journal.replace(records) {
+                Ok(true) => self.unstored.forget_ready(),
+                Ok(false) => self.journal.report_unreplaced(true),
+                Err(error) => self.fault = Some(LogFault::Unwritten(error)),
+            }
         }
     }
 
@@ -172,19 +167,10 @@ impl<J: Journal + Drop> Gate<J> {
         ensures due { compaction self.new
             ≡ concluded_compaction (J.size self.old.journal) accepted self.old.unstored.effect (compaction self.old) }
     {
-        self.is_wanted = self.is_due(accepted);
-        self.unstored.conclude(accepted);
-    }
-
-    /// Whether the log should be replaced, once the record that was taken last is accepted or rejected.
-    fn is_due(&self, accepted: bool) -> bool
-        ensures wanted { IsTrue accepted → self.now.unstored.effect ≡ effect.Compact → IsTrue result }
-        ensures still { IsTrue self.now.is_wanted → IsTrue result }
-        ensures due { result ≡ gates.is_due (J.size self.now.journal) accepted self.now.unstored.effect (compaction self.now) }
-    {
-        self.is_wanted
+        self.is_wanted = self.is_wanted
             || (accepted && self.unstored.is_compact())
-            || self.journal.len() >= self.next_from
+            || self.journal.len() >= self.next_from;
+        self.unstored.conclude(accepted);
     }
 
     /// Whether the log is where it was, as it was last written. Closes the gate if it isn't.
@@ -234,7 +220,7 @@ impl<J: Journal + Drop> Gate<J> {
         if !self.store() {
             return Err(RunFault::Write);
         }
-        output.send_pending()
+        output.send_all()
     }
 
     /// The same, if the source of the records may wait.
@@ -274,30 +260,17 @@ impl<J: Journal + Drop> Gate<J> {
         output: &mut Buffered<W>,
         text: &[u8],
     ) -> Result<(), RunFault>
-        ensures { PassesAll J.stored J.may_leave W.contents self.old output.old self.new output.new text.now result }
+        ensures { AllOrFront (Passes J.stored J.may_leave W.contents self.old output.old self.new output.new) text.now result }
     {
         let mut written = 0;
         while written < text.len() {
-            let Ok(taken) = self.write_some(output, &text[written..]) else {
-                return Err(RunFault::Write);
-            };
-            if taken == 0 {
-                return Err(RunFault::Write);
+            match self.write_some(output, &text[written..]) {
+                Ok(taken) if taken > 0 => written += taken,
+                _ => return Err(RunFault::Write),
             }
-            written += taken;
         }
         Ok(())
     }
-}
-
-/// The length from which on a log of so many bytes is replaced first.
-fn first_from(len: usize, least: usize) -> usize
-    ensures { result ≡ gates.first_from len least }
-{
-    if len < least {
-        return least;
-    }
-    twice(len, least)
 }
 
 /// Twice a length, and this length at least.

@@ -1,8 +1,8 @@
 //! The records of an input, one for each line of it that isn't empty.
 
-ghost use Rattle.std.specs.Prelude.{◌≡◌, ◌≢◌, ◌≤◌, ◌<◌, ◌⊎◌, ◌++◌, ◌∷◌, ℕ, List, [], length, take, drop, true, false, slice_index, IfOk, IfErr, OnOk, MatchOption};
+ghost use Rattle.std.specs.Prelude.{◌≡◌, ◌<◌, ◌+◌, ◌⊎◌, ◌++◌, ◌∷◌, ℕ, List, [], length, take, map, true, if◌then◌else◌, slice_index, IfOk, IfErr, OnOk, MatchOption};
 ghost use Rattle.csv.specs.Records.{fields_of};
-ghost use Rattle.olr_input.specs.LineRecords.{HasNoEnd, if_any, is_rejected, line_record, unmarked, Finds, Kept};
+ghost use Rattle.olr_input.specs.LineRecords.{HasNoEnd, if_any, line_record, most_in_line, unmarked};
 ghost use Rattle.olr_input.specs.Lines.{is_line_end};
 
 use crate::blocks::Blocks;
@@ -23,34 +23,13 @@ const MOST_KEPT: usize = MOST_IN_LINE + 3;
 
 /// Adds bytes to a line, unless it is too long already.
 fn keep(line: &mut Vec<u8>, bytes: &[u8]) -> Result<(), AllocError>
-    ensures { OnOk result (Kept line.old.items bytes.now line.new.items) }
+    ensures { OnOk result ((line.new.items ≡ line.old.items ++ bytes.now)
+        ⊎ ((line.new.items ≡ line.old.items) × (most_in_line + 3 < length line.old.items))) }
 {
     if line.len() > MOST_KEPT {
         return Ok(());
     }
     line.extend_from_slice(bytes)
-}
-
-/// Whether a line ends with an open quote or is too long.
-fn is_rejected(line: &[u8]) -> bool
-    ensures { result ≡ is_rejected line.now }
-{
-    line.len() > MOST_IN_LINE || ends_open(line)
-}
-
-/// Reads the record of a line.
-#[tactic(auto, using(crate::proofs::LineRecords::rejected_record, crate::proofs::LineRecords::record_is, crate::proofs::LineRecords::reads_some))]
-fn read_line(line: &[u8], row: &mut ByteRecord, field: &mut Vec<u8>) -> Result<(), AllocError>
-    requires some { line.now ≢ [] }
-    requires one { HasNoEnd line.now }
-    ensures { OnOk result (fields_of row.new ≡ line_record line.now) }
-{
-    if is_rejected(line) {
-        row.clear();
-        return row.push_field(b"!");
-    }
-    first_record(line, State::StartRecord, row, field)?;
-    Ok(())
 }
 
 /// The bytes of a line. Those of the first one come after a byte order mark, if there is one.
@@ -61,21 +40,27 @@ fn line_bytes(line: &[u8], is_first: bool) -> &[u8]
 }
 
 /// Reads the record of a line, if it isn't empty.
-#[tactic(auto, using(crate::proofs::LinesRead::no_end_unmarked, crate::proofs::LinesRead::finds_one))]
-fn read_any(
+#[tactic(auto, using(crate::proofs::LineRecords::rejected_record, crate::proofs::LineRecords::record_is, crate::proofs::LineRecords::reads_some, crate::proofs::LinesRead::no_end_unmarked, crate::proofs::LinesRead::finds_one))]
+fn read_line(
     line: &[u8],
     is_first: bool,
     row: &mut ByteRecord,
     field: &mut Vec<u8>,
 ) -> Result<bool, AllocError>
     requires { HasNoEnd line.now }
-    ensures { IfOk result (λ found. Finds (if_any (unmarked is_first line.now)) found (fields_of row.new)) }
+    ensures { IfOk result (λ found. map line_record (if_any (unmarked is_first line.now))
+        ≡ (if found then fields_of row.new ∷ [] else [])) }
 {
     let line = line_bytes(line, is_first);
     if line.is_empty() {
         return Ok(false);
     }
-    read_line(line, row, field)?;
+    if line.len() > MOST_IN_LINE || ends_open(line) {
+        row.clear();
+        row.push_field(b"!")?;
+        return Ok(true);
+    }
+    first_record(line, State::StartRecord, row, field)?;
     Ok(true)
 }
 
@@ -89,14 +74,15 @@ fn read_end(
 ) -> Result<bool, AllocError>
     requires line { HasNoEnd line.old.items }
     requires part { HasNoEnd part.now }
-    ensures { IfOk result (λ found. (kept : List ℕ) × Kept line.old.items part.now kept
-        × Finds (if_any (unmarked is_first kept)) found (fields_of row.new)) }
+    ensures { IfOk result (λ found. (kept : List ℕ) × ((kept ≡ line.old.items ++ part.now)
+        ⊎ ((kept ≡ line.old.items) × (most_in_line + 3 < length line.old.items)))
+        × (map line_record (if_any (unmarked is_first kept)) ≡ (if found then fields_of row.new ∷ [] else []))) }
 {
     if line.is_empty() {
-        return read_any(part, is_first, row, field);
+        return read_line(part, is_first, row, field);
     }
     keep(line, part)?;
-    read_any(line.as_slice(), is_first, row, field)
+    read_line(line.as_slice(), is_first, row, field)
 }
 
 /// The index of the first byte that ends a line.
@@ -123,15 +109,15 @@ pub struct LineRecords<R: Drop> {
 }
 
 impl<R: Read + Drop> LineRecords<R> {
-    ghost use Rattle.std.specs.Prelude.{Some, None, if◌then◌else◌};
+    ghost use Rattle.std.specs.Prelude.{Some, None, IfSome};
     ghost use Rattle.std.specs.Io.KnownBytes.{IsAtEnd};
     ghost use Rattle.olr_input.specs.Blocks.{block_of, input_left};
     ghost use Rattle.olr_input.specs.LineRecords.{line_records, lines_left, Steps};
-    ghost use Rattle.olr_input.specs.Sessions.{BeginsWith, IsOfTaking};
+    ghost use Rattle.olr_input.specs.Sessions.{IsOfTaking};
 
     /// The records of an input.
     pub(crate) fn new(alloc: Global, input: R) -> Result<LineRecords<R>, AllocError>
-        ensures { IfOk result (λ s. BeginsWith line_records (lines_left R.remaining s) (R.remaining input)) }
+        ensures { IfOk result (λ s. IfSome (R.remaining input) (λ bytes. lines_left R.remaining s (line_records bytes))) }
     {
         Ok(LineRecords {
             source: Blocks::new(alloc, input)?,
@@ -148,7 +134,7 @@ impl<R: Read + Drop> LineRecords<R> {
         requires end { IsAtEnd (input_left R.remaining self.old.source) }
         ensures { IfOk result (λ found. Steps R.remaining self.old self.new (Some found) (fields_of row.new)) }
     {
-        let found = read_any(self.line.as_slice(), self.is_first, row, &mut self.field)?;
+        let found = read_line(self.line.as_slice(), self.is_first, row, &mut self.field)?;
         self.line.clear();
         self.is_first = false;
         Ok(found)

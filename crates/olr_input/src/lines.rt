@@ -1,7 +1,7 @@
 //! Lines in bytes.
 
-ghost use Rattle.std.specs.Prelude.{◌≡◌, ◌≤◌, ◌||◌, length, take, drop, true, false};
-ghost use Rattle.olr_input.specs.Lines.{has_line, has_quote, is_line_end, HasLinesUpTo};
+ghost use Rattle.std.specs.Prelude.{◌≡◌, ◌≤◌, length, drop, true, false};
+ghost use Rattle.olr_input.specs.Lines.{has_line, is_line_end, HasLinesUpTo};
 
 use memchr::{memchr, memchr2, memchr3, memrchr2};
 
@@ -30,40 +30,13 @@ pub(crate) fn ends_any(bytes: &[u8]) -> bool {
     memchr2(b'\n', b'\r', &bytes[empty_lines_length(bytes)..]).is_some()
 }
 
-/// Whether these bytes of a line have its end, and no quote before it.
-#[tactic(auto, using(crate::proofs::WholeLines::line_found, crate::proofs::WholeLines::no_line))]
-fn has_plain_end(line: &[u8]) -> bool
-    ensures { result ≡ has_line true line.now }
-{
-    match memchr3(b'\n', b'\r', b'"', line) {
-        Some(i) => line[i] != b'"',
-        None => false,
-    }
-}
-
-/// The bytes before the first quote.
-#[tactic(auto, using(crate::proofs::LineRecords::none_pass, crate::proofs::LineRecords::no_pass))]
-fn before_quote(bytes: &[u8]) -> &[u8]
-    ensures within { length result.now ≤ length bytes.now }
-    ensures front { result.now ≡ take (length result.now) bytes.now }
-    ensures none { has_quote result.now ≡ false }
-{
-    match memchr(b'"', bytes) {
-        Some(i) => &bytes[..i],
-        None => bytes,
-    }
-}
-
 /// The index of the last byte that ends a line before the first quote, or 0.
-#[tactic(auto, using(crate::proofs::WholeLines::none_up_to))]
+#[tactic(auto, using(crate::proofs::WholeLines::last_end))]
 pub(crate) fn last_plain_end(bytes: &[u8]) -> usize
     ensures { HasLinesUpTo result bytes.now }
 {
-    let front = before_quote(bytes);
-    match memrchr2(b'\n', b'\r', front) {
-        Some(i) => i,
-        None => 0,
-    }
+    let len = memchr(b'"', bytes).unwrap_or(bytes.len());
+    memrchr2(b'\n', b'\r', &bytes[..len]).unwrap_or(0)
 }
 
 /// Whether bytes from an index on begin with a line that ends and has no quote, after empty lines: csv reads a whole record
@@ -78,5 +51,9 @@ pub(crate) fn begins_with_line(bytes: &[u8], start: usize, last: usize) -> bool
     if begin < last {
         return true;
     }
-    has_plain_end(&bytes[begin..])
+    let line = &bytes[begin..];
+    match memchr3(b'\n', b'\r', b'"', line) {
+        Some(i) => line[i] != b'"',
+        None => false,
+    }
 }

@@ -4,9 +4,10 @@ ghost use Rattle.std.specs.Prelude.{◌≡◌, ◌++◌, ◌∷◌, [], true, fa
 ghost use Rattle.csv.specs.Machine.{step, ends_at_end};
 ghost use Rattle.csv.specs.Records.{fields_of, partial_of};
 ghost use Rattle.csv.specs.declared.parser.State.TheVariants as st;
-ghost use Rattle.csv.specs.Reading.{default_config, is_bom, strip_bom};
-ghost use Rattle.olr_input.specs.Machine.{csv_state, csv_step, is_quoted, state_after, IsFirst};
+ghost use Rattle.csv.specs.Reading.{default_config, strip_bom};
+ghost use Rattle.olr_input.specs.Machine.{csv_action, csv_state, is_quoted, state_after, IsFirst};
 
+use crate::lines::ends_line;
 use csv::ByteRecord;
 use memchr::memchr;
 use std::alloc::{AllocError, Global};
@@ -43,7 +44,7 @@ pub enum Action {
 
 /// The next state and the action of a byte in or after a field.
 fn in_field(byte: u8) -> (State, Action)
-    ensures { csv_step result ≡ step default_config (st.InField) byte }
+    ensures { (csv_state result.0, csv_action result.1) ≡ step default_config (st.InField) byte }
 {
     match byte {
         b',' => (State::StartField, Action::EndField),
@@ -53,38 +54,19 @@ fn in_field(byte: u8) -> (State, Action)
     }
 }
 
-/// The same, before a field.
-fn start_field(byte: u8) -> (State, Action)
-    ensures { csv_step result ≡ step default_config (st.StartField) byte }
-{
-    if byte == b'"' {
-        return (State::InQuoted, Action::Skip);
-    }
-    in_field(byte)
-}
-
-/// The same, before a record.
-fn start_record(byte: u8) -> (State, Action)
-    ensures { csv_step result ≡ step default_config (st.StartRecord) byte }
-{
-    if byte == b'\n' || byte == b'\r' {
-        return (State::StartRecord, Action::Skip);
-    }
-    start_field(byte)
-}
-
 /// The next state and the action of a byte.
 fn next(state: State, byte: u8) -> (State, Action)
-    ensures { csv_step result ≡ step default_config (csv_state state) byte }
+    ensures { (csv_state result.0, csv_action result.1) ≡ step default_config (csv_state state) byte }
 {
     match state {
-        State::StartRecord | State::AfterCr => start_record(byte),
-        State::StartField => start_field(byte),
-        State::InField => in_field(byte),
         State::InQuoted if byte == b'"' => (State::AfterQuote, Action::Skip),
         State::InQuoted => (State::InQuoted, Action::Copy),
         State::AfterQuote if byte == b'"' => (State::InQuoted, Action::Copy),
-        State::AfterQuote => in_field(byte),
+        State::AfterQuote | State::InField => in_field(byte),
+        _ if byte == b'"' => (State::InQuoted, Action::Skip),
+        State::StartField => in_field(byte),
+        _ if ends_line(byte) => (State::StartRecord, Action::Skip),
+        _ => in_field(byte),
     }
 }
 
@@ -157,8 +139,7 @@ fn state_after_line(line: &[u8]) -> State
 {
     let mut state = State::StartRecord;
     for i in 0..line.len() {
-        let (to, _) = next(state, line[i]);
-        state = to;
+        state = next(state, line[i]).0;
     }
     state
 }
@@ -174,23 +155,10 @@ pub(crate) fn ends_open(line: &[u8]) -> bool
     }
 }
 
-/// Whether three bytes are a byte order mark.
-fn is_mark(a: u8, b: u8, c: u8) -> bool
-    ensures { result ≡ is_bom a b c }
-{
-    a == 0xEF && b == 0xBB && c == 0xBF
-}
-
 /// The bytes of a text after its byte order mark, if it has one.
-#[tactic(auto, using(crate::proofs::CsvBytes::no_mark_in_few, crate::proofs::CsvBytes::mark_goes, crate::proofs::CsvBytes::no_mark))]
 pub(crate) fn without_mark(text: &[u8]) -> &[u8]
     ensures { result.now ≡ strip_bom text.now }
 {
-    if text.len() < 3 {
-        return text;
-    }
-    if is_mark(text[0], text[1], text[2]) {
-        return &text[3..];
-    }
-    text
+    text.strip_prefix(b"\xEF\xBB\xBF".as_slice())
+        .unwrap_or(text)
 }

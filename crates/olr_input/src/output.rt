@@ -1,8 +1,8 @@
 //! Writing all bytes.
 
 ghost use Rattle.std.specs.Io.{WritesAtMost};
-ghost use Rattle.std.specs.Io.KnownBytes.{WriteAppends};
-ghost use Rattle.olr_input.specs.Sessions.{WritesAll};
+ghost use Rattle.std.specs.Io.KnownBytes.{Appends, WriteAppends};
+ghost use Rattle.olr_input.specs.Sessions.{AllOrFront};
 
 use crate::ends::RunFault;
 use std::io;
@@ -25,17 +25,14 @@ fn write_some<W: Write>(output: &mut W, bytes: &[u8]) -> io::Result<usize>
 /// the writer fails, or takes nothing even then.
 #[tactic(auto, using(crate::proofs::Writing::written_more))]
 pub fn write_all<W: Write>(output: &mut W, bytes: &[u8]) -> Result<(), RunFault>
-    ensures { WritesAll (W.contents output.old) (W.contents output.new) bytes.now result }
+    ensures { AllOrFront (Appends (W.contents output.old) (W.contents output.new)) bytes.now result }
 {
     let mut written = 0;
     while written < bytes.len() {
-        let Ok(taken) = write_some(output, &bytes[written..]) else {
-            return Err(RunFault::Write);
-        };
-        if taken == 0 {
-            return Err(RunFault::Write);
+        match write_some(output, &bytes[written..]) {
+            Ok(taken) if taken > 0 => written += taken,
+            _ => return Err(RunFault::Write),
         }
-        written += taken;
     }
     Ok(())
 }

@@ -45,17 +45,6 @@ pub trait Session<W> {
         ensures unasked { asks self.old ≡ false → self.new ≡ self.old };
 }
 
-/// Flushes an output if the source may wait. `Write` is the fault if it fails.
-fn flush_before<W: Write>(waits: bool, output: &mut W) -> Result<(), RunFault>
-    ensures bytes { Keeps (W.contents output.old) (W.contents output.new) }
-    ensures fault { IfErr result (λ e. e ≡ RunFault.Write) }
-{
-    if !waits {
-        return Ok(());
-    }
-    output.flush().map_err(|_| RunFault::Write)
-}
-
 /// The records of a source, whose answers are written at once and stored nowhere.
 #[derive(Drop)]
 pub struct Plain<S: Drop> {
@@ -77,7 +66,9 @@ impl<S: Source + Drop, W: Write> Session<W> for Plain<S> {
     ghost asks = { λ _. false };
 
     fn take(&mut self, output: &mut W, fields: &mut ByteRecord) -> Result<bool, RunFault> {
-        flush_before(self.source.may_wait(), output)?;
+        if self.source.may_wait() && output.flush().is_err() {
+            return Err(RunFault::Write);
+        }
         self.source.next(fields)
     }
 

@@ -1,6 +1,6 @@
 //! Sources of records, and the records of an input as `csv` reads them.
 
-ghost use Rattle.std.specs.Prelude.{Bool, ℕ, List, IfOk};
+ghost use Rattle.std.specs.Prelude.{Bool, ℕ, List, IfOk, IfSome};
 ghost use Rattle.csv.specs.Reading.{has_failed};
 ghost use Rattle.csv.specs.Records.{fields_of};
 ghost use Rattle.olr_input.specs.Sessions.{StaysPlain, TakesLeft, csv_left};
@@ -38,11 +38,12 @@ pub struct Records<R: Drop> {
 
 impl<R: Read + Drop> Records<R> {
     ghost use Rattle.olr_input.specs.Blocks.{input_left};
-    ghost use Rattle.olr_input.specs.Sessions.{BeginsWith, csv_records};
+    ghost use Rattle.olr_input.specs.Sessions.{csv_records};
 
     /// The records of an input.
     pub fn new(alloc: Global, input: R) -> Result<Records<R>, AllocError>
-        ensures { IfOk result (λ s. BeginsWith csv_records (csv_left (input_left R.remaining) s.reader) (R.remaining input)) }
+        ensures { IfOk result (λ s. IfSome (R.remaining input)
+            (λ bytes. csv_left (input_left R.remaining) s.reader (csv_records bytes))) }
     {
         let blocks = Blocks::new(alloc, input)?;
         let reader = ReaderBuilder::new()

@@ -189,7 +189,7 @@ impl Unstored {
     ghost use Rattle.std.specs.Prelude.{not};
     ghost use Rattle.olr_input.specs.Journals.{IsFront, is_whole, is_empty};
     ghost use Rattle.olr_input.specs.StoredLines.{has_line, concluded};
-    ghost use Rattle.olr_input.specs.Unstored.{waiting, next_line, Opens, Closes};
+    ghost use Rattle.olr_input.specs.Unstored.{waiting, next_line};
 
     /// No lines. Takes no memory.
     pub fn new(alloc: Global) -> Unstored
@@ -203,13 +203,16 @@ impl Unstored {
         }
     }
 
-    /// Drops the line that was taken last.
-    fn cut(&mut self)
-        ensures waiting { waiting self.new ≡ waiting self.old }
+    /// So many bytes are ready to be stored from now on, and so many are those and the open batch's. The others are dropped.
+    fn keep(&mut self, ready: usize, held: usize)
+        requires { AreLines (take held self.old.lines.items) ready held Effect.Nothing }
+        ensures lines { self.new.lines.items ≡ take held self.old.lines.items }
+        ensures lengths { (self.new.ready ≡ ready) × (self.new.held ≡ held) }
         ensures effect { self.new.effect ≡ Effect.Nothing }
-        ensures line { next_line self.new ≡ [] }
     {
-        self.lines.truncate(self.held);
+        self.lines.truncate(held);
+        self.ready = ready;
+        self.held = held;
         self.effect = Effect::Nothing;
     }
 
@@ -220,7 +223,7 @@ impl Unstored {
         ensures effect { OnOk result (self.new.effect ≡ lines.effect_of (fields_of fields.now)) }
         ensures line { OnOk result (next_line self.new ≡ lines.stored_line (fields_of fields.now)) }
     {
-        self.cut();
+        self.keep(self.ready, self.held);
         let effect = word_effect(fields);
         if !has_line(effect) {
             self.effect = effect;
@@ -232,52 +235,6 @@ impl Unstored {
         Ok(())
     }
 
-    /// The line that was taken last waits in the open batch.
-    fn hold_all(&mut self)
-        requires { Opens self.old }
-        ensures waiting { waiting self.new ≡ concluded self.old.effect (next_line self.old) (waiting self.old) }
-    {
-        self.held = self.lines.len();
-        self.effect = Effect::Nothing;
-    }
-
-    /// All lines are ready.
-    fn ready_all(&mut self)
-        requires { Closes self.old }
-        ensures waiting { waiting self.new ≡ concluded self.old.effect (next_line self.old) (waiting self.old) }
-        ensures fronts { (front : List ℕ) → IsFront (waiting self.new).ready front
-            → IsFront (waiting self.old).ready front ⊎ (front ≡ (waiting self.new).ready) }
-    {
-        self.held = self.lines.len();
-        self.ready = self.held;
-        self.effect = Effect::Nothing;
-    }
-
-    /// Drops the lines of the open batch, and that which was taken last.
-    fn drop_batch(&mut self)
-        ensures waiting { waiting self.new ≡ record { ready = (waiting self.old).ready; batch = [] } }
-    {
-        self.lines.truncate(self.ready);
-        self.held = self.ready;
-        self.effect = Effect::Nothing;
-    }
-
-    /// The record whose line was taken last is accepted.
-    fn accept(&mut self)
-        ensures waiting { waiting self.new ≡ concluded self.old.effect (next_line self.old) (waiting self.old) }
-        ensures fronts { (front : List ℕ) → IsFront (waiting self.new).ready front
-            → IsFront (waiting self.old).ready front ⊎ (front ≡ (waiting self.new).ready) }
-    {
-        match self.effect {
-            Effect::Nothing | Effect::Compact => self.cut(),
-            Effect::Begin => self.hold_all(),
-            Effect::Change if self.ready < self.held => self.hold_all(),
-            Effect::Change => self.ready_all(),
-            Effect::Commit => self.ready_all(),
-            Effect::Abort => self.drop_batch(),
-        }
-    }
-
     /// The record whose line was taken last is accepted or rejected.
     pub fn conclude(&mut self, accepted: bool)
         ensures waiting { waiting self.new ≡ (if accepted then concluded self.old.effect (next_line self.old) (waiting self.old)
@@ -285,10 +242,15 @@ impl Unstored {
         ensures fronts { (front : List ℕ) → IsFront (waiting self.new).ready front
             → IsFront (waiting self.old).ready front ⊎ (front ≡ (waiting self.new).ready) }
     {
-        if accepted {
-            self.accept();
-        } else {
-            self.cut();
+        let len = self.lines.len();
+        match self.effect {
+            _ if !accepted => self.keep(self.ready, self.held),
+            Effect::Nothing | Effect::Compact => self.keep(self.ready, self.held),
+            Effect::Begin => self.keep(self.ready, len),
+            Effect::Change if self.ready < self.held => self.keep(self.ready, len),
+            Effect::Change => self.keep(len, len),
+            Effect::Commit => self.keep(len, len),
+            Effect::Abort => self.keep(self.ready, self.ready),
         }
     }
 

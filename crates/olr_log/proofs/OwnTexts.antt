@@ -8,7 +8,7 @@ use Rattle.olr_log.proofs.Common.{IsFound, IsPadded, IsPaddedText, KeepsFirst, I
 use Rattle.olr_log.specs.Texts.{recovered, text_of}
 use Rattle.olr_log.proofs.Fronts.{counts_append, recovered_append, recovered_counts, recovered_stop, recovered_same, recovered_spotted, short_none, spotted_from}
 use Rattle.olr_log.proofs.Behind.{returns_from}
-use Rattle.olr_log.proofs.Padding.{first_bytes, torn_keeps, keeps_take, written_front, written_reach, text_from, blank_more}
+use Rattle.olr_log.proofs.Padding.{carriage_returns, first_bytes, torn_keeps, keeps_take, written_front, written_reach, text_from, blank_more}
 
 own_head : (file : List ℕ) → is_own file ≡ true → file ≡ 10 ∷ drop 1 file
 own_head [] own = absurd (cc own)
@@ -249,17 +249,18 @@ padded_text n file is =
     (k, omega (arith, is.some), sym (take-append-drop (n + 1) file) ∙ ap (λ (x : List ℕ). x ++ drop (n + 1) file) (text_front n file is.text) ∙ ap (λ (x : List ℕ). 10 ∷ (text_in n file ++ x)) rest)
 
 -- a file that is written anew: its first line, its text and carriage returns
-pub filled : (text returns none first second third : List ℕ) (end : ℕ) → end ≡ length text + 1 → length none ≡ 0 → (0 < 1 → Holds first 0 (10 ∷ [])) → Torn 0 1 none first
-    → (0 < length text → Holds second 1 text) → Torn 1 (length text) first second → (0 < length returns → Holds third end returns) → Torn end (length returns) second third
-    → returns ≡ replicate (length returns) 13 → 0 < length returns → counts text ≡ true → IsPadded (length text) third × (text_in (length text) third ≡ text) × (length third ≡ end + length returns)
-filled text returns none first second third end ends empty holds_1 torn_1 holds_2 torn_2 holds_3 torn_3 all some whole =
+pub filled : (text none first second third : List ℕ) (end m : ℕ) → end ≡ length text + 1 → length none ≡ 0 → (0 < 1 → Holds first 0 (10 ∷ [])) → Torn 0 1 none first
+    → (0 < length text → Holds second 1 text) → Torn 1 (length text) first second → (0 < length (carriage_returns m) → Holds third end (carriage_returns m))
+    → Torn end (length (carriage_returns m)) second third → 0 < m → counts text ≡ true → IsPadded (length text) third × (text_in (length text) third ≡ text) × (length third ≡ end + m)
+filled text none first second third end m ends empty holds_1 torn_1 holds_2 torn_2 holds_3 torn_3 some whole =
+    let long_m = length-replicate {A = ℕ} m 13 in
     let size_1 : length first ≡ 1 = omega (arith, written_reach 0 (10 ∷ []) none first (omega arith) holds_1 torn_1, torn_1.no_longer, empty) in
     let size_2 : length second ≡ end = omega (arith, written_reach 1 text first second (omega (arith, size_1)) holds_2 torn_2, torn_2.no_longer, size_1, ends) in
-    let blank = blank_more end end returns second third (omega arith) (λ never. absurd (omega (arith, never))) (λ i low. ap (λ (x : List ℕ). get_or x i 0) all ∙ get_or-replicate (length returns) i 13 0 low) (holds_3 some) torn_3 in
-    let size_3 : length third ≡ end + length returns = omega (arith, blank.reach, torn_3.no_longer, size_2) in
+    let blank = blank_more end end (carriage_returns m) second third (omega arith) (λ never. absurd (omega (arith, never))) (λ i low. get_or-replicate m i 13 0 (omega (arith, low, long_m))) (holds_3 (omega (arith, long_m, some))) torn_3 in
+    let size_3 : length third ≡ end + m = omega (arith, blank.reach, torn_3.no_longer, size_2, long_m) in
     let place : end ≡ 1 + length text = omega (arith, ends) in
     let front : take (length text + 1) third ≡ 10 ∷ text =
-    ap (λ (j : ℕ). take j third) (sym ends) ∙ keeps_take end end second third (torn_keeps end end (length returns) second third (omega arith) torn_3) (omega arith) (omega (arith, size_2))
+    ap (λ (j : ℕ). take j third) (sym ends) ∙ keeps_take end end second third (torn_keeps end end (length (carriage_returns m)) second third (omega arith) torn_3) (omega arith) (omega (arith, size_2))
     ∙ ap (λ (j : ℕ). take j second) place ∙ written_front 1 text first second (omega (arith, size_1)) holds_2 torn_2
     ∙ ap (λ (x : List ℕ). x ++ text) (written_front 0 (10 ∷ []) none first (omega arith) holds_1 torn_1) in
     let long : length text + 1 < length third = omega (arith, size_3, ends) in

@@ -1,7 +1,7 @@
 -- The bytes of a file after writes.
 use Rattle.olr_log.proofs.Common.{◌≡◌, inl, inr, ℕ, ◌+◌, ◌-◌, ◌≤◌, ◌<◌, List, [], ◌∷◌, ◌++◌, length, take, drop, get_or}
 use Rattle.olr_log.proofs.Common.{replicate, refl, sym, ◌∙◌, ap, subst, arith, length-drop, take-add, cases_lt, get_or-take}
-use Rattle.olr_log.proofs.Common.{get_or-drop, get_or-replicate, length-take-le, drop-append-le, drop-take, same_number_lists}
+use Rattle.olr_log.proofs.Common.{get_or-drop, get_or-replicate, length-replicate, length-take-le, drop-append-le, drop-take, same_number_lists}
 use Rattle.olr_log.proofs.Common.{Holds, Torn, text_in, KeepsFirst, IsBlank}
 
 pub first_bytes : (n : ℕ) (a b : List ℕ) → n ≤ length a → n ≤ length b → ((i : ℕ) → i < n → get_or a i 0 ≡ get_or b i 0) → take n a ≡ take n b
@@ -96,7 +96,13 @@ blank_more from at bytes old new low so_far all holds torn = record {
   ];
 }
 
-pub returns_at : (n : ℕ) (returns : List ℕ) → returns ≡ replicate (length returns) 13 → n ≤ length returns → (i : ℕ) → i < length (take n returns) → get_or (take n returns) i 0 ≡ 13
-returns_at n returns all within i low =
-    let size = length-take-le n returns within in
-    get_or-take n returns i 0 (omega (arith, low, size)) ∙ ap (λ (x : List ℕ). get_or x i 0) all ∙ get_or-replicate (length returns) i 13 0 (omega (arith, low, size))
+abbrev pub carriage_returns : ℕ → List ℕ
+carriage_returns m = replicate m 13
+
+pub returns_taken : (n m : ℕ) → n ≤ m → length (take n (carriage_returns m)) ≡ n
+returns_taken n m within = length-take-le n (carriage_returns m) (omega (arith, length-replicate {A = ℕ} m 13))
+
+pub returns_at : (n m : ℕ) → n ≤ m → (i : ℕ) → i < length (take n (carriage_returns m)) → get_or (take n (carriage_returns m)) i 0 ≡ 13
+returns_at n m within i low =
+    let size = returns_taken n m within in
+    get_or-take n (carriage_returns m) i 0 (omega (arith, low, size)) ∙ get_or-replicate m i 13 0 (omega (arith, low, size))

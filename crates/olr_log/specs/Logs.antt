@@ -1,12 +1,11 @@
 -- What a log stores, and the texts with which the next run may begin.
-use Rattle.std.specs.Prelude.{ℕ, ◌+◌, ◌-◌, Bool, Option, List, [], take, drop}
-use Rattle.std.specs.declared.io.Error.{Error}
+use Rattle.std.specs.Prelude.{ℕ, ◌+◌, ◌-◌, Bool, List, [], take, drop}
 use Rattle.sqlite_disk.specs.declared.Disk as disk
 use Rattle.olr_log.specs.declared.folder.Folder as folder
 use Rattle.olr_log.specs.declared.log_file.LogFile.{LogFile}
 use Rattle.olr_log.specs.declared.state.State.{State}
 use Rattle.olr_log.specs.declared.state.State.TheVariants.{Opened}
-use Rattle.olr_log.specs.States.{stored_in, size_in, is_own_in, is_ready_in, is_broken_in}
+use Rattle.olr_log.specs.States.{stored_in, is_own_in, is_ready_in}
 use Rattle.olr_log.specs.Outcomes.{MayLeave}
 
 -- what stands behind the text of an opened log, up to the last byte that isn't a carriage return
@@ -18,22 +17,8 @@ module _ {D F : Type 0} {d : disk.Ghosts D} {f : folder.Ghosts F D} where
   abbrev pub stored_of : LogFile D F d f → List ℕ
   stored_of log = stored_in log.state (d.seen log.disk)
 
-  -- how many bytes the log counts in its text
-  abbrev pub size_of : LogFile D F d f → ℕ
-  size_of log = size_in log.state
-
   abbrev pub left_of : LogFile D F d f → List ℕ → Type 0
   left_of log = MayLeave d.is_clean d.may_leave (f.may_lead log.folder) log.number log.disk log.rival
-
-  abbrev pub file_of : LogFile D F d f → List ℕ
-  file_of log = d.seen log.disk
-
-  abbrev pub folder_of : LogFile D F d f → F
-  folder_of log = log.folder
-
-  -- why the text was not replaced, the last time
-  abbrev pub refusal_of : LogFile D F d f → Option Error
-  refusal_of log = log.refusal
 
   -- the file begins with an empty line, unless a call failed
   abbrev pub is_own_of : LogFile D F d f → Bool
@@ -42,10 +27,6 @@ module _ {D F : Type 0} {d : disk.Ghosts D} {f : folder.Ghosts F D} where
   -- records can be written behind the text
   abbrev pub is_ready : LogFile D F d f → Bool
   is_ready log = is_ready_in log.state
-
-  -- a call failed, and nothing more can be stored
-  abbrev pub is_broken_of : LogFile D F d f → Bool
-  is_broken_of log = is_broken_in log.state
 
   -- the disk has done what it reported
   abbrev pub is_clean : LogFile D F d f → Bool

@@ -1,6 +1,6 @@
 //! How the file of a log is changed.
 
-ghost use Rattle.std.specs.Prelude.{◌≡◌, ◌+◌, ◌<◌, ℕ, List, ◌∷◌, ◌++◌, length, replicate, true, IsTrue, IfOk, OnOk};
+ghost use Rattle.std.specs.Prelude.{◌≡◌, ◌+◌, ℕ, List, ◌∷◌, ◌++◌, length, true, IsTrue, IfOk, OnOk};
 ghost use Rattle.sqlite_disk.specs.Disk.{Only};
 ghost use Rattle.olr_input.specs.Journals.{IsFront, is_whole};
 ghost use Rattle.olr_log.specs.Files.{text_in};
@@ -19,12 +19,9 @@ pub fn append<D: Disk>(
     text_len: usize,
     len: usize,
     records: &[u8],
-    returns: &[u8],
 ) -> io::Result<usize>
     requires stands { Stands D.Disk disk.old (State.Ready text_len len) }
     requires whole { IsTrue (is_whole records.now) }
-    requires some { 0 < length returns.now }
-    requires returns { returns.now ≡ replicate (length returns.now) 13 }
     ensures stands { IfOk result (λ n. Stands D.Disk disk.new (State.Ready (text_len + length records.now) n)) }
     ensures stored { OnOk result (text_in (text_len + length records.now) (D.Disk.seen disk.new) ≡ text_in text_len (D.Disk.seen disk.old) ++ records.now) }
     ensures cut { (c : List ℕ) → LeavesText D.Disk.is_clean D.Disk.may_leave disk.new c
@@ -32,23 +29,15 @@ pub fn append<D: Disk>(
 {
     let at = text_len + 1;
     let more = length_for(len, at, records)?;
-    blank(disk, len, more, returns)?;
+    blank(disk, len, more)?;
     put(disk, at, records)?;
     Ok(more)
 }
 
 /// Overwrites what stands behind the text of a file of `len` bytes, up to the last byte that isn't a carriage return, and syncs:
 /// first its first byte, behind which nothing counts then. Returns the length of the file.
-pub fn wipe<D: Disk>(
-    disk: &mut D,
-    text_len: usize,
-    last: usize,
-    len: usize,
-    returns: &[u8],
-) -> io::Result<usize>
+pub fn wipe<D: Disk>(disk: &mut D, text_len: usize, last: usize, len: usize) -> io::Result<usize>
     requires stands { Stands D.Disk disk.old (State.Opened text_len last len) }
-    requires some { 0 < length returns.now }
-    requires returns { returns.now ≡ replicate (length returns.now) 13 }
     ensures stands { IfOk result (λ n. Stands D.Disk disk.new (State.Ready text_len n)) }
     ensures stored { OnOk result (D.Disk.is_clean disk.new ≡ true → text_in text_len (D.Disk.seen disk.new) ≡ text_in text_len (D.Disk.seen disk.old)) }
     ensures cut { Only (text_in text_len (D.Disk.seen disk.old)) (LeavesText D.Disk.is_clean D.Disk.may_leave disk.new) }
@@ -57,7 +46,7 @@ pub fn wipe<D: Disk>(
     let rest = from.checked_add(1).ok_or(io::ErrorKind::FileTooLarge)?;
     let to = rest.max(last + 1);
     put(disk, from, b"\r")?;
-    blank(disk, rest, to, returns)?;
+    blank(disk, rest, to)?;
     Ok(len.max(to))
 }
 

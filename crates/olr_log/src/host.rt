@@ -46,10 +46,6 @@ fn write_back(file: &fs::File) -> io::Result<()> {
     Ok(())
 }
 
-fn size(file: &fs::File) -> io::Result<usize> {
-    Ok(file.metadata()?.len() as usize)
-}
-
 /// This number of bytes, or the error if it is 0.
 fn some(count: usize, none: io::ErrorKind) -> io::Result<usize>
     ensures { IfOk result (λ n. (n ≡ count) × (0 < n)) }
@@ -82,7 +78,7 @@ impl Calls for HostFile {
     ghost history = { λ host. host.calls.events };
 
     fn len(&mut self) -> io::Result<usize> {
-        let answer = size(&self.file);
+        let answer = self.file.metadata().map(|found| found.len() as usize);
         self.calls.add(&Call::Measured(&answer));
         answer
     }

@@ -1,6 +1,6 @@
 //! A log in a file: text, and carriage returns behind it.
 
-ghost use Rattle.std.specs.Prelude.{◌≡◌, ◌⊎◌, ◌+◌, ◌<◌, ℕ, List, ◌++◌, length, replicate, true, false, if◌then◌else◌, IsTrue, IfOk, OnOk, OnErr, IsErr, IsNone, IsSome, Option};
+ghost use Rattle.std.specs.Prelude.{◌≡◌, ◌⊎◌, ◌+◌, ℕ, List, ◌++◌, length, true, false, if◌then◌else◌, IsTrue, IfOk, OnOk, OnErr, IsErr, IsNone, IsSome, Option};
 ghost use Rattle.sqlite_disk.specs.Disk.{Only};
 ghost use Rattle.olr_input.specs.Journals.{MayHaveStored, is_whole};
 ghost use Rattle.olr_log.specs.Files.{text_in};
@@ -28,10 +28,6 @@ pub struct LogFile<D: Disk, F: Folder<D>> {
     pub(crate) state: State,
     /// Why it was not replaced, the last time.
     pub(crate) refusal: Option<io::Error>,
-    /// Carriage returns.
-    pub(crate) returns: Vec<u8>,
-    ghost any_returns: { 0 < length returns.items },
-    ghost all_returns: { returns.items ≡ replicate (length returns.items) 13 },
     ghost stands: { Stands D.Disk disk state } by { Stands-prop D.Disk disk state },
     ghost led: { is_broken_in state ≡ false → (n : ℕ) → F.Folder.may_lead folder n → n ≡ number },
 }
@@ -51,11 +47,8 @@ fn write_in_place<D: Disk + Drop, F: Folder<D>>(
     folder: &mut F,
     old: u64,
     records: &[u8],
-    returns: &[u8],
 ) -> io::Result<Made<D>>
     requires whole { IsTrue (is_whole records.now) }
-    requires some { 0 < length returns.now }
-    requires returns { returns.now ≡ replicate (length returns.now) 13 }
     ensures stands { IfOk result (λ made. Stands D.Disk made.disk (State.Ready (length records.now) made.len)) }
     ensures stored { IfOk result (λ made. text_in (length records.now) (D.Disk.seen made.disk) ≡ records.now) }
     ensures number { IfOk result (λ made. made.number ≡ old + 1) }
@@ -68,7 +61,7 @@ fn write_in_place<D: Disk + Drop, F: Folder<D>>(
     }
     let number = old + 1;
     let mut disk = folder.create_beside()?;
-    let len = match fill(&mut disk, records, returns) {
+    let len = match fill(&mut disk, records) {
         Ok(len) => len,
         Err(error) => {
             folder.remove_beside();
@@ -92,24 +85,24 @@ fn write_in_place<D: Disk + Drop, F: Folder<D>>(
 }
 
 impl<D: Disk + Drop, F: Folder<D>> Journal for LogFile<D, F> {
-    ghost use Rattle.olr_log.specs.Logs.{stored_of, size_of, left_of, refusal_of, is_own_of, is_ready, is_broken_of, is_clean};
+    ghost use Rattle.olr_log.specs.Logs.{stored_of, left_of, is_own_of, is_ready, is_clean};
 
     ghost stored = { λ j. stored_in j.state (D.Disk.seen j.disk) };
 
     ghost size = { λ j. size_in j.state };
 
-    ghost refuses = { λ _ _ j. IsSome (refusal_of j) };
+    ghost refuses = { λ _ _ j. IsSome j.refusal };
 
     ghost may_leave = { λ j. MayLeave D.Disk.is_clean D.Disk.may_leave (F.Folder.may_lead j.folder) j.number j.disk j.rival };
 
     fn store(&mut self, records: &[u8]) -> io::Result<()>
         requires { IsTrue (is_whole records.now) }
         ensures stored { OnOk result (stored_of self.new ≡ stored_of self.old ++ records.now) }
-        ensures counted { OnOk result (size_of self.new ≡ length (stored_of self.new)) }
+        ensures counted { OnOk result (size_in self.new.state ≡ length (stored_of self.new)) }
         ensures durable { OnOk result (Only (stored_of self.new) (left_of self.new)) }
         ensures cut { MayHaveStored stored_of left_of self.old records.now self.new }
         ensures ready { OnOk result (is_ready self.new ≡ true) }
-        ensures broken { OnErr result (is_broken_of self.new ≡ true) }
+        ensures broken { OnErr result (is_broken_in self.new.state ≡ true) }
         ensures unready { is_ready self.old ≡ false → IsErr result }
     {
         let state = self.state;
@@ -117,7 +110,7 @@ impl<D: Disk + Drop, F: Folder<D>> Journal for LogFile<D, F> {
         let State::Ready { text_len, len } = state else {
             return Err(io::ErrorKind::InvalidInput.into());
         };
-        let len = append(&mut self.disk, text_len, len, records, &self.returns)?;
+        let len = append(&mut self.disk, text_len, len, records)?;
         self.folder.note_written();
         self.state = State::Ready {
             text_len: text_len + records.len(),
@@ -129,20 +122,21 @@ impl<D: Disk + Drop, F: Folder<D>> Journal for LogFile<D, F> {
     fn replace(&mut self, records: &[u8]) -> io::Result<bool>
         requires { IsTrue (is_whole records.now) }
         ensures stored { IfOk result (λ done. stored_of self.new ≡ if done then records.now else stored_of self.old) }
-        ensures counted { IfOk result (λ done. size_of self.new ≡ if done then length records.now else size_of self.old) }
+        ensures counted { IfOk result (λ done. size_in self.new.state
+            ≡ if done then length records.now else size_in self.old.state) }
         ensures durable { Only (stored_of self.old) (left_of self.old) → OnOk result (Only (stored_of self.new) (left_of self.new)) }
         ensures cut { (c : List ℕ) → left_of self.new c → left_of self.old c ⊎ (c ≡ records.now) }
         ensures ready { IfOk result (λ done. done ≡ true → is_ready self.new ≡ true) }
         ensures own { IfOk result (λ done. is_own_of self.new ≡ if done then true else is_own_of self.old) }
         ensures unready { IfOk result (λ done. done ≡ false → is_ready self.new ≡ is_ready self.old) }
-        ensures refused { IfOk result (λ done. done ≡ false → IsSome (refusal_of self.new)) }
-        ensures broken { OnErr result (is_broken_of self.new ≡ true) }
-        ensures again { is_broken_of self.old ≡ true → IsErr result }
+        ensures refused { IfOk result (λ done. done ≡ false → IsSome self.new.refusal) }
+        ensures broken { OnErr result (is_broken_in self.new.state ≡ true) }
+        ensures again { is_broken_in self.old.state ≡ true → IsErr result }
     {
         if self.state.is_broken() {
             return Err(io::ErrorKind::InvalidInput.into());
         }
-        let made = match write_in_place(&mut self.folder, self.number, records, &self.returns) {
+        let made = match write_in_place(&mut self.folder, self.number, records) {
             Ok(made) => made,
             Err(error) => {
                 self.refusal = Some(error);
@@ -171,9 +165,9 @@ impl<D: Disk + Drop, F: Folder<D>> Journal for LogFile<D, F> {
     }
 
     fn len(&self) -> usize
-        ensures counted { result ≡ size_of self.now }
+        ensures counted { result ≡ size_in self.now.state }
         ensures ready { is_ready self.now ≡ true → result ≡ length (stored_of self.now) }
-        ensures opened { is_broken_of self.now ≡ false → is_clean self.now ≡ true → result ≡ length (stored_of self.now) }
+        ensures opened { is_broken_in self.now.state ≡ false → is_clean self.now ≡ true → result ≡ length (stored_of self.now) }
     {
         self.state.text_len()
     }

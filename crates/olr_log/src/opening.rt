@@ -5,20 +5,20 @@ ghost use Rattle.std.specs.Io.KnownBytes.{Appends};
 ghost use Rattle.olr_input.specs.Journals.{Only};
 ghost use Rattle.olr_log.specs.Texts.{text_of, is_own, left_behind};
 ghost use Rattle.olr_log.specs.Files.{IsPaddedText};
+ghost use Rattle.olr_log.specs.States.{is_broken_in};
 
 use crate::changes::{cut_off, wipe};
 use crate::folder::Folder;
 use crate::log_file::LogFile;
 use crate::reads::{examine, read_exact};
 use crate::state::State;
-use crate::writes::{BLOCK, carriage_returns};
 use sqlite_disk::Disk;
 use std::alloc::Global;
 use std::io;
 use std::io::Write;
 
 impl<D: Disk + Drop, F: Folder<D>> LogFile<D, F> {
-    ghost use Rattle.olr_log.specs.Logs.{stored_of, file_of, folder_of, refusal_of, is_own_of, is_ready, is_broken_of};
+    ghost use Rattle.olr_log.specs.Logs.{stored_of, is_own_of, is_ready};
     ghost use Rattle.olr_log.specs.Logs.{left_over_of, left_of, is_clean};
 
     /// Syncs the file and finds the end of its text. It changes nothing.
@@ -28,15 +28,14 @@ impl<D: Disk + Drop, F: Folder<D>> LogFile<D, F> {
         ensures text { IfOk result (λ log. is_clean log ≡ true → stored_of log ≡ text_of (D.Disk.seen disk)) }
         ensures own { IfOk result (λ log. is_clean log ≡ true → is_own_of log ≡ is_own (D.Disk.seen disk)) }
         ensures rest { IfOk result (λ log. is_clean log ≡ true → left_over_of log ≡ left_behind (D.Disk.seen disk)) }
-        ensures same { IfOk result (λ log. file_of log ≡ D.Disk.seen disk) }
+        ensures same { IfOk result (λ log. D.Disk.seen log.disk ≡ D.Disk.seen disk) }
         ensures unready { IfOk result (λ log. is_ready log ≡ false) }
-        ensures unbroken { IfOk result (λ log. is_broken_of log ≡ false) }
-        ensures folder { IfOk result (λ log. folder_of log ≡ folder) }
+        ensures unbroken { IfOk result (λ log. is_broken_in log.state ≡ false) }
+        ensures folder { IfOk result (λ log. log.folder ≡ folder) }
         ensures durable { IfOk result (λ log. Only (stored_of log) (left_of log)) }
     {
         let mut disk = disk;
         let state = examine(alloc, &mut disk)?;
-        let returns = carriage_returns(alloc, BLOCK)?;
         Ok(LogFile {
             disk,
             folder,
@@ -44,13 +43,12 @@ impl<D: Disk + Drop, F: Folder<D>> LogFile<D, F> {
             rival: None,
             state,
             refusal: None,
-            returns,
         })
     }
 
     /// The folder of the log.
     pub fn folder(&self) -> &F
-        ensures { result.now ≡ folder_of self.now }
+        ensures { result.now ≡ self.now.folder }
     {
         &self.folder
     }
@@ -106,7 +104,7 @@ impl<D: Disk + Drop, F: Folder<D>> LogFile<D, F> {
 
     /// Why the text was not replaced, the last time.
     pub fn refusal(&self) -> Option<io::Error>
-        ensures { result ≡ refusal_of self.now }
+        ensures { result ≡ self.now.refusal }
     {
         self.refusal
     }
@@ -117,8 +115,9 @@ impl<D: Disk + Drop, F: Folder<D>> LogFile<D, F> {
         ensures ready { OnOk result (is_ready self.new ≡ true) }
         ensures again { is_ready self.old ≡ true → IsOk result }
         ensures foreign { is_own_of self.old ≡ false → IsErr result }
-        ensures broken { is_broken_of self.old ≡ true → IsErr result }
-        ensures padded { OnOk result (is_clean self.new ≡ true → IsPaddedText (stored_of self.old) (file_of self.new)) }
+        ensures broken { is_broken_in self.old.state ≡ true → IsErr result }
+        ensures padded { OnOk result (is_clean self.new ≡ true
+            → IsPaddedText (stored_of self.old) (D.Disk.seen self.new.disk)) }
         ensures durable { OnOk result (Only (stored_of self.new) (left_of self.new)) }
         ensures cut { (c : List ℕ) → left_of self.new c → left_of self.old c ⊎ (c ≡ stored_of self.old) }
     {
@@ -134,7 +133,7 @@ impl<D: Disk + Drop, F: Folder<D>> LogFile<D, F> {
             return Err(io::ErrorKind::InvalidInput.into());
         };
         self.state = State::Broken;
-        let len = wipe(&mut self.disk, text_len, last, len, &self.returns)?;
+        let len = wipe(&mut self.disk, text_len, last, len)?;
         self.folder.note_written();
         self.state = State::Ready { text_len, len };
         Ok(())
@@ -142,7 +141,7 @@ impl<D: Disk + Drop, F: Folder<D>> LogFile<D, F> {
 
     /// The text.
     pub fn text(&mut self, alloc: Global) -> io::Result<Vec<u8>>
-        ensures broken { is_broken_of self.old ≡ true → IsErr result }
+        ensures broken { is_broken_in self.old.state ≡ true → IsErr result }
         ensures text { IfOk result (λ text. is_clean self.new ≡ true → text.items ≡ stored_of self.old) }
         ensures stored { stored_of self.new ≡ stored_of self.old }
         ensures own { is_own_of self.new ≡ is_own_of self.old }
@@ -160,12 +159,13 @@ impl<D: Disk + Drop, F: Folder<D>> LogFile<D, F> {
 
     /// Cuts the padding off. Nothing more can be stored. A log of which this wasn't done stays as it is.
     pub fn close(&mut self) -> io::Result<()>
-        ensures closed { OnOk result (is_ready self.old ≡ true → is_clean self.new ≡ true → file_of self.new ≡ 10 ∷ stored_of self.old) }
+        ensures closed { OnOk result (is_ready self.old ≡ true → is_clean self.new ≡ true
+            → D.Disk.seen self.new.disk ≡ 10 ∷ stored_of self.old) }
         ensures durable { OnOk result (is_ready self.old ≡ true → Only (stored_of self.old) (left_of self.new)) }
-        ensures same { is_ready self.old ≡ false → file_of self.new ≡ file_of self.old }
+        ensures same { is_ready self.old ≡ false → D.Disk.seen self.new.disk ≡ D.Disk.seen self.old.disk }
         ensures unready { is_ready self.new ≡ false }
         ensures again { is_ready self.old ≡ false → IsOk result }
-        ensures broken { OnErr result (is_broken_of self.new ≡ true) }
+        ensures broken { OnErr result (is_broken_in self.new.state ≡ true) }
         ensures cut { (c : List ℕ) → left_of self.new c → left_of self.old c ⊎ (c ≡ stored_of self.old) }
     {
         let State::Ready { text_len, len } = self.state else {

@@ -43,6 +43,16 @@ impl From<io::Error> for OpenError {
     }
 }
 
+/// Of a lock that another process holds, whose id isn't known.
+impl From<fs::TryLockError> for OpenError {
+    fn from(error: fs::TryLockError) -> OpenError {
+        match error {
+            fs::TryLockError::WouldBlock => OpenError::InUse(None),
+            fs::TryLockError::Error(error) => OpenError::Io(error),
+        }
+    }
+}
+
 impl From<AllocError> for OpenError {
     fn from(_error: AllocError) -> OpenError {
         OpenError::Io(io::ErrorKind::OutOfMemory.into())
@@ -78,15 +88,6 @@ fn time_of(found: &fs::Metadata) -> (i64, i64) {
     (found.mtime(), found.mtime_nsec())
 }
 
-/// Locks a file. Returns whether no other process has locked it.
-fn takes_lock(file: &fs::File) -> io::Result<bool> {
-    match file.try_lock() {
-        Ok(()) => Ok(true),
-        Err(fs::TryLockError::WouldBlock) => Ok(false),
-        Err(fs::TryLockError::Error(error)) => Err(error),
-    }
-}
-
 /// Opens a file, or makes it with this mode. Where a descriptor of a standard stream is free, the file gets another one, so that no
 /// answer lands in it.
 fn open_file(rt: &HostRuntime, name: &str, is_new: bool, mode: u32) -> io::Result<fs::File> {
@@ -119,17 +120,10 @@ impl LogFolder<'_> {
         )?;
         let old = fs::metadata(self.rt, self.log.as_str())?;
         let file = open_file(self.rt, self.beside.as_str(), true, 0o600)?;
-        if !takes_lock(&file)? {
-            return Err(io::ErrorKind::WouldBlock.into());
+        file.try_lock()?;
+        for (user, group) in [(None, Some(old.gid())), (Some(old.uid()), None)] {
+            unless(io::ErrorKind::PermissionDenied, fchown(&file, user, group))?;
         }
-        unless(
-            io::ErrorKind::PermissionDenied,
-            fchown(&file, None, Some(old.gid())),
-        )?;
-        unless(
-            io::ErrorKind::PermissionDenied,
-            fchown(&file, Some(old.uid()), None),
-        )?;
         file.set_permissions(fs::Permissions::from_mode(old.mode() & 0o7777))?;
         Ok(file)
     }
@@ -167,17 +161,14 @@ impl<S: Start> Folder<HostDisk<S>> for LogFolder<'_> {
     }
 
     fn put_in_place(&mut self, number: u64) -> io::Result<Option<io::Error>> {
-        if let Err(error) = fs::rename(self.rt, self.beside.as_str(), self.log.as_str()) {
-            if error.raw_os_error() == Some(IO_ERROR) {
+        match fs::rename(self.rt, self.beside.as_str(), self.log.as_str()) {
+            Err(error) if error.raw_os_error() != Some(IO_ERROR) => return Ok(Some(error)),
+            renamed => {
                 self.next = Some(number);
-                return Err(error);
+                renamed?;
             }
-            return Ok(Some(error));
         }
-        if let Err(error) = self.folder.sync_all() {
-            self.next = Some(number);
-            return Err(error);
-        }
+        self.folder.sync_all()?;
         self.number = number;
         self.next = None;
         self.node = self.next_node;
@@ -186,14 +177,11 @@ impl<S: Start> Folder<HostDisk<S>> for LogFolder<'_> {
 
     fn report_unreplaced(&self, error: Option<io::Error>) {
         let log = self.log.as_str();
-        let _ = match error {
-            Some(error) => eprintln!(self.rt;
-                "olr-keep: {log} is not compacted, and is used as it is: {error}"
-            ),
-            None => eprintln!(self.rt;
-                "olr-keep: {log} is not compacted, and is used as it is: no memory"
-            ),
-        };
+        let no_memory = io::Error::new(io::ErrorKind::OutOfMemory, "no memory");
+        let error = error.unwrap_or(no_memory);
+        let _ = eprintln!(self.rt;
+            "olr-keep: {log} is not compacted, and is used as it is: {error}"
+        );
     }
 
     fn is_in_place(&self, len: usize) -> bool {
@@ -261,8 +249,9 @@ fn open_lock(rt: &HostRuntime, name: &str) -> io::Result<fs::File> {
 fn lock(rt: &HostRuntime, log: &str) -> Result<fs::File, OpenError> {
     let name = format!(in rt.alloc(); "{log}.lock")?;
     let mut lock = open_lock(rt, name.as_str()).map_err(OpenError::Lock)?;
-    if !takes_lock(&lock)? {
-        return Err(OpenError::InUse(holder(&mut lock)));
+    match lock.try_lock() {
+        Err(fs::TryLockError::WouldBlock) => return Err(OpenError::InUse(holder(&mut lock))),
+        taken => taken?,
     }
     lock.set_len(0)?;
     let text = format!(in rt.alloc(); "{}\n", process::id(rt.process()))?;
@@ -288,9 +277,7 @@ pub fn open_place<'a, S: Start>(
     if !file.metadata()?.is_file() {
         return Err(OpenError::Io(io::ErrorKind::Unsupported.into()));
     }
-    if !takes_lock(&file)? {
-        return Err(OpenError::InUse(None));
-    }
+    file.try_lock()?;
     let beside = format!(in rt.alloc(); "{}.compacting", log.as_str())?;
     unless(
         io::ErrorKind::NotFound,

@@ -1,7 +1,6 @@
 //! The end of the whole records of a text that is read in blocks.
 
-ghost use Rattle.std.specs.Prelude.{◌≡◌, ◌+◌, ◌^◌, ◌<◌, ◌≤◌, [], ◌∷◌, ◌++◌, List, ℕ, length, not, ◌&&◌, if◌then◌else◌, IfOk, OnOk};
-ghost use Rattle.olr_input.specs.Journals.{is_empty};
+ghost use Rattle.std.specs.Prelude.{◌≡◌, ◌+◌, ◌^◌, ◌<◌, ◌≤◌, [], ◌∷◌, ◌++◌, List, ℕ, length, IfOk, OnOk};
 
 use olr_input::stays_open;
 use std::alloc::{AllocError, Global};
@@ -23,19 +22,6 @@ pub struct Scan {
     /// The end of what isn't a carriage return.
     pub last: usize,
     ghost ordered: { (found ≤ at) × (last ≤ at) },
-}
-
-/// Whether whole records end with a line.
-fn ends_records(is_open: bool, begun: &[u8]) -> bool
-    ensures { result ≡ (not is_open && not (is_empty begun.now)) }
-{
-    !is_open && !begun.is_empty()
-}
-
-fn chosen(is_first: bool, first: usize, second: usize) -> usize
-    ensures { result ≡ if is_first then first else second }
-{
-    if is_first { first } else { second }
 }
 
 impl Scan {
@@ -89,8 +75,9 @@ impl Scan {
             return Ok(());
         }
         self.is_open = stays_open(self.is_open, &self.begun);
-        let is_end = ends_records(self.is_open, &self.begun);
-        self.found = chosen(is_end, self.at, self.found);
+        if !self.is_open && !self.begun.is_empty() {
+            self.found = self.at;
+        }
         self.begun.clear();
         Ok(())
     }

@@ -45,8 +45,7 @@ impl State {
     {
         match self {
             State::Foreign { len } => len,
-            State::Opened { text_len, .. } => text_len,
-            State::Ready { text_len, .. } => text_len,
+            State::Opened { text_len, .. } | State::Ready { text_len, .. } => text_len,
             State::Broken => 0,
         }
     }
@@ -54,9 +53,9 @@ impl State {
     /// The length of the file, if it is known.
     pub fn file_len(self) -> Option<usize> {
         match self {
-            State::Foreign { len } => Some(len),
-            State::Opened { len, .. } => Some(len),
-            State::Ready { len, .. } => Some(len),
+            State::Foreign { len } | State::Opened { len, .. } | State::Ready { len, .. } => Some(
+                len,
+            ),
             State::Broken => None,
         }
     }

@@ -1,6 +1,6 @@
 //! Writes that are synced.
 
-ghost use Rattle.std.specs.Prelude.{◌≡◌, ◌+◌, ◌-◌, ◌^◌, ◌<◌, ◌≤◌, true, false, length, replicate, IsTrue, IfOk, OnOk};
+ghost use Rattle.std.specs.Prelude.{◌≡◌, ◌+◌, ◌-◌, ◌^◌, ◌<◌, ◌≤◌, true, false, length, IsTrue, IfOk, OnOk};
 ghost use Rattle.sqlite_disk.specs.Disk.{Holds, Torn, Mixed, Cut, Follows, Only};
 ghost use Rattle.olr_log.specs.Texts.{counts, ends_blank};
 ghost use Rattle.olr_log.specs.Files.{KeepsFirst, IsBlank, text_in};
@@ -8,7 +8,6 @@ ghost use Rattle.olr_log.specs.States.{Stands};
 
 use crate::state::State;
 use sqlite_disk::Disk;
-use std::alloc::{AllocError, Global};
 use std::io;
 
 /// The bytes that are written or read at once, and the least by which a file is extended, 64 KB.
@@ -16,15 +15,6 @@ pub const BLOCK: usize = 1 << 16;
 
 /// The most by which a file is extended, 1 MB, unless a tenth of it is more.
 const MOST_ADDED: usize = 1 << 20;
-
-/// So many carriage returns.
-pub fn carriage_returns(alloc: Global, n: usize) -> Result<Vec<u8>, AllocError>
-    requires { 0 < n }
-    ensures some { IfOk result (λ returns. 0 < length returns.items) }
-    ensures all { IfOk result (λ returns. returns.items ≡ replicate (length returns.items) 13) }
-{
-    vec![in alloc; b'\r'; n]
-}
 
 /// Whether a text ends in an empty line.
 #[tactic(auto, using(crate::proofs::Fronts::blank_by))]
@@ -76,11 +66,9 @@ pub fn length_for(len: usize, at: usize, records: &[u8]) -> io::Result<usize>
 }
 
 /// Overwrites a range by carriage returns, and syncs, unless it is empty.
-pub fn blank<D: Disk>(disk: &mut D, from: usize, to: usize, returns: &[u8]) -> io::Result<()>
+pub fn blank<D: Disk>(disk: &mut D, from: usize, to: usize) -> io::Result<()>
     requires usable { IsTrue (D.Disk.is_usable disk.old) }
     requires durable { Only (D.Disk.seen disk.old) (D.Disk.may_leave disk.old) }
-    requires some { 0 < length returns.now }
-    requires returns { returns.now ≡ replicate (length returns.now) 13 }
     ensures usable { OnOk result (IsTrue (D.Disk.is_usable disk.new)) }
     ensures calm { D.Disk.is_clean disk.new ≡ D.Disk.is_clean disk.old }
     ensures blank { OnOk result (from < to → IsBlank from to (D.Disk.seen disk.new)) }
@@ -91,9 +79,10 @@ pub fn blank<D: Disk>(disk: &mut D, from: usize, to: usize, returns: &[u8]) -> i
     if to <= from {
         return Ok(());
     }
+    let returns = [b'\r'; BLOCK];
     let mut at = from;
     while at < to {
-        let n = returns.len().min(to - at);
+        let n = BLOCK.min(to - at);
         disk.write_at(at, &returns[..n])?;
         at += n;
     }
@@ -101,11 +90,9 @@ pub fn blank<D: Disk>(disk: &mut D, from: usize, to: usize, returns: &[u8]) -> i
 }
 
 /// Writes the program's own file with this text, whatever the file held, and syncs. Returns its length.
-pub fn fill<D: Disk>(disk: &mut D, text: &[u8], returns: &[u8]) -> io::Result<usize>
+pub fn fill<D: Disk>(disk: &mut D, text: &[u8]) -> io::Result<usize>
     requires usable { IsTrue (D.Disk.is_usable disk.old) }
     requires counts { counts text.now ≡ true }
-    requires some { 0 < length returns.now }
-    requires returns { returns.now ≡ replicate (length returns.now) 13 }
     ensures stands { IfOk result (λ n. Stands D.Disk disk.new (State.Ready (length text.now) n)) }
     ensures stored { OnOk result (text_in (length text.now) (D.Disk.seen disk.new) ≡ text.now) }
 {
@@ -113,13 +100,11 @@ pub fn fill<D: Disk>(disk: &mut D, text: &[u8], returns: &[u8]) -> io::Result<us
         .len()
         .checked_add(1)
         .ok_or(io::ErrorKind::FileTooLarge)?;
-    let len = end
-        .checked_add(returns.len())
-        .ok_or(io::ErrorKind::FileTooLarge)?;
+    let len = end.checked_add(BLOCK).ok_or(io::ErrorKind::FileTooLarge)?;
     disk.set_len(0)?;
     disk.write_at(0, b"\n")?;
     disk.write_at(1, text)?;
-    disk.write_at(end, returns)?;
+    disk.write_at(end, &[b'\r'; BLOCK])?;
     disk.sync()?;
     Ok(len)
 }

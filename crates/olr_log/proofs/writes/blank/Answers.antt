@@ -1,21 +1,20 @@
-use Rattle.olr_log.proofs.Common.{rules, ◌≡◌, ◌+◌, ◌-◌, ◌≤◌, ◌<◌, ℕ, length, take, ◌∙◌, subst, arith, length-take-le, IsBlank}
-use Rattle.olr_log.proofs.Padding.{KeepsFirst-trans, Torn-within, torn_keeps, blank_more, returns_at}
+use Rattle.olr_log.proofs.Common.{rules, ◌≡◌, ◌+◌, ◌-◌, ◌≤◌, ◌<◌, ℕ, length, take, ◌∙◌, subst, arith, IsBlank}
+use Rattle.olr_log.proofs.Padding.{carriage_returns, KeepsFirst-trans, Torn-within, torn_keeps, blank_more, returns_at, returns_taken}
 use Rattle.olr_log.proofs.writes.blank.Goals as goal
 
 pub loop-at-preserved : goal.loop-at-preserved
 loop-at-preserved g c =
     let disk = g.D.Disk in
     let so_far = c.loop-at.invariant in
-    let returns = c.args.returns.now in
     let from = c.args.from in
     let at = c.loop-at.at in
     let n = c.min-n.result in
-    let bytes = take n returns in
+    let bytes = take n (carriage_returns 65536) in
     let high : n ≤ c.args.to - at = search rules in
-    let within : n ≤ length returns = search rules in
+    let within : n ≤ 65536 = search rules in
     let some : 0 < n = search rules in
-    let size : length bytes ≡ n = length-take-le n returns within in
-    let all = returns_at n returns c.requires.returns within in
+    let size : length bytes ≡ n = returns_taken n 65536 within in
+    let all = returns_at n 65536 within in
     let before = disk.seen c.loop-at.disk in
     let after = disk.seen c.write_at.new.self in
     let holds = c.in_ok-write_at.ensures.written (omega (arith, size, some)) in

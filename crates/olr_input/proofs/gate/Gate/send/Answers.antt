@@ -9,4 +9,4 @@ returns-then-not-store-clause-passes g c =
 pub returns-clause-passes : goal.returns-clause-passes
 returns-clause-passes g c =
     passes_sent (λ sent. c.store.ensures.storing sent (λ no. absurd (both_ways c.store.result no c.if-not-store.false)))
-    c.store.ensures.others c.store.ensures.due c.send_pending.ensures.device
+    c.store.ensures.others c.store.ensures.due c.send_all.ensures.device

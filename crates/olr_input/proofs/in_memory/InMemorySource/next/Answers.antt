@@ -1,4 +1,4 @@
-use Rattle.olr_input.proofs.Common.{◌≡◌, ◌∙◌, ◌-◌, ◌≤◌, ℕ, List, [], Some, None, ap, sym, subst, length, drop, next_record}
+use Rattle.olr_input.proofs.Common.{◌≡◌, ◌∙◌, ◌≤◌, ℕ, List, [], Some, None, ap, sym, subst, length, drop, next_record}
 use Rattle.olr_input.proofs.Common.{default_config, fields_of, csv_state, TakesOne}
 use Rattle.olr_input.proofs.CsvRecords.{Are, none_taken, one_taken}
 use Rattle.olr_input.proofs.Writing.{rest_is}

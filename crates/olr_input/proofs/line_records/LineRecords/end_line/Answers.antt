@@ -1,5 +1,5 @@
-use Rattle.olr_input.proofs.Common.{ℕ, List, take, ap, false, refl, subst, Kept, fields_of}
-use Rattle.olr_input.proofs.LinesRead.{line_steps}
+use Rattle.olr_input.proofs.Common.{ℕ, List, take, ap, false, refl, subst, fields_of}
+use Rattle.olr_input.proofs.LinesRead.{Kept, line_steps}
 use Rattle.olr_input.proofs.line_records.LineRecords.end_line.Goals as goal
 
 pub returns : goal.returns

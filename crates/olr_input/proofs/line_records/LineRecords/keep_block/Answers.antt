@@ -1,5 +1,5 @@
-use Rattle.olr_input.proofs.Common.{◌≡◌, ◌∙◌, ℕ, List, [], length, drop, ap, refl, rules, drop-length, block_of, Kept}
-use Rattle.olr_input.proofs.LinesRead.{block_steps}
+use Rattle.olr_input.proofs.Common.{◌≡◌, ◌∙◌, ℕ, List, [], length, drop, ap, refl, rules, drop-length, block_of}
+use Rattle.olr_input.proofs.LinesRead.{Kept, block_steps}
 use Rattle.olr_input.proofs.line_records.LineRecords.keep_block.Goals as goal
 
 pub returns : goal.returns
