@@ -49,9 +49,8 @@ pub record Ends (l : List ℕ) (w : Waiting) (i j : ℕ) : Type 0 where
   pub lines : AreLines (take j l) i j effect.Nothing
   pub waiting : waits (take j l) i j ≡ w
 
-pub ended : {l : List ℕ} {w : Waiting} {i j : ℕ} → Ends l w i j → (m : List ℕ) (x y : ℕ) → m ≡ take j l →
-    (x ≡ i) × (y ≡ j) → waits m x y ≡ w
-ended k m x y is same = (λ n. waits (is n) (same.0 n) (same.1 n)) ∙ k.waiting
+pub ended : {l m : List ℕ} {w : Waiting} {i j x y : ℕ} → Ends l w i j → m ≡ take j l → (x ≡ i) × (y ≡ j) → waits m x y ≡ w
+ended k is same = (λ n. waits (is n) (same.0 n) (same.1 n)) ∙ k.waiting
 
 -- from these parts, the invariant
 pub lines_are : (l : List ℕ) (r h : ℕ) (e : Effect) (A B N : List ℕ) → Parts l r h A B N → is_whole A ≡ true →
@@ -271,8 +270,8 @@ module _ {l : List ℕ} {r h : ℕ} {e : Effect} (a : AreLines l r h e) where
         waiting = ap (λ (x : List ℕ). waits x n n) (all_taken n is) ∙ readied_waits n is by;
       }
 
-  pub closed_fronts : (n : ℕ) → n ≡ length l → (e ≡ effect.Commit) ⊎ ((e ≡ effect.Change) × (h ≤ r)) → (m : List ℕ) (x : ℕ) →
+  pub closed_fronts : (n : ℕ) → n ≡ length l → (e ≡ effect.Commit) ⊎ ((e ≡ effect.Change) × (h ≤ r)) → {m : List ℕ} {x : ℕ} →
       m ≡ take n l → x ≡ n → (front : List ℕ) → IsFront (take x m) front → IsFront (take r l) front ⊎ (front ≡ take x m)
-  closed_fronts n is by m x all same =
+  closed_fronts n is by all same =
       subst (λ (p : List ℕ). (front : List ℕ) → IsFront p front → IsFront (take r l) front ⊎ (front ≡ p))
       (sym ((λ k. take (same k) (all k)) ∙ ap (take n) (all_taken n is))) (all_fronts n is by)

@@ -24,59 +24,44 @@ keep-requires-in-Commit c = (closes c.args.self.now.right c.len-len.result (sear
 
 pub returns-then-not-accepted-clause-waiting : goal.returns-then-not-accepted-clause-waiting
 returns-then-not-accepted-clause-waiting c =
-    let m = c.keep.new.self in
-    rw c.if-not-accepted.true
-    (ended (stays c.args.self.now.right) m.lines.items m.ready m.held c.keep.ensures.lines c.keep.ensures.lengths)
+    rw c.if-not-accepted.true (ended (stays c.args.self.now.right) c.keep.ensures.lines c.keep.ensures.lengths)
 
 pub returns-in-Nothing-clause-waiting : goal.returns-in-Nothing-clause-waiting
 returns-in-Nothing-clause-waiting c =
-    let m = c.keep-in-Nothing.new.self in
     let k = c.keep-in-Nothing.ensures in
-    rw c.if-not-accepted.false
-    (ended (unchanged c.args.self.now.right c.in-Nothing.is) m.lines.items m.ready m.held k.lines k.lengths)
+    rw c.if-not-accepted.false (ended (unchanged c.args.self.now.right c.in-Nothing.is) k.lines k.lengths)
 
 pub returns-in-Begin-clause-waiting : goal.returns-in-Begin-clause-waiting
 returns-in-Begin-clause-waiting c =
-    let m = c.keep-in-Begin.new.self in
     let k = c.keep-in-Begin.ensures in
-    rw c.if-not-accepted.false
-    (ended (opens c.args.self.now.right c.len-len.result (search rules) (inl c.in-Begin.is)) m.lines.items m.ready m.held
-    k.lines k.lengths)
+    let ends = opens c.args.self.now.right c.len-len.result (search rules) (inl c.in-Begin.is) in
+    rw c.if-not-accepted.false (ended ends k.lines k.lengths)
 
 pub returns-in-Change-clause-waiting : goal.returns-in-Change-clause-waiting
 returns-in-Change-clause-waiting c =
-    let m = c.keep-in-Change.new.self in
     let k = c.keep-in-Change.ensures in
-    rw c.if-not-accepted.false
-    (ended (opens c.args.self.now.right c.len-len.result (search rules) (inr (c.in-Change.is, c.if-self.true)))
-    m.lines.items m.ready m.held k.lines k.lengths)
+    let ends = opens c.args.self.now.right c.len-len.result (search rules) (inr (c.in-Change.is, c.if-self.true)) in
+    rw c.if-not-accepted.false (ended ends k.lines k.lengths)
 
 pub returns-in-Change-2-clause-waiting : goal.returns-in-Change-2-clause-waiting
 returns-in-Change-2-clause-waiting c =
-    let m = c.keep-in-Change-2.new.self in
     let k = c.keep-in-Change-2.ensures in
-    rw c.if-not-accepted.false
-    (ended (closes c.args.self.now.right c.len-len.result (search rules) (inr (c.in-Change-2.is, c.if-self.false)))
-    m.lines.items m.ready m.held k.lines k.lengths)
+    let ends = closes c.args.self.now.right c.len-len.result (search rules) (inr (c.in-Change-2.is, c.if-self.false)) in
+    rw c.if-not-accepted.false (ended ends k.lines k.lengths)
 
 pub returns-in-Change-2-clause-fronts : goal.returns-in-Change-2-clause-fronts
 returns-in-Change-2-clause-fronts c =
-    let m = c.keep-in-Change-2.new.self in
     let k = c.keep-in-Change-2.ensures in
-    closed_fronts c.args.self.now.right c.len-len.result (search rules) (inr (c.in-Change-2.is, c.if-self.false))
-    m.lines.items m.ready k.lines k.lengths.0
+    closed_fronts c.args.self.now.right c.len-len.result (search rules) (inr (c.in-Change-2.is, c.if-self.false)) k.lines
+    k.lengths.0
 
 pub returns-in-Commit-clause-waiting : goal.returns-in-Commit-clause-waiting
 returns-in-Commit-clause-waiting c =
-    let m = c.keep-in-Commit.new.self in
     let k = c.keep-in-Commit.ensures in
-    rw c.if-not-accepted.false
-    (ended (closes c.args.self.now.right c.len-len.result (search rules) (inl c.in-Commit.is)) m.lines.items m.ready m.held
-    k.lines k.lengths)
+    let ends = closes c.args.self.now.right c.len-len.result (search rules) (inl c.in-Commit.is) in
+    rw c.if-not-accepted.false (ended ends k.lines k.lengths)
 
 pub returns-in-Commit-clause-fronts : goal.returns-in-Commit-clause-fronts
 returns-in-Commit-clause-fronts c =
-    let m = c.keep-in-Commit.new.self in
     let k = c.keep-in-Commit.ensures in
-    closed_fronts c.args.self.now.right c.len-len.result (search rules) (inl c.in-Commit.is) m.lines.items m.ready k.lines
-    k.lengths.0
+    closed_fronts c.args.self.now.right c.len-len.result (search rules) (inl c.in-Commit.is) k.lines k.lengths.0

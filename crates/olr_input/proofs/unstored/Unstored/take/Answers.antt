@@ -21,14 +21,11 @@ invariant_of-self-then-branch c =
 
 pub returns-then-not-has_line-clause-waiting : goal.returns-then-not-has_line-clause-waiting
 returns-then-not-has_line-clause-waiting c =
-    let u = c.keep.new.self in
-    ended (stays c.args.self.now.right) u.lines.items u.ready u.held c.keep.ensures.lines c.keep.ensures.lengths
+    ended (stays c.args.self.now.right) c.keep.ensures.lines c.keep.ensures.lengths
 
 pub returns-in_err-add_line-clause-waiting : goal.returns-in_err-add_line-clause-waiting
 returns-in_err-add_line-clause-waiting c =
-    let u = c.keep.new.self in
-    ended (stays c.args.self.now.right) c.add_line.new.text.items u.ready u.held
-    (c.in_err-add_line.ensures.nothing ∙ c.keep.ensures.lines) c.keep.ensures.lengths
+    ended (stays c.args.self.now.right) (c.in_err-add_line.ensures.nothing ∙ c.keep.ensures.lines) c.keep.ensures.lengths
 
 pub returns-then-branch-clause-waiting : goal.returns-then-branch-clause-waiting
 returns-then-branch-clause-waiting c =
