@@ -11,7 +11,8 @@
 --         edits t that led from M to N
 --     CanRenewTo g roads t bounds is ls      the same, where the bounds are still those before the edits
 --     CanUpdate u bounds is ls      the same after the update u
-use Rattle.std.specs.Prelude.{◌≡◌, ℕ, List, [], map, Contains, Option, Some, None, option_map, unwrap_or, is_none, IfSome, IsTrue, IsFalse}
+use Rattle.std.specs.Prelude.{◌≡◌, ℕ, List, [], map, Contains, Option, Some, None, is_none, IfSome, IsTrue, IsFalse}
+use Rattle.std.specs.Prelude.{option_map, unwrap_or}
 use Rattle.olr_spec.specs.Map.{Map, has}
 use Rattle.olr_spec.specs.Margins.{Margin}
 use Rattle.olr_spec.specs.Detours.{ChangedLine, Difference}
