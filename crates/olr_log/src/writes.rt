@@ -65,7 +65,9 @@ pub fn length_for(len: usize, at: usize, records: &[u8]) -> io::Result<usize>
     )
 }
 
-/// Overwrites a range by carriage returns, and syncs, unless it is empty.
+/// Overwrites a range by carriage returns, and syncs, unless it is empty. Not inlined: its buffer would be cleared in each
+/// call of its callers.
+#[inline(never)]
 pub fn blank<D: Disk>(disk: &mut D, from: usize, to: usize) -> io::Result<()>
     requires usable { IsTrue (D.Disk.is_usable disk.old) }
     requires durable { Only (D.Disk.seen disk.old) (D.Disk.may_leave disk.old) }
@@ -90,6 +92,7 @@ pub fn blank<D: Disk>(disk: &mut D, from: usize, to: usize) -> io::Result<()>
 }
 
 /// Writes the program's own file with this text, whatever the file held, and syncs. Returns its length.
+#[inline(never)]
 pub fn fill<D: Disk>(disk: &mut D, text: &[u8]) -> io::Result<usize>
     requires usable { IsTrue (D.Disk.is_usable disk.old) }
     requires counts { counts text.now ≡ true }
