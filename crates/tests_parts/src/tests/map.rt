@@ -4,12 +4,8 @@ ghost use Rattle.std.specs.Prelude.{IsTrue};
 ghost use Rattle.olr_map.specs.RoadMaps.{CanUndoAll};
 
 use crate::tests::same;
-use made_maps::{
-    Bend, Road, STRAIGHT, WORKED, difference, line, map_of, new_node, node, place,
-};
-use olr_map::{
-    Edit, EditFault, Footprint, Line, LineId, MapRead, NodeId, RoadMap, UndoLog,
-};
+use made_maps::{Bend, Road, STRAIGHT, WORKED, difference, line, map_of, new_node, node, place};
+use olr_map::{Edit, EditFault, Footprint, Line, LineId, MapRead, NodeId, RoadMap, UndoLog};
 use std::alloc::{AllocError, Global};
 use std::process::Abort;
 use std::test::Fail;
