@@ -69,6 +69,26 @@ impl RoadMap {
         }
     }
 
+    /// Makes a change at these slots that is never undone, and frees what it removes. Inlined, as `make_change` is.
+    #[inline(always)]
+    fn make_for_good(&mut self, change: TableChange, slots: (u32, u32))
+        requires can { CanMake (tables_map self.old) (room_of self.old) change }
+        requires slots { AreSlots self.old.index (tables_map self.old) slots (change_edit change) }
+        requires numbers { HasNumbers self.old (node_puts change) (line_puts change) }
+        ensures { IsChanged self.old self.new change }
+    {
+        match change {
+            TableChange::PutNode(id, place, outs, ins) => self.put_node(id, place, outs, ins),
+            TableChange::MoveNode(id, place) => {
+                self.move_node(id, place, slots.0);
+            }
+            TableChange::TakeNode(id) => drop(self.take_node(id)),
+            TableChange::PutLine(id, line) => self.put_line(id, line, slots.0, slots.1),
+            TableChange::SetLine(id, line) => drop(self.set_line(id, line, slots.0, slots.1)),
+            TableChange::TakeLine(id) => drop(self.take_line(id, slots.0, slots.1)),
+        }
+    }
+
     /// Makes a change that undoes an edit, and frees what the edit added.
     fn take_back(&mut self, change: TableChange)
         requires can { CanMake (tables_map self.old) (room_of self.old) change }
@@ -76,7 +96,7 @@ impl RoadMap {
         ensures { IsChanged self.old self.new change }
     {
         let slots = self.slots_for(&change);
-        drop(self.make_change(change, slots));
+        self.make_for_good(change, slots);
     }
 
     /// Reserves capacity for what an edit adds at these slots and for its undo, in addition to the numbers of nodes and
@@ -196,7 +216,7 @@ impl RoadMap {
     {
         self.make_room(&edit, plan.slots, 0, 0)?;
         let change = self.change_for(edit, plan.nodes);
-        drop(self.make_change(change, plan.slots));
+        self.make_for_good(change, plan.slots);
         Ok(())
     }
 

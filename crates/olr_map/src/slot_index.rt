@@ -43,8 +43,16 @@ impl SlotIndex {
     {
         match self.dense.get(number as usize) {
             Some(slot) => slot.checked_sub(1),
-            None => self.sparse.get(number).copied(),
+            None => self.slot_beyond(number),
         }
+    }
+
+    /// The slot of this number in the table. Not inlined, so that a look-up in the array is.
+    #[inline(never)]
+    fn slot_beyond(&self, number: u32) -> Option<u32>
+        ensures { result ≡ held self.now.sparse number }
+    {
+        self.sparse.get(number).copied()
     }
 
     /// Reserves capacity for `additional` more numbers.
