@@ -78,34 +78,28 @@ fn keep_last(log: &mut Log<'_>) -> io::Result<()> {
     log.close()
 }
 
+/// Opens a log that was made, which is in use then, and keeps one record more. Whether all of that left what it should.
+fn is_opened_again(rt: &HostRuntime, path: &str) -> Result<bool, OpenError> {
+    let mut log = opened(rt, path, false)?;
+    let is_in_use = matches!(refusal(rt, path, false), Some(OpenError::InUse(Some(_))));
+    let text = "delete-line,1\nbegin\nb,2\ncommit,1\n";
+    if !is_in_use || !has_text(rt, &mut log, text)? || !sets_aside(rt, &mut log, "")? {
+        return Ok(false);
+    }
+    keep_last(&mut log)?;
+    let file = "\ndelete-line,1\nbegin\nb,2\ncommit,1\ndelete-line,9\n";
+    Ok(holds(rt, path, file)?)
+}
+
 #[test]
 fn keeps_and_opens_again(rt: HostRuntime) -> Result<(), Fail> {
     empty_folder(&rt, "stored_log")?;
-    assert!(rt;
-        matches!(
-            refusal(&rt, "stored_log/a", false),
-            Some(OpenError::Missing)
-        )
-    );
+    let missing = refusal(&rt, "stored_log/a", false);
+    assert!(rt; matches!(missing, Some(OpenError::Missing)));
     assert!(rt; make_log(&rt, "stored_log/a")?);
-    assert!(rt; matches!(refusal(&rt, "stored_log/a", true), Some(OpenError::Exists)));
-    let mut log = opened(&rt, "stored_log/a", false)?;
-    assert!(rt;
-        matches!(
-            refusal(&rt, "stored_log/a", false),
-            Some(OpenError::InUse(Some(_)))
-        )
-    );
-    assert!(rt; has_text(&rt, &mut log, "delete-line,1\nbegin\nb,2\ncommit,1\n")?);
-    assert!(rt; sets_aside(&rt, &mut log, "")?);
-    keep_last(&mut log)?;
-    assert!(rt;
-        holds(
-            &rt,
-            "stored_log/a",
-            "\ndelete-line,1\nbegin\nb,2\ncommit,1\ndelete-line,9\n"
-        )?
-    );
+    let exists = refusal(&rt, "stored_log/a", true);
+    assert!(rt; matches!(exists, Some(OpenError::Exists)));
+    assert!(rt; is_opened_again(&rt, "stored_log/a")?);
     fs::remove_dir_all(&rt, "stored_log")?;
     Ok(())
 }
@@ -146,38 +140,59 @@ fn append(rt: &HostRuntime, path: &str) -> io::Result<()> {
         .write_all(b"\n")
 }
 
+/// Gives a log's file another name, and makes another one in its place. Whether the log notices it.
+fn notices_a_move(rt: &HostRuntime, path: &str, other: &str) -> Result<bool, OpenError> {
+    let log = opened_with(rt, path, "\n")?;
+    let was_there = log.is_in_place();
+    fs::rename(rt, path, other)?;
+    let is_gone = !log.is_in_place();
+    fs::write(rt, path, "\n\r")?;
+    Ok(was_there && is_gone && !log.is_in_place())
+}
+
+/// Appends to a log's file as another program does. Whether the log notices it.
+fn notices_a_change(rt: &HostRuntime, path: &str) -> Result<bool, OpenError> {
+    let mut log = opened_with(rt, path, "\n")?;
+    log.wipe_rest()?;
+    keep_batch(&mut log)?;
+    let was_there = log.is_in_place();
+    append(rt, path)?;
+    Ok(was_there && !log.is_in_place())
+}
+
 #[test]
 fn notices_another_file(rt: HostRuntime) -> Result<(), Fail> {
     empty_folder(&rt, "moved_log")?;
-    let mut log = opened_with(&rt, "moved_log/a", "\n")?;
-    log.wipe_rest()?;
-    assert!(rt; log.is_in_place());
-    fs::rename(&rt, "moved_log/a", "moved_log/b")?;
-    assert!(rt; !log.is_in_place());
-    fs::write(&rt, "moved_log/a", "\n\r")?;
-    assert!(rt; !log.is_in_place());
-    fs::rename(&rt, "moved_log/b", "moved_log/a")?;
-    keep_batch(&mut log)?;
-    assert!(rt; log.is_in_place());
-    append(&rt, "moved_log/a")?;
-    assert!(rt; !log.is_in_place());
+    assert!(rt; notices_a_move(&rt, "moved_log/a", "moved_log/b")?);
+    assert!(rt; notices_a_change(&rt, "moved_log/c")?);
     fs::remove_dir_all(&rt, "moved_log")?;
     Ok(())
+}
+
+/// The permissions of a file.
+fn mode_of(rt: &HostRuntime, path: &str) -> io::Result<u32> {
+    Ok(fs::metadata(rt, path)?.mode() & 0o7777)
+}
+
+/// Opens a file that the program didn't write, and replaces it. Whether that left what it should.
+fn is_replaced(rt: &HostRuntime, path: &str) -> Result<bool, OpenError> {
+    let mut log = opened_with(rt, path, "delete-line,1\r\n")?;
+    fs::set_permissions(rt, path, fs::Permissions::from_mode(0o640))?;
+    if !has_text(rt, &mut log, "delete-line,1\r\n")? || log.is_own() {
+        return Ok(false);
+    }
+    if !log.replace(b"delete-line,1\n")? || !log.is_own() || !log.is_in_place() {
+        return Ok(false);
+    }
+    keep_last(&mut log)?;
+    Ok(mode_of(rt, path)? == 0o640 && holds(rt, path, "\ndelete-line,1\ndelete-line,9\n")?)
 }
 
 #[test]
 fn replaces_with_the_same_mode(rt: HostRuntime) -> Result<(), Fail> {
     empty_folder(&rt, "replaced_log")?;
     // All of a file is text that doesn't begin with an empty line.
-    let mut log = opened_with(&rt, "replaced_log/a", "delete-line,1\r\n")?;
-    fs::set_permissions(&rt, "replaced_log/a", fs::Permissions::from_mode(0o640))?;
-    assert!(rt; has_text(&rt, &mut log, "delete-line,1\r\n")?);
-    assert!(rt; !log.is_own() && log.wipe_rest().is_err());
-    assert!(rt; log.replace(b"delete-line,1\n")?);
-    assert!(rt; log.is_own() && log.is_in_place());
-    assert_eq!(rt; fs::metadata(&rt, "replaced_log/a")?.mode() & 0o7777, 0o640);
-    keep_last(&mut log)?;
-    assert!(rt; holds(&rt, "replaced_log/a", "\ndelete-line,1\ndelete-line,9\n")?);
+    assert!(rt; is_replaced(&rt, "replaced_log/a")?);
     fs::remove_dir_all(&rt, "replaced_log")?;
     Ok(())
 }
