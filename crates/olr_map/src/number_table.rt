@@ -57,7 +57,7 @@ impl<V: Drop> NumberTable<V> {
         self.by_number.reserve(additional)
     }
 
-    /// Stores the value of a number that has none. Capacity for it is reserved.
+    /// Stores the value of a number. Capacity for it is reserved.
     pub fn put(&mut self, number: u32, value: V)
         requires { 0 < spare_numbers self.old }
         ensures put { IsSetAt (held self.old) (held self.new) number (Some value) }
