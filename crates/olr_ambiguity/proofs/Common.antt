@@ -27,6 +27,7 @@ pub use Rattle.olr_spec.specs.Receiver.{Incoming, Outgoing, decoded_coord}
 pub use Rattle.olr_spec.specs.Recovery.{lat_apart, lon_apart}
 pub use Rattle.std.proofs.Common.{rules}
 pub use Rattle.std.proofs.Math.Nat.{div-mul-le_self, le-div_iff_mul-le, mul-le-mul_left, div-le_self}
+pub use Rattle.std.proofs.lemmas.Grind.{common_steps}
 pub use Rattle.std.proofs.lemmas.List.Elements.{Contains-append_left, Contains-get_or, Contains-push, Contains-push_cases}
 pub use Rattle.std.proofs.lemmas.List.Folds.{Any-from_list_any, list_any_more}
 pub use Rattle.std.proofs.lemmas.Option.{get_or_from_slice_get, slice_get-get_or, slice_get_read, slice_get_within}

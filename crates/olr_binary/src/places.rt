@@ -17,7 +17,6 @@ fn after_steps(coordinate: i128, steps: i16) -> i128
 }
 
 /// The longitude and the latitude, in units, of the first LRP plus the relative steps of the LRPs between.
-#[tactic(auto, using(std::proofs::lemmas::Grind::common_steps))]
 fn way(first: First, points: &[Middle]) -> (i128, i128)
     requires { IsFirst first }
     ensures lon { result.0 ≡ from_abs24 first.lon +ℤ steps_sum (map (λ m. m.dlon) points.now) }

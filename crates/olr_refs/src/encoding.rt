@@ -88,7 +88,6 @@ pub fn encode_again<M: MapRead>(
 ///
 /// If an allocation fails, `seen` may have some of these nodes, and the search must be started again before its next
 /// use.
-#[tactic(auto, using(crate::proofs::Referring::whole_joined, crate::proofs::Referring::whole_short))]
 pub fn encode_noting<M: MapRead>(
     alloc: Global,
     map: &M,

@@ -47,7 +47,6 @@ impl Model for Extended {
 /// both tried runs to the footprint, and no others. If an allocation fails, the footprint is unchanged.
 ///
 /// `own` are the path's own lines as the map has them.
-#[tactic(auto, using(crate::proofs::Extending::own_some, crate::proofs::Extending::own_first, crate::proofs::Extending::front_some, crate::proofs::Extending::front_last, crate::proofs::Extending::front_records, crate::proofs::Resolving::are_records))]
 pub fn extend<M: MapRead>(
     alloc: Global,
     map: &M,

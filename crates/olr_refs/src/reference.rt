@@ -57,7 +57,6 @@ fn line_at(lines: &[LineId], k: usize) -> LineId
 
 /// The lines at the LRPs of these positions, at least two: those that leave them, and at the last one the line that enters
 /// it.
-#[tactic(auto, using(std::proofs::lemmas::List::take_more))]
 fn own_lines<M: MapRead>(
     alloc: Global,
     resolved: &ResolvedPath<M>,

@@ -10,7 +10,6 @@ use crate::resolved::resolve_line;
 use olr_model::{LineId, MapRead};
 
 /// Whether a line extends the shortest path to its start to the shortest path to its end, within the limit.
-#[tactic(auto, using(crate::proofs::RouteEnds::last_step))]
 fn extends_least<M: MapRead>(map: &M, labels: &Labels, line: LineId) -> bool
     ensures { (s : ℕ) (route : List ℕ) → AreLabels (M.map map.now) (M.node_slot map.now) s labels.now
         → LeastWithin (M.map map.now) s (limit_of labels.now) (start (M.map map.now) line) route

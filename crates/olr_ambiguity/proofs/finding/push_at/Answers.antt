@@ -1,5 +1,5 @@
 use Rattle.olr_ambiguity.proofs.Common.{◌≡◌, ◌∙◌, List, ℕ, ap, filter, map, leg, node_on, ◌++◌, Other_bearing, Other_node}
-use Rattle.olr_ambiguity.proofs.Common.{Same_sector, lines_on, found_of, side_of, is_twin_of, is_unclear}
+use Rattle.olr_ambiguity.proofs.Common.{Same_sector, arith, common_steps, lines_on, found_of, side_of, is_twin_of, is_unclear}
 use Rattle.std.proofs.lemmas.List.{take_all}
 use Rattle.olr_ambiguity.proofs.Lists.{joined_at, numbered}
 use Rattle.olr_ambiguity.proofs.finding.push_at.Goals as goal
@@ -23,3 +23,6 @@ returns g c =
     ∙ ap (λ (ys : List ℕ). one ++ numbered k (map (λ y. Other_bearing y) (filter (is_unclear M s o.id) ys))) lines_are)
     (c.loop-node.invariant ∙ ap (λ (vs : List ℕ). two ++ numbered k (map (λ v. Other_node v) vs))
     (take_all c.loop-node.node-index c.as_slice-node-items.result.now c.loop-node-test.false ∙ nodes_are))
+
+pub loop-node-preserved : goal.loop-node-preserved
+loop-node-preserved g c = grind (arith, common_steps)

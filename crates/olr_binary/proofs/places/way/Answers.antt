@@ -18,3 +18,6 @@ loop-point-preserved c =
       lon_bound = omega (arith, ints, c.after_steps-lon.ensures.bound);
       lat_bound = omega (arith, ints, c.after_steps-lat.ensures.bound);
     }
+
+pub returns : goal.returns
+returns c = grind (arith, common_steps)

@@ -1,4 +1,4 @@
-use Rattle.olr_refs.proofs.Common.{◌≡◌, ◌++◌, arith, append-nil, option_to_list}
+use Rattle.olr_refs.proofs.Common.{◌≡◌, ◌++◌, arith, append-nil, sym, option_to_list}
 use Rattle.olr_refs.proofs.chosen.reach_of.Goals.{in-Some+in_ok-push-2, in_default}
 use Rattle.olr_refs.proofs.Querying.{queried_more, queried_none}
 use Rattle.olr_refs.proofs.Reaching.{reach_near_end}
@@ -15,6 +15,6 @@ pub returns-clause-queried : goal.returns-clause-queried
 returns-clause-queried g c = λ before begun x.
     let found = c.in_ok-found.found in
     let own : c.match-found.queries.own.items ≡ c.args.queries.now.own.items ++ option_to_list found.own =
-    elim c.match-found.branch [ in-Some+in_ok-push-2 w ↦ grind arith | in_default w ↦ grind (arith, append-nil) ] in
+    elim c.match-found.branch [ in-Some+in_ok-push-2 w ↦ rw (w.queries-is, w.in-Some.is) w.in_ok-push-2.ensures.items | in_default w ↦ rw (w.queries-is, w.in_default.is) (sym (append-nil _)) ] in
     queried_more _ _ _ _ before _
     _ _ found begun _ _ (omega arith) x c.in_ok-found.ensures (grind arith) own (grind arith)

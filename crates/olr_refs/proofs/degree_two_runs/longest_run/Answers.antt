@@ -1,8 +1,9 @@
 use Rattle.olr_refs.proofs.Common.{◌≡◌, ◌∷◌, [], List, reverse, refl, sym, ap, subst, ◌∙◌, reverse-append, ResolvedLine, LiesBeyond}
-use Rattle.olr_refs.proofs.Common.{IsNonDecreasingBy-from_sort, has, ids}
+use Rattle.olr_refs.proofs.Common.{IsNonDecreasingBy-from_sort, arith, has, ids}
 use Rattle.olr_refs.proofs.Resolving.{some_ids}
 use Rattle.olr_refs.proofs.Runs.{grows_more, grows_none, finished, none_beyond}
 use Rattle.olr_refs.proofs.Sets.{same_members}
+use Rattle.olr_spec.proofs.RouteLemmas.{positive}
 use Rattle.olr_refs.proofs.degree_two_runs.longest_run.Goals as goal
 
 pub returns-then-is_none : goal.returns-then-is_none
@@ -45,3 +46,6 @@ returns g c = rw c.in_order.ensures (finished _ _ _ _
     (some_ids _ c.requires.some) c.requires.known _ _ _ _ c.loop-record.invariant _
     (λ x. rw c.deref.ensures.value (same_members _ _ (rw c.in_ok-used.ensures at c.sort_unstable.ensures.permutation) x))
     c.in_default.ensures.none)
+
+pub loop-record-smaller : goal.loop-record-smaller
+loop-record-smaller g c = grind (arith, positive, g.met.M.MapRead.sound c.args.map.now)

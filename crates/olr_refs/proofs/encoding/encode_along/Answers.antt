@@ -1,4 +1,4 @@
-use Rattle.olr_refs.proofs.Common.{◌∙◌, ForPoints, kept_points, later, legs, own_lines, reference_with, subst}
+use Rattle.olr_refs.proofs.Common.{◌∙◌, ForPoints, kept_points, later, legs, own_lines, reference_with, rules, subst}
 use Rattle.olr_refs.proofs.Referring.{points_answer}
 use Rattle.olr_refs.specs.Choice.{IsChoice}
 use Rattle.olr_refs.specs.Extends.{ExtendedPath}
@@ -21,3 +21,6 @@ returns-clause-answered g c =
     (λ js. IsChoice c.as_slice-lines.result.now js ch)) c.in-Positions.is c.in_ok-choice.ensures.choice)
     (r.ensures.reference ∙ (λ i. reference_with c.args.margin (legs M (lines i)) e.pos e.neg (later (points i))))
     (r.ensures.own ∙ (λ i. own_lines (lines i) (kept_points (legs M (lines i)) e.pos e.neg (later (points i))))))
+
+pub returns-in-NoNext-clause-answered : goal.returns-in-NoNext-clause-answered
+returns-in-NoNext-clause-answered g c = search rules

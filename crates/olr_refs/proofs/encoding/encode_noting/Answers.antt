@@ -1,14 +1,15 @@
-use Rattle.olr_refs.proofs.Common.{◌≡◌, length, arith, refl, ap, path_fault, None, Some, refusal_of, Reuse, inr, subst, List, ℕ}
+use Rattle.olr_refs.proofs.Common.{◌≡◌, length, arith, refl, ap, path_fault, None, Reuse, inr, subst, List, ℕ}
 use Rattle.olr_refs.proofs.Common.{EncodingWith, QueriesOfWith, QueriesFromWith, KnownOfWith, querying, answer_of}
 use Rattle.olr_refs.proofs.Common.{answer_by_points_with, foot_queried_with, ◌∷◌}
 use Rattle.olr_refs.proofs.Noting.{noted_none}
-use Rattle.olr_refs.proofs.Referring.{joins_of, of_path, own_of, traversed_of}
+use Rattle.olr_refs.proofs.Referring.{joins_of, of_path, own_of, traversed_of, whole_joined, whole_short}
 use Rattle.olr_refs.proofs.Querying.{own_is, reuse_of}
+use Rattle.olr_refs.specs.Extends.{ExtendedPath}
 use Rattle.olr_refs.proofs.encoding.encode_noting.Goals as goal
 
 pub encode_along-requires-clause-reuse : goal.encode_along-requires-clause-reuse
 encode_along-requires-clause-reuse g c = reuse_of _ _ _ _ _ _ _ c.in_ok-extended.ensures.ok c.own_lines.ensures.path _
-    (grind arith) (grind arith) c.requires
+    (ap (λ (e : ExtendedPath). e.lead) c.extended.view_is) (ap (λ (xs : List ℕ). length xs) c.lines.ensures.value) c.requires
 
 pub returns-clause-searched : goal.returns-clause-searched
 returns-clause-searched g c = λ none.
@@ -20,13 +21,13 @@ returns-clause-encoding g c =
     let M = g.M.MapRead.map c.args.map.now in
     let m = g.met.M.MapRead.sound c.args.map.now in
     let P = c.args.path.now in
-    let sound : path_fault M P ≡ None = grind arith in
+    let sound : path_fault M P ≡ None = (rw c.in-Ok.is at c.in_ok-own.ensures.own).0 in
     let x = c.in_ok-extended.ensures.ok in
     let answered = c.in_ok-answer.ensures.answered in
     let queried = c.in_ok-answer.ensures.queried in
     let r : Reuse = record { known = c.args.known; lead = c.extended.inside.lead; own = length c.lines.result.now } in
-    let leads : r.lead ≡ c.in_ok-extended.extended.lead = grind arith in
-    let owns : r.own ≡ length P.lines = grind arith in
+    let leads : r.lead ≡ c.in_ok-extended.extended.lead = ap (λ (e : ExtendedPath). e.lead) c.extended.view_is in
+    let owns : r.own ≡ length P.lines = ap (λ (xs : List ℕ). length xs) c.lines.ensures.value in
     let q = c.in_ok-answer.queries in
     let encoding : EncodingWith c.args.margin M P (answer_of c.in_ok-answer.answer) =
     of_path _ M P _ _ _ _ (λ e _ _ js. answer_of c.in_ok-answer.answer ≡ answer_by_points_with c.args.margin M e js) x
@@ -51,9 +52,7 @@ returns-clause-encoding g c =
 
 pub returns-in-Err-clause-encoding : goal.returns-in-Err-clause-encoding
 returns-in-Err-clause-encoding g c =
-    let fault : path_fault (g.M.MapRead.map c.args.map.now) c.args.path.now ≡ Some (refusal_of c.in-Err.refusal) =
-    grind arith in
-    c.refused.ensures.encoding c.args.margin _ _ fault
+    c.refused.ensures.encoding c.args.margin _ _ (rw c.in-Err.is at c.in_ok-own.ensures.own)
 
 pub returns-in-Err-clause-searched : goal.returns-in-Err-clause-searched
 returns-in-Err-clause-searched g c = λ _.
@@ -61,3 +60,9 @@ returns-in-Err-clause-searched g c = λ _.
       searches = omega (arith, c.refused.ensures.work, ap length c.refused.ensures.none);
       notes = rw c.refused.ensures.none (noted_none (g.M.MapRead.map c.args.map.now) c.args.seen.now);
     }
+
+pub encode_along-requires-clause-joined : goal.encode_along-requires-clause-joined
+encode_along-requires-clause-joined g c = grind (arith, whole_joined)
+
+pub encode_along-requires-clause-short : goal.encode_along-requires-clause-short
+encode_along-requires-clause-short g c = grind (arith, whole_short)

@@ -1,5 +1,6 @@
-use Rattle.olr_refs.proofs.Common.{◌++◌, List, length, sym, ap, ◌∙◌, refl, ResolvedLine, ids, records_of}
-use Rattle.olr_refs.proofs.Extending.{whole_records, extends}
+use Rattle.olr_refs.proofs.Common.{◌++◌, arith, List, length, sym, ap, ◌∙◌, refl, ResolvedLine, ids, records_of}
+use Rattle.olr_refs.proofs.Extending.{own_some, own_first, front_some, front_last, front_records, whole_records, extends}
+use Rattle.olr_refs.proofs.Resolving.{are_records}
 use Rattle.olr_refs.proofs.extension.extend.Goals as goal
 
 pub returns : goal.returns
@@ -29,3 +30,9 @@ returns g c =
       records = records ∙ ap (records_of M slot) (sym (c.in_ok-lines.ensures ∙ ap ids c.deref-2.ensures.value));
       err = tt;
     }
+
+pub longest_run-requires : goal.longest_run-requires
+longest_run-requires g c = grind (arith, own_some, own_first, are_records)
+
+pub longest_run-requires-2 : goal.longest_run-requires-2
+longest_run-requires-2 g c = grind (arith, front_some, front_last, front_records)

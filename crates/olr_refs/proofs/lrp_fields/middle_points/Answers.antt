@@ -1,4 +1,5 @@
 use Rattle.olr_refs.proofs.Common.{◌≡◌, ◌+◌, ℕ, List, [], ◌∷◌, ◌++◌, take, sym, ap, ◌∙◌, arith, Middle, legs, middle_points_of}
+use Rattle.olr_refs.proofs.Common.{common_steps}
 use Rattle.olr_refs.proofs.PointLemmas.{middle_more}
 use Rattle.olr_refs.proofs.lrp_fields.middle_points.Goals as goal
 
@@ -11,3 +12,6 @@ loop-k-preserved g c =
     ∙ ap (λ (p : Middle). middle_points_of c.args.resolved.now.margin gs (take (k + 1) c.args.points.now) ++ p ∷ []) c.middle_point-point.ensures
     ∙ sym (middle_more c.args.resolved.now.margin gs c.args.points.now k (omega arith) (omega arith))
     ∙ ap (λ (n : ℕ). middle_points_of c.args.resolved.now.margin gs (take n c.args.points.now)) on
+
+pub returns : goal.returns
+returns g c = grind (arith, common_steps)

@@ -1,5 +1,6 @@
 use Rattle.olr_refs.proofs.Common.{◌≡◌, ◌+◌, ◌≤◌, ℕ, refl, true, false, [], ◌∷◌, List, ap, subst, arith, Along, IsSearch, Map}
-use Rattle.olr_refs.proofs.Common.{IsMap, CountedTo, ResolvedLine, end, slice_index, stretch, begun_at, MayMark}
+use Rattle.olr_refs.proofs.Common.{IsMap, common_steps, CountedTo, ResolvedLine, end, slice_index, stretch, begun_at, MayMark}
+use Rattle.olr_refs.proofs.Joined.{known_at}
 use Rattle.olr_refs.proofs.Reaching.{IsLine, Tests, tests_start, all_covered, covered_so_far, near_after, line_near}
 use Rattle.olr_refs.proofs.Reaching.{may_mark, small_on, goes_on_to}
 use Rattle.olr_refs.proofs.reach.covered_to.Given.{Over}
@@ -121,3 +122,8 @@ returns g c =
     all_covered margin M (g.met.M.MapRead.sound c.args.resolved.now.map.now) ls _ _
     c.args.resolved.now.joined c.requires.last_near c.max-end.result c.requires.some (omega arith) (t.whether.0 refl) in
     record { reach = all.0; last = all.1; long = t.long; search = t.search; no_farther = t.settled }
+
+pub extends_unique_shortest-requires : goal.extends_unique_shortest-requires
+extends_unique_shortest-requires g c =
+    let at = known_at (g.M.MapRead.map c.args.resolved.now.map.now) _ c.loop-k.k c.args.resolved.now.joined (omega arith) in
+    record { known = grind (arith, at); from = grind (arith, common_steps); to = grind (arith, common_steps) }

@@ -1,4 +1,4 @@
-use Rattle.olr_refs.proofs.Common.{arith, ◌<◌, ◌≡◌, ◌-◌, length}
+use Rattle.olr_refs.proofs.Common.{arith, common_steps, ◌<◌, ◌≡◌, ◌-◌, length}
 use Rattle.olr_refs.proofs.OwnLines.{own_by}
 use Rattle.olr_refs.proofs.Trimming.{linked_end}
 use Rattle.olr_refs.proofs.reference.own_lines.Goals as goal
@@ -21,3 +21,6 @@ returns g c =
     let k_is : c.loop-k.k ≡ length c.args.kept.now - 1 = omega arith in
     let by = own_by c.args.resolved.now.lines.now c.args.kept.now some in
     cc (by, k_is, c.in_ok-push-2.ensures.items, c.loop-k.invariant, c.line_at-2.ensures)
+
+pub loop-k-preserved : goal.loop-k-preserved
+loop-k-preserved g c = grind (arith, common_steps)

@@ -1,6 +1,7 @@
-use Rattle.olr_route.proofs.Common.{◌∷◌, [], ◌++◌, ℕ, List, sym, subst, ap, ◌∙◌, LeastWithin, limit_of, ResolvedLine}
+use Rattle.olr_route.proofs.Common.{◌∷◌, [], ◌++◌, ℕ, List, sym, subst, ap, ◌∙◌, LeastWithin, arith, limit_of, ResolvedLine}
 use Rattle.olr_route.proofs.EndLemmas.{option_is}
 use Rattle.olr_route.proofs.ExtendLemmas.{same_front}
+use Rattle.olr_route.proofs.RouteEnds.{last_step}
 use Rattle.olr_route.proofs.shortest.extends_least.Goals as goal
 
 pub returns-in-Some : goal.returns-in-Some
@@ -17,3 +18,6 @@ returns-in-Some g c = λ s route a l.
           (subst (λ (v : ℕ). At v (p.0 ++ x ∷ [])) to p.1),
       λ whole. c.eq.ensures ∙ equal.1 (k.1 (route, subst (λ (v : ℕ). At v (route ++ x ∷ [])) (sym to) whole)),
     )
+
+pub returns-in-None : goal.returns-in-None
+returns-in-None g c = grind (arith, last_step)

@@ -1,6 +1,6 @@
 use Rattle.olr_route.proofs.Common.{◌≡◌, ◌≤◌, ◌<◌, ◌+◌, ℕ, IsTrue, get_or, sym, ap, subst, ◌∙◌, arith, inl, inr, Map, has_node}
 use Rattle.olr_route.proofs.Common.{dm, Leads, near_end, far_end, label_of, below_more, line_short, positive}
-use Rattle.olr_route.proofs.Common.{get_or_default_zero, IsSeenAs}
+use Rattle.olr_route.proofs.Common.{get_or_default_zero, common_steps, IsSeenAs}
 use Rattle.olr_route.proofs.WayLemmas.{IsEntry, entry_is, has_entry, no_end, far_node, leads_on}
 use Rattle.olr_route.proofs.MarkLemmas.{ends_over}
 use Rattle.olr_route.proofs.SearchLemmas.{moves_then}
@@ -145,3 +145,9 @@ returns-clause-closed g c = λ N v s known at x line near under.
     (coe 0 1 (i. g.A.Admits.lets c.args.admits.now (place i) (c.args.dist + long i)) under) in
     let eq = ap (label_of c.loop-index.frontier) place in
     omega (arith, long)
+
+pub bounds-lines-index : goal.bounds-lines-index
+bounds-lines-index g c = grind (arith, common_steps)
+
+pub returns-clause-labelled : goal.returns-clause-labelled
+returns-clause-labelled g c = c.loop-index.invariant.labelled
