@@ -1,6 +1,6 @@
-//! Tests of the parts of the library, one for each public call: coordinates, degrees, the road map, bearings, labels and
-//! shortest paths, the encoding of paths, references as bytes and as text, their ambiguities, records, and the register;
-//! and of what no clause says, as how many searches an edit takes.
+//! Tests of the library's calls, and of what no clause and no reply says, as how many searches an edit takes: edits that are
+//! undone, labels and shortest paths, coverage queries of encodings, ambiguities, records, and the register. What replies show
+//! is tested by sessions of records.
 #![tactic(auto)]
 
 #[cfg(test)]

@@ -17,10 +17,7 @@ macro_rules! same {
 
 mod again;
 mod ambiguity;
-mod bearing;
-mod binary;
 mod commands;
-mod coords;
 mod extension;
 mod kept;
 mod map;

@@ -178,10 +178,10 @@ fn mode_of(rt: &HostRuntime, path: &str) -> io::Result<u32> {
 fn is_replaced(rt: &HostRuntime, path: &str) -> Result<bool, OpenError> {
     let mut log = opened_with(rt, path, "delete-line,1\r\n")?;
     fs::set_permissions(rt, path, fs::Permissions::from_mode(0o640))?;
-    if !has_text(rt, &mut log, "delete-line,1\r\n")? || log.is_own() {
+    if !has_text(rt, &mut log, "delete-line,1\r\n")? || log.is_native() {
         return Ok(false);
     }
-    if !log.replace(b"delete-line,1\n")? || !log.is_own() || !log.is_in_place() {
+    if !log.replace(b"delete-line,1\n")? || !log.is_native() || !log.is_in_place() {
         return Ok(false);
     }
     keep_last(&mut log)?;

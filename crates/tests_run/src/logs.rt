@@ -2,13 +2,12 @@
 
 ghost use Rattle.std.specs.Prelude.{◌≡◌, vec_len, ⊤};
 
-use olr_input::Records;
+use crate::tests::{let_go, output_to, records_of};
 use olr_register::Register;
 use olr_run::{
-    Buffered, Journal, LogFault, Progress, RestoreFault, RunFault, Status, compaction_length,
-    restore, run, run_with_log,
+    Journal, LogFault, Progress, RestoreFault, RunFault, Status, compaction_length, restore, run,
+    run_with_log,
 };
-use std::alloc::{AllocError, Global};
 use std::io;
 use std::process::Abort;
 
@@ -71,44 +70,37 @@ struct Left {
 }
 
 /// Runs records on a new register, with a new log that fails from one call on.
-fn run_logged(
-    alloc: Global,
+fn run_logged<R: Abort + AllocGlobal>(
+    rt: &R,
     records: &'static [u8],
     fails_from: usize,
     in_place: bool,
-) -> Result<Left, AllocError> {
-    let Some(from) = compaction_length(None) else {
-        return Err(AllocError);
-    };
+) -> Left {
+    let alloc = rt.alloc();
+    let from = compaction_length(None).expect(rt, "a length");
     let mut register = Register::new(alloc);
-    let mut output = Buffered::new(alloc, Vec::new(alloc))?;
+    let mut output = output_to(rt, Vec::new(alloc));
     let journal = Stored {
         text: Vec::new(alloc),
         calls: 0,
         fails_from,
         in_place,
     };
-    let source = Records::new(alloc, records)?;
     let (ended, gate) = run_with_log(
         alloc,
         &mut register,
-        source,
+        records_of(rt, records),
         journal,
         from,
         &mut output,
         false,
     );
-    drop(register);
-    let log = gate.get_ref().text.clone()?;
-    let answers = output.get_ref().clone()?;
-    let fault = gate.fault();
-    drop(gate);
-    drop(output);
-    Ok(Left {
-        log,
-        answers,
-        ended: (ended, fault),
-    })
+    let_go(register);
+    Left {
+        log: gate.get_ref().text.clone().expect(rt, "memory"),
+        answers: output.get_ref().clone().expect(rt, "memory"),
+        ended: (ended, gate.fault()),
+    }
 }
 
 /// Changes, a question, rejected records, a batch that is dropped and one that is committed.
@@ -121,64 +113,52 @@ const REPLIES: &[u8] =
 const LOG: &[u8] = b"node,1,0,0\nbegin\nnode,3,0,0\ncommit,1\n";
 
 #[test]
-fn what_is_stored(rt: HostRuntime) -> Result<(), AllocError> {
-    let left = run_logged(rt.alloc(), RECORDS, 100, true)?;
+fn what_is_stored(rt: HostRuntime) {
+    let left = run_logged(&rt, RECORDS, 100, true);
     assert_eq!(rt; left.log.as_slice(), LOG);
     assert_eq!(rt; left.answers.as_slice(), REPLIES);
     let (ended, fault) = left.ended;
     assert_eq!(rt; (ended, fault.is_none()), (Ok(Status::SomeRefused), true));
-    Ok(())
 }
 
 /// Runs these records with a log that is replaced when it is asked for, and asserts what it holds at the end.
-fn expect_log<R: Abort + AllocGlobal>(
-    rt: &R,
-    records: &'static [u8],
-    wanted: &[u8],
-) -> Result<(), AllocError> {
-    let left = run_logged(rt.alloc(), records, 100, true)?;
+fn expect_log<R: Abort + AllocGlobal>(rt: &R, records: &'static [u8], wanted: &[u8]) {
+    let left = run_logged(rt, records, 100, true);
     assert_eq!(rt; left.log.as_slice(), wanted);
     let (ended, fault) = left.ended;
     assert_eq!(rt; (ended.is_ok(), fault.is_none()), (true, true));
-    Ok(())
 }
 
 #[test]
-fn logs_that_are_replaced(rt: HostRuntime) -> Result<(), AllocError> {
+fn logs_that_are_replaced(rt: HostRuntime) {
     let moved = b"node,1,0,0\nmove,1,0,1\ncompact\nnode,2,0,0\n";
-    expect_log(&rt, moved, b"node,1,0,1\nnode,2,0,0\n")?;
+    expect_log(&rt, moved, b"node,1,0,1\nnode,2,0,0\n");
     let in_batch = b"node,1,0,0\nbegin\nmove,1,0,1\ncompact\ncommit,1\n";
-    expect_log(&rt, in_batch, b"node,1,0,0\nbegin\nmove,1,0,1\ncommit,1\n")
+    expect_log(&rt, in_batch, b"node,1,0,0\nbegin\nmove,1,0,1\ncommit,1\n");
 }
 
 /// Runs `RECORDS` with a log that can't be used, and asserts that nothing is written. Returns what is said of the log.
-fn fault_of<R: Abort + AllocGlobal>(
-    rt: &R,
-    fails_from: usize,
-    in_place: bool,
-) -> Result<Option<LogFault>, AllocError> {
-    let left = run_logged(rt.alloc(), RECORDS, fails_from, in_place)?;
+fn fault_of<R: Abort + AllocGlobal>(rt: &R, fails_from: usize, in_place: bool) -> Option<LogFault> {
+    let left = run_logged(rt, RECORDS, fails_from, in_place);
     assert_eq!(rt;
         (left.log.len() <= LOG.len(), left.answers.len()),
         (true, 0)
     );
     let (ended, fault) = left.ended;
     assert_eq!(rt; ended, Err(RunFault::Write));
-    Ok(fault)
+    fault
 }
 
 #[test]
-fn log_that_fails(rt: HostRuntime) -> Result<(), AllocError> {
-    let fault = fault_of(&rt, 0, true)?;
+fn log_that_fails(rt: HostRuntime) {
+    let fault = fault_of(&rt, 0, true);
     assert!(rt; matches!(fault, Some(LogFault::Unwritten(_))));
-    Ok(())
 }
 
 #[test]
-fn log_that_is_moved(rt: HostRuntime) -> Result<(), AllocError> {
-    let fault = fault_of(&rt, 100, false)?;
+fn log_that_is_moved(rt: HostRuntime) {
+    let fault = fault_of(&rt, 100, false);
     assert!(rt; matches!(fault, Some(LogFault::Moved)));
-    Ok(())
 }
 
 /// Starts from a log, and asserts the reply to `dump`.
@@ -190,7 +170,7 @@ fn expect_dump<R: Abort + AllocGlobal>(rt: &R, log: &[u8], dump: &[u8]) {
             let records: &[u8] = b"dump\n";
             let ended = run(rt.alloc(), &mut register, records, &mut output, false);
             assert_eq!(rt; (output.as_slice(), ended), (dump, Ok(Status::AllAccepted)));
-            drop(register);
+            let_go(register);
         }
         Err(_fault) => assert!(rt; false),
     }
@@ -201,7 +181,7 @@ fn expect_rejected<R: Abort + AllocGlobal>(rt: &R, log: &[u8], fault: RestoreFau
     let mut progress = Progress::default();
     match restore(rt.alloc(), log, &mut progress) {
         Ok(register) => {
-            drop(register);
+            let_go(register);
             assert!(rt; false);
         }
         Err(found) => assert_eq!(rt; (found, progress.taken), (fault, at)),

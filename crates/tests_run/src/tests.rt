@@ -1,10 +1,6 @@
-ghost use Rattle.std.specs.Prelude.{⊤};
-
-use crate::files::Log;
 use olr_input::{Joined, Records};
-use olr_log::{HostDisk, LogFolder, OpenError, Unknown};
 use olr_register::Register;
-use olr_run::{Buffered, OpenLog, RunFault, Scratch, Status, exit_code, program, run, run_source};
+use olr_run::{Buffered, RunFault, Scratch, Status, exit_code, run, run_source};
 use std::alloc::Global;
 use std::io;
 use std::io::{Read, Write};
@@ -123,7 +119,7 @@ fn first_lines(text: &str, count: usize) -> Option<&[u8]> {
 }
 
 /// Drops a register. Its drop is proved once here, and not again in each function that has a register.
-fn let_go(_register: Register) {}
+pub fn let_go(_register: Register) {}
 
 /// Runs the records on a new register, and asserts how the run ends and what is written.
 fn expect<R: Abort + AllocGlobal>(
@@ -157,26 +153,6 @@ fn refused_records(rt: HostRuntime) {
     expect(&rt, RECORDS.as_bytes(), true, stopped, Status::Stopped);
     expect_replies(&rt, "", "", Status::AllAccepted);
     expect(&rt, b"node,1,0,0\n", true, "ok,0\n", Status::AllAccepted);
-}
-
-#[test]
-fn published_string(rt: HostRuntime) {
-    expect_replies(
-        &rt,
-        "node,1,6.12683,49.60852\nnode,2,6.12838,49.60399\nline,10,1,2,3,2,5610,200,6.12701,49.60838,5410,6.1282,49.60413\npath,a,0,0,10\nshow,a\nshow,b\n",
-        "ok,0\nok,0\nok,0\nok,1\na,text,CwRbWyNG9RpsCQCb/jsaHA==\nok,1\na,text,CwRbWyNG9RpsCQCb/jsaHA==\nfault,10,NoPath\n",
-        Status::SomeRefused,
-    );
-}
-
-#[test]
-fn dumped_records(rt: HostRuntime) {
-    expect_replies(
-        &rt,
-        "node,2,6.10,-0.0\nnode,1,6,49\nline,7,2,1,3,3,90000\npath,a,0,0,9\ndump\nbegin\ndump\n",
-        "ok,0\nok,0\nok,0\nok,1\na,refused,1,9\nok,4\nnode,1,6,49\nnode,2,6.1,0\nline,7,2,1,3,3,90000\npath,a,0,0,9\nok,0\nfault,14,BatchOpen\n",
-        Status::SomeRefused,
-    );
 }
 
 /// The end of a run of one record that is accepted, and of one that is malformed.
@@ -294,7 +270,7 @@ fn expect_first_applied<R: Abort + AllocGlobal>(rt: &R, register: &mut Register)
 }
 
 /// The records of an input.
-fn records_of<R: Abort + AllocGlobal>(rt: &R, input: Slow) -> Records<Slow> {
+pub fn records_of<R: Abort + AllocGlobal, I: Read + Drop>(rt: &R, input: I) -> Records<I> {
     match Records::new(rt.alloc(), input) {
         Ok(records) => records,
         Err(_) => panic!(rt; "no memory"),
@@ -380,141 +356,11 @@ fn statuses(rt: HostRuntime) {
 }
 
 /// An output to a device.
-fn output_to<R: Abort + AllocGlobal, W: Write + Drop>(rt: &R, device: W) -> Buffered<W> {
+pub fn output_to<R: Abort + AllocGlobal, W: Write + Drop>(rt: &R, device: W) -> Buffered<W> {
     match Buffered::new(rt.alloc(), device) {
         Ok(output) => output,
         Err(_) => panic!(rt; "no memory"),
     }
-}
-
-/// No log can be opened.
-#[derive(Drop)]
-struct NoLogs;
-
-impl<'a> OpenLog<HostDisk<Unknown>, LogFolder<'a>> for NoLogs {
-    ghost may_be = { λ _ _ _ _ _ _. ⊤ };
-
-    ghost refuses = { λ _ _ _ _. ⊤ };
-
-    fn open(&self, _name: &str, _is_new: bool) -> Result<Log<'a>, OpenError> {
-        Err(OpenError::Missing)
-    }
-}
-
-/// Runs the program with arguments and an input; the file that they name has these records, or does not exist.
-fn expect_program<R: Abort + AllocGlobal>(
-    rt: &R,
-    arguments: &[&str],
-    file: Option<&'static str>,
-    input: Slow,
-    status: u8,
-    replies: &str,
-    expected: &str,
-) {
-    let mut output = output_to(rt, Vec::new(rt.alloc()));
-    let mut errors = Vec::new(rt.alloc());
-    let records = file.map(|text| text.as_bytes());
-    let (ended, log) = program(
-        rt.alloc(),
-        arguments,
-        |_: &str| match records {
-            Some(records) => Ok(records),
-            None => Err(io::Error::from(io::ErrorKind::NotFound)),
-        },
-        &NoLogs,
-        input,
-        &mut output,
-        &mut errors,
-    );
-    drop(log);
-    let found = (ended, output.get_ref().as_slice(), errors.as_slice());
-    let wanted = (status, replies.as_bytes(), expected.as_bytes());
-    assert_eq!(rt; found, wanted, "of {arguments:?}");
-}
-
-#[test]
-fn whole_programs(rt: HostRuntime) {
-    let node = "node,1,0,0\n";
-    let named = ["olr-keep", "-m", "f"].as_slice();
-    let stops = ["olr-keep", "-sm", "f"].as_slice();
-    let twice = "ok,0\nfault,3,NodeExists\n";
-    let unopened = "olr-keep: cannot open the command file\n";
-    let unread = "olr-keep: read fault\n";
-    expect_program(&rt, &["olr-keep"], None, whole(node), 0, "ok,0\n", "");
-    expect_program(&rt, named, Some(node), whole(node), 1, twice, "");
-    expect_program(
-        &rt,
-        stops,
-        Some("x\n"),
-        whole(node),
-        1,
-        "fault,1,Syntax\n",
-        "",
-    );
-    expect_program(&rt, named, None, whole(node), 3, "", unopened);
-    expect_program(&rt, named, Some(node), outage(), 3, "ok,0\n", unread);
-    // The file is opened first, and then the size is looked at, and then the log is opened.
-    let logged = ["olr-keep", "-m", "f", "-l", "g"].as_slice();
-    let sized = ["olr-keep", "-l", "g", "--compact-at", "5T"].as_slice();
-    let missing = "olr-keep: g is missing: --new makes it\n";
-    let size = "olr-keep: --compact-at takes bytes, or a number with K, M or G, as 500M\n";
-    let none = "olr-keep: --new and --compact-at need -l LOG\n";
-    expect_program(&rt, logged, None, whole(node), 3, "", unopened);
-    expect_program(&rt, logged, Some(node), whole(node), 2, "", missing);
-    expect_program(&rt, sized, None, whole(node), 2, "", size);
-    expect_program(&rt, &["olr-keep", "--new"], None, whole(node), 2, "", none);
-}
-
-#[test]
-fn one_record_a_line(rt: HostRuntime) {
-    let open = "node,1,0,0\r\nshow,\"a\nnode,2,0,0\n\nnode,\"3,0,0";
-    let plain = "ok,0\nfault,1,Syntax\n";
-    let single = "ok,0\nfault,1,Syntax\nok,0\nfault,1,Syntax\n";
-    let both = "ok,0\nfault,1,Syntax\nok,0\nfault,1,Syntax\nok,0\n";
-    let lines = ["olr-keep", "--lines"].as_slice();
-    let named = ["olr-keep", "--lines", "-m", "f"].as_slice();
-    expect_program(&rt, &["olr-keep"], None, whole(open), 1, plain, "");
-    expect_program(&rt, lines, None, whole(open), 1, single, "");
-    expect_program(&rt, named, Some(open), whole("node,4,0,0\n"), 1, both, "");
-}
-
-/// Runs the program with arguments, and a writer that fails at this call or takes nothing: the bytes before were sent,
-/// and none afterwards.
-fn expect_write_fault<R: Abort + AllocGlobal>(
-    rt: &R,
-    arguments: &[&str],
-    fails_at: usize,
-    takes_nothing: bool,
-) {
-    let mut output = output_to(rt, Narrow::new(rt.alloc(), 1, fails_at, takes_nothing));
-    let mut errors = Vec::new(rt.alloc());
-    let (ended, log) = program(
-        rt.alloc(),
-        arguments,
-        |_: &str| Ok("".as_bytes()),
-        &NoLogs,
-        RECORDS.as_bytes(),
-        &mut output,
-        &mut errors,
-    );
-    drop(log);
-    let sent = output.get_ref().taken.len();
-    let wanted = (3, b"olr-keep: write fault\n".as_slice(), fails_at);
-    assert_eq!(rt;
-        (ended, errors.as_slice(), sent),
-        wanted,
-        "of {arguments:?}"
-    );
-}
-
-#[test]
-fn write_fault_of_the_program(rt: HostRuntime) {
-    for fails_at in 0..REPLIES.len() {
-        expect_write_fault(&rt, &["olr-keep"], fails_at, false);
-        expect_write_fault(&rt, &["olr-keep"], fails_at, true);
-    }
-    expect_write_fault(&rt, &["olr-keep", "--help"], 0, false);
-    expect_write_fault(&rt, &["olr-keep", "--help"], 7, true);
 }
 
 /// Writes a text to an output, and asserts how many bytes it took, and what it has sent.
@@ -566,30 +412,11 @@ fn many_answers(rt: HostRuntime) {
             && replies.extend_from_slice(b"fault,1,Syntax\n").is_ok();
         assert!(rt; added);
     }
+    let mut register = Register::new(rt.alloc());
     let mut output = output_to(&rt, Vec::new(rt.alloc()));
-    let mut errors = Vec::new(rt.alloc());
-    let (ended, log) = program(
-        rt.alloc(),
-        &["olr-keep"],
-        |_: &str| Ok("".as_bytes()),
-        &NoLogs,
-        records.as_slice(),
-        &mut output,
-        &mut errors,
-    );
-    drop(log);
-    assert!(rt; ended == 1 && output.get_ref().as_slice() == replies.as_slice());
-}
-
-#[test]
-fn version_and_usage(rt: HostRuntime) {
-    let usage = "error: unexpected argument '-x' found
-
-Usage: olr-keep [OPTIONS]
-
-For more information, try '--help'.
-";
-    let version = "olr-keep 2.0.0, proved with logic dac8208d650f15bf\n";
-    expect_program(&rt, &["olr-keep", "-V"], None, outage(), 0, version, "");
-    expect_program(&rt, &["olr-keep", "-x"], None, outage(), 2, "", usage);
+    let input = records.as_slice();
+    let ended = run(rt.alloc(), &mut register, input, &mut output, false);
+    assert!(rt; ended == Ok(Status::SomeRefused) && output.flush().is_ok());
+    assert!(rt; output.get_ref().as_slice() == replies.as_slice());
+    let_go(register);
 }

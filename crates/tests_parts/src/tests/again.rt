@@ -27,14 +27,12 @@ fn expect_known(rt: &impl Abort, known: &[KnownQuery], wanted: &[Known]) {
 
 /// Asserts that two encodings of a path are the same.
 fn expect_same(rt: &impl Abort, first: &Encoding, second: &Encoding) {
-    assert_eq!(rt;
-        first.queries.as_slice(),
-        second.queries.as_slice(),
+    assert!(rt;
+        first.queries.as_slice() == second.queries.as_slice(),
         "the queries"
     );
-    assert_eq!(rt;
-        first.known.as_slice(),
-        second.known.as_slice(),
+    assert!(rt;
+        first.known.as_slice() == second.known.as_slice(),
         "the known queries"
     );
     assert_eq!(rt;
@@ -46,27 +44,22 @@ fn expect_same(rt: &impl Abort, first: &Encoding, second: &Encoding) {
 
 /// A path encoded, and encoded again with its known coverage queries.
 fn encode_twice(
+    rt: &impl Abort,
     alloc: Global,
     map: &RoadMap,
     path: &Path,
     margin: Margin,
-) -> Result<(Encoding, Encoding), Fail> {
+) -> (Encoding, Encoding) {
     let mut search = Dijkstra::new(alloc);
-    let first = encode(alloc, map, path, margin, &mut search)?;
-    let second = encode_again(alloc, map, path, margin, &first.known, &mut search)?;
-    Ok((first, second))
+    let first = encode(alloc, map, path, margin, &mut search).expect(rt, "memory");
+    let second = encode_again(alloc, map, path, margin, &first.known, &mut search);
+    (first, second.expect(rt, "memory"))
 }
 
 /// Asserts which coverage queries of a path are known, and that it is encoded again with a search for the others alone.
-fn expect_again(
-    rt: &impl Abort,
-    alloc: Global,
-    map: &RoadMap,
-    plain: PlainPath,
-    wanted: &[Known],
-) -> Result<(), Fail> {
+fn expect_again(rt: &impl Abort, alloc: Global, map: &RoadMap, plain: PlainPath, wanted: &[Known]) {
     let path = path_of(rt, alloc, plain);
-    let (first, second) = encode_twice(alloc, map, &path, Margin::none())?;
+    let (first, second) = encode_twice(rt, alloc, map, &path, Margin::none());
     let (work, more) = (first.work, second.work);
     expect_known(rt, &first.known, wanted);
     expect_same(rt, &first, &second);
@@ -78,7 +71,6 @@ fn expect_again(
         "of {plain:?}"
     );
     assert_eq!(rt; (work.encodings, more.encodings), (1, 1), "of {plain:?}");
-    Ok(())
 }
 
 const CASES: &[(Plan, PlainPath, &[Known])] = &[
@@ -102,7 +94,7 @@ const CASES: &[(Plan, PlainPath, &[Known])] = &[
 fn known_queries(rt: HostRuntime) -> Result<(), Fail> {
     for (plan, plain, wanted) in CASES {
         let map = map_of(rt.alloc(), *plan)?;
-        expect_again(&rt, rt.alloc(), &map, *plain, wanted)?;
+        expect_again(&rt, rt.alloc(), &map, *plain, wanted);
     }
     Ok(())
 }
@@ -119,10 +111,9 @@ const ON_GRID: &[(PlainPath, &[Known])] = &[
 ];
 
 #[test]
-fn known_queries_on_a_grid(rt: HostRuntime) -> Result<(), Fail> {
+fn known_queries_on_a_grid(rt: HostRuntime) {
     let map = grid_map(&rt, rt.alloc());
     for (plain, wanted) in ON_GRID {
-        expect_again(&rt, rt.alloc(), &map, *plain, wanted)?;
+        expect_again(&rt, rt.alloc(), &map, *plain, wanted);
     }
-    Ok(())
 }

@@ -44,8 +44,8 @@ fn expect_found(
     let found = found_on(alloc, map)?;
     assert!(rt; found.is_some());
     if let Some([by_grid, near]) = &found {
-        assert_eq!(rt; by_grid.as_slice(), wanted);
-        assert_eq!(rt; near.as_slice(), wanted);
+        assert!(rt; by_grid.as_slice() == wanted);
+        assert!(rt; near.as_slice() == wanted);
     }
     Ok(())
 }

@@ -5,7 +5,7 @@ ghost use Rattle.olr_map.specs.RoadMaps.{CanUndoAll};
 
 use crate::tests::same;
 use made_maps::{Bend, Road, STRAIGHT, WORKED, difference, line, map_of, new_node, node, place};
-use olr_map::{Edit, EditFault, Footprint, Line, LineId, MapRead, NodeId, RoadMap, UndoLog};
+use olr_map::{Edit, Footprint, LineId, MapRead, RoadMap, UndoLog};
 use std::alloc::{AllocError, Global};
 use std::process::Abort;
 use std::test::Fail;
@@ -44,19 +44,6 @@ fn assert_alike<M: MapRead, N: MapRead>(rt: &impl Abort, one: &M, other: &N) {
     same(rt, difference(one, other, 100), None, "where they differ");
 }
 
-/// Asserts that the map rejects an edit with this fault, and is then unchanged.
-fn assert_refused(rt: &impl Abort, alloc: Global, edit: Edit, wanted: EditFault) {
-    let mut map = base(rt, alloc);
-    match map.apply(edit) {
-        Ok(undo) => {
-            map.undo(undo);
-            panic!(rt; "an edit that is taken");
-        }
-        Err(fault) => same(rt, fault, wanted, "the fault"),
-    }
-    assert_alike(rt, &map, &base(rt, alloc));
-}
-
 /// Asserts that these are the numbers of lines, in this order.
 fn assert_numbers(rt: &impl Abort, lines: &[LineId], numbers: &[u32], what: &str) {
     same(rt, lines.len(), numbers.len(), what);
@@ -69,53 +56,6 @@ fn assert_numbers(rt: &impl Abort, lines: &[LineId], numbers: &[u32], what: &str
 fn assert_lines(rt: &impl Abort, map: &RoadMap, number: u32, outs: &[u32], ins: &[u32]) {
     assert_numbers(rt, map.out_lines(node(number)), outs, "lines from a node");
     assert_numbers(rt, map.in_lines(node(number)), ins, "lines to a node");
-}
-
-/// Asserts that line 10 of the worked map is good, and what its fields are.
-fn assert_first(rt: &impl Abort, first: &Line) {
-    same!(rt; (first.from.number(), first.to.number()), (1, 2));
-    same!(rt; (first.len, first.shape.len()), (5610, 2));
-    holds!(rt; first.is_good());
-}
-
-/// Asserts what the worked map has as line 10, and that it has no line 11.
-fn assert_has_first(rt: &impl Abort, map: &RoadMap) {
-    match map.line(line(10)) {
-        Some(first) => assert_first(rt, first),
-        None => panic!(rt; "line 10"),
-    }
-    holds!(rt; map.line(line(11)).is_none());
-}
-
-#[test]
-fn reads_the_base_map(rt: HostRuntime) {
-    let map = base(&rt, rt.alloc());
-    same!(&rt; map.node(node(2)), Some(place(612_838, 4_960_399)));
-    same!(&rt; map.node(node(5)), None);
-    assert_lines(&rt, &map, 2, &[20, 99], &[10]);
-    assert_lines(&rt, &map, 3, &[30], &[20, 99]);
-    assert_lines(&rt, &map, 4, &[], &[30]);
-    assert_lines(&rt, &map, 5, &[], &[]);
-    assert_has_first(&rt, &map);
-    holds!(&rt; NodeId::new(0).is_none());
-    holds!(&rt; LineId::new(0).is_none());
-}
-
-#[test]
-fn refuses_in_order(rt: HostRuntime) -> Result<(), Fail> {
-    let alloc = rt.alloc();
-    let here = place(0, 0);
-    for (edit, fault) in vec![in alloc;
-        (Edit::AddNode(node(1), here), EditFault::NodeExists),
-        (Edit::MoveNode(node(9), here), EditFault::NoNode),
-        (Edit::DropNode(node(9)), EditFault::NoNode),
-        (Edit::DropNode(node(1)), EditFault::NodeInUse),
-        (Edit::DropNode(node(4)), EditFault::NodeInUse),
-        (Edit::DropLine(line(98)), EditFault::NoLine),
-    ]? {
-        assert_refused(&rt, alloc, edit, fault);
-    }
-    Ok(())
 }
 
 #[test]

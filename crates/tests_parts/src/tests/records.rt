@@ -1,8 +1,9 @@
 //! A record and texts, whose values were calculated by hand from the formats. Sessions have the others.
 
 use csv::ByteRecord;
+use made_maps::line;
 use olr_binary::{TextFault, V3Fault};
-use olr_commands::{CommandFault, Reply};
+use olr_commands::{Command, CommandFault, Reply};
 use olr_records::{ReadFault, append_reply, fault_text, read_command, read_fault_text, reply_text};
 use std::test::Fail;
 
@@ -11,10 +12,13 @@ fn reads_a_record(rt: HostRuntime) -> Result<(), Fail> {
     let alloc = rt.alloc();
     let fields: [&[u8]; 6] = [b"path", b"a", b"1500", b"0", b"10", b"20"];
     let row = ByteRecord::from_fields(alloc, &fields)?;
-    let command = read_command(alloc, &row);
-    let found = format!(in alloc; "{command:?}")?;
-    let wanted = "Ok(AddPath(\"a\", [LineId { number: 10 }, LineId { number: 20 }], 1500, 0))";
-    assert_eq!(rt; found.as_str(), wanted);
+    match read_command(alloc, &row) {
+        Ok(Command::AddPath(name, lines, pos, neg)) => {
+            assert_eq!(rt; (name.as_str(), pos, neg), ("a", 1500, 0));
+            assert_eq!(rt; lines.as_slice(), [line(10), line(20)].as_slice());
+        }
+        _ => panic!(rt; "another command"),
+    }
     Ok(())
 }
 

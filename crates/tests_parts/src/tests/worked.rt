@@ -116,7 +116,10 @@ pub(crate) fn refuses(
     command: Command,
     fault: CommandFault,
 ) {
-    assert_eq!(rt; register.apply(command).err(), Some(fault));
+    match register.apply(command) {
+        Err(found) => assert!(rt; found == fault),
+        Ok(_) => panic!(rt; "accepted"),
+    }
 }
 
 /// Asserts that this text is published under a name.
