@@ -143,7 +143,6 @@ impl<J: Journal + Drop> Gate<J> {
     }
 
     /// Keeps records in the place of the log, if it is where it was and they are whole.
-    #[tactic(auto, using(crate::proofs::Compacting::asked, crate::proofs::Compacting::compacts_closed, crate::proofs::Compacting::compacts_broken))]
     fn replace_if(&mut self, records: &[u8])
         requires { asks self.old ≡ true }
         ensures compacts { Compacts J.Journal self.old records.now self.new }

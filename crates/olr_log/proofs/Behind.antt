@@ -1,6 +1,6 @@
 -- What stands behind the text of an opened log.
 use Rattle.olr_log.proofs.Common.{◌≡◌, inl, inr, ℕ, suc, ◌+◌, ◌-◌, ◌≤◌, ◌<◌, [], ◌∷◌, drop, refl, sym, ◌∙◌, ap, ◌==◌, ◌&&◌}
-use Rattle.olr_log.proofs.Common.{zero, true, false, List, ◌++◌, length, take, get_or, arith, ne_eqb, is_empty, is_own, IsFound}
+use Rattle.olr_log.proofs.Common.{zero, true, false, List, ◌++◌, length, take, get_or, arith, ne_eqb, is_empty, is_native, IsFound}
 use Rattle.olr_log.proofs.Common.{length-drop, length-take, if◌then◌else◌, cases_Bool, cond-false, get_or-drop, length-take-le}
 use Rattle.olr_log.proofs.Common.{cases_lt, and_parts, and_left, and_right, cond-true, eqb-true, drop_all, drop-drop, drop-take}
 use Rattle.olr_log.specs.Texts.{unpadded, left_behind, text_of}
@@ -66,10 +66,10 @@ pub found_left : (n last : ℕ) (file : List ℕ) → IsFound n last file → ta
 unfolding left_behind text_of
 found_left n last file found =
     let place : 1 + n ≡ n + 1 = omega arith in
-    let size : length (text_of file) ≡ n = ap length (cond-true _ _ _ found.text.own ∙ found.text.text) ∙ length-take-le n (drop 1 file) (omega (arith, length-drop 1 file, found.text.within)) in
-    sym (cond-true _ _ _ found.text.own ∙ ap (λ (j : ℕ). unpadded (drop j (drop 1 file))) size ∙ unpadded_drop n (drop 1 file) ∙ ap (λ (x : List ℕ). drop n x) found.rest
+    let size : length (text_of file) ≡ n = ap length (cond-true _ _ _ found.text.kind ∙ found.text.text) ∙ length-take-le n (drop 1 file) (omega (arith, length-drop 1 file, found.text.within)) in
+    sym (cond-true _ _ _ found.text.kind ∙ ap (λ (j : ℕ). unpadded (drop j (drop 1 file))) size ∙ unpadded_drop n (drop 1 file) ∙ ap (λ (x : List ℕ). drop n x) found.rest
     ∙ part_of_front n last (drop 1 file) ∙ ap (λ (x : List ℕ). take (last - n) x) (drop-drop n 1 file ∙ ap (λ (j : ℕ). drop j file) place))
 
-pub foreign_left : (file : List ℕ) → is_own file ≡ false → left_behind file ≡ []
+pub foreign_left : (file : List ℕ) → is_native file ≡ false → left_behind file ≡ []
 unfolding left_behind
 foreign_left file foreign = cond-false _ _ _ foreign

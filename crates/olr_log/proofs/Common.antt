@@ -7,14 +7,14 @@ pub use Rattle.olr_log.specs.Outcomes.{LeavesText, MayLeave}
 pub use Rattle.olr_log.specs.Reads.{OnlyReads}
 pub use Rattle.olr_log.specs.Scanning.{Scanned, StandsAt}
 pub use Rattle.olr_log.specs.States.{Stands, is_broken_in, is_ready_in, stored_in}
-pub use Rattle.olr_log.specs.Texts.{counts, ends_blank, ends_blank_behind, is_own, left_behind, longest_front, text_of}
+pub use Rattle.olr_log.specs.Texts.{counts, ends_blank, ends_blank_behind, is_native, left_behind, longest_front, text_of}
 pub use Rattle.olr_log.specs.declared.state.State.TheVariants.{Broken, Foreign, Opened, Ready}
 pub use Rattle.olr_log.specs.declared.state.State.{State}
 pub use Rattle.olr_log.specs.declared.traced.Traced.{Traced}
 pub use Rattle.sqlite_disk.specs.Disk.{Cut, Follows, Holds, Mixed, Only, Torn}
 pub use Rattle.sqlite_disk.specs.declared.Disk.{Ghosts}
 pub use Rattle.std.proofs.Common.{Bool, List, MutBor, None, Option, Some, [], ap, append_assoc, arith, drop, false, get_or, inl}
-pub use Rattle.std.proofs.Common.{inr, length, length-append, length-drop, length-take, max, refl, replicate, rules, subst, suc}
+pub use Rattle.std.proofs.Common.{inr, length, length-append, length-drop, length-take, max, min, refl, replicate, rules, subst, suc}
 pub use Rattle.std.proofs.Common.{sym, take, take-add, take-append-drop, true, zero, ℕ, ⊎_elim, ◌++◌, ◌+◌, ◌-◌, ◌<◌, ◌∙◌, ◌∷◌}
 pub use Rattle.std.proofs.Common.{◌≡◌, ◌≤◌, ◌⊎◌}
 pub use Rattle.std.proofs.lemmas.Bool.{and_left, and_parts, and_right, cases_Bool, cases_eq, cases_lt, cond-false, cond-true}
@@ -22,7 +22,7 @@ pub use Rattle.std.proofs.lemmas.Bool.{eqb-true, ne_eqb}
 pub use Rattle.std.proofs.lemmas.Grind.{same_number_lists}
 pub use Rattle.std.proofs.lemmas.List.{append-nil, drop-append-le, drop-drop, drop-take, drop_all, drop_more, get_or-drop}
 pub use Rattle.std.proofs.lemmas.List.{get_or-replicate, get_or-take, length-replicate, length-take-le, places, take-append-le}
-pub use Rattle.std.proofs.lemmas.List.{take-take, take_all, with_items_is}
+pub use Rattle.std.proofs.lemmas.List.{take-take, take_all, take_more, with_items_is}
 pub use Rattle.std.proofs.lemmas.Result.{on_ok_weaker}
 pub use Rattle.std.proofs.raw_atomic.Walks.{proved}
 pub use Rattle.std.specs.Prelude.{IsNone, IsTrue, codes, if◌then◌else◌, not, ◌&&◌, ◌==◌, ◌||◌}

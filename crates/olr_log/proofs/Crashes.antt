@@ -4,7 +4,7 @@ use Rattle.olr_log.proofs.Common.{Follows, Only, Ghosts, text_of, stored_of, Lea
 use Rattle.olr_log.proofs.Common.{is_broken_in, State, Foreign, Opened, Ready, Broken}
 use Rattle.olr_log.specs.declared.log_file.LogFile.{LogFile}
 use Rattle.olr_log.specs.declared.folder.Folder as folder
-use Rattle.olr_log.proofs.OwnTexts.{text_is, foreign_text}
+use Rattle.olr_log.proofs.NativeTexts.{text_is, foreign_text}
 
 module _ {D : Type 0} (d : Ghosts D) where
   abbrev pub Leaves : D → List ℕ → Type 0

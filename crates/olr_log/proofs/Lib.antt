@@ -2,7 +2,7 @@ mod Common
 pub mod Fronts
 pub mod Padding
 pub mod Behind
-pub mod OwnTexts
+pub mod NativeTexts
 pub mod Crashes
 pub mod Scans
 pub mod Reading

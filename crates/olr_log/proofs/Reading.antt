@@ -1,7 +1,6 @@
 -- What reads leave of a disk.
-use Rattle.olr_log.proofs.Common.{◌≡◌, ℕ, ◌+◌, List, ◌++◌, length, take, drop, refl, ◌∙◌, ap, arith, take-add, IsTrue}
-use Rattle.olr_log.proofs.Common.{drop-drop, Holds, Ghosts, OnlyReads}
-use Rattle.olr_log.proofs.Padding.{bytes_at}
+use Rattle.olr_log.proofs.Common.{◌≡◌, ℕ, ◌+◌, List, ◌++◌, take, drop, refl, ◌∙◌, ap, arith, take-add, IsTrue}
+use Rattle.olr_log.proofs.Common.{drop-drop, Ghosts, OnlyReads}
 
 pub OnlyReads-refl : {D : Type 0} (g : Ghosts D) (disk : D) → IsTrue (g.is_usable disk) → OnlyReads g disk disk
 OnlyReads-refl g disk usable = record { seen = refl; usable = usable; clean = λ clean. clean; less = λ c left. left }
@@ -15,9 +14,7 @@ OnlyReads-trans g a b c first second = record {
 }
 
 -- the bytes of a block behind those that were read
-pub block_behind : (file bytes : List ℕ) (n at : ℕ) → at ≡ n + 1 → Holds file at bytes → take (n + length bytes) (drop 1 file) ≡ take n (drop 1 file) ++ bytes
-block_behind file bytes n at place holds =
+pub block_behind : (file : List ℕ) (n m at : ℕ) → at ≡ n + 1 → take (n + m) (drop 1 file) ≡ take n (drop 1 file) ++ take m (drop at file)
+block_behind file n m at place =
     let up : 1 + n ≡ at = omega (arith, place) in
-    take-add n (length bytes) (drop 1 file)
-    ∙ ap (λ (x : List ℕ). take n (drop 1 file) ++ take (length bytes) x) (drop-drop n 1 file ∙ ap (λ (j : ℕ). drop j file) up)
-    ∙ ap (λ (x : List ℕ). take n (drop 1 file) ++ x) (bytes_at file bytes at holds)
+    take-add n m (drop 1 file) ∙ ap (λ (x : List ℕ). take n (drop 1 file) ++ take m x) (drop-drop n 1 file ∙ ap (λ (j : ℕ). drop j file) up)

@@ -7,7 +7,7 @@
 --     KeepsFirst n old new      no byte of the first n is gone or another
 --     IsBlank from to file      a range has none but carriage returns
 use Rattle.std.specs.Prelude.{◌≡◌, ℕ, ◌+◌, ◌<◌, ◌≤◌, true, List, length, take, drop, slice_index}
-use Rattle.olr_log.specs.Texts.{is_own, padded, recovered, unpadded}
+use Rattle.olr_log.specs.Texts.{is_native, padded, recovered, unpadded}
 
 -- a text behind an empty line, and before one carriage return at least
 abbrev pub IsPaddedText : List ℕ → List ℕ → Type 0
@@ -17,7 +17,7 @@ abbrev pub text_in : ℕ → List ℕ → List ℕ
 text_in n file = take n (drop 1 file)
 
 pub record HasText (n : ℕ) (file : List ℕ) : Type 0 where
-  pub own : is_own file ≡ true
+  pub kind : is_native file ≡ true
   pub within : n + 1 ≤ length file
   pub text : recovered (drop 1 file) ≡ text_in n file
 

@@ -5,7 +5,7 @@ use Rattle.olr_log.specs.declared.folder.Folder as folder
 use Rattle.olr_log.specs.declared.log_file.LogFile.{LogFile}
 use Rattle.olr_log.specs.declared.state.State.{State}
 use Rattle.olr_log.specs.declared.state.State.TheVariants.{Opened}
-use Rattle.olr_log.specs.States.{stored_in, is_own_in, is_ready_in}
+use Rattle.olr_log.specs.States.{stored_in, is_native_in, is_ready_in}
 use Rattle.olr_log.specs.Outcomes.{MayLeave}
 
 -- what stands behind the text of an opened log, up to the last byte that isn't a carriage return
@@ -21,8 +21,8 @@ module _ {D F : Type 0} {d : disk.Ghosts D} {f : folder.Ghosts F D} where
   left_of log = MayLeave d.is_clean d.may_leave (f.may_lead log.folder) log.number log.disk log.rival
 
   -- the file begins with an empty line, unless a call failed
-  abbrev pub is_own_of : LogFile D F d f → Bool
-  is_own_of log = is_own_in log.state
+  abbrev pub is_native_of : LogFile D F d f → Bool
+  is_native_of log = is_native_in log.state
 
   -- records can be written behind the text
   abbrev pub is_ready : LogFile D F d f → Bool

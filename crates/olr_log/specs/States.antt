@@ -7,7 +7,7 @@ use Rattle.std.specs.Coded.{Unit-prop}
 use Rattle.std.proofs.Props.{props}
 use Rattle.sqlite_disk.specs.Disk.{Only}
 use Rattle.sqlite_disk.specs.declared.Disk.{Ghosts}
-use Rattle.olr_log.specs.Texts.{is_own}
+use Rattle.olr_log.specs.Texts.{is_native}
 use Rattle.olr_log.specs.Files.{text_in, IsFound, IsPadded}
 use Rattle.olr_log.specs.declared.state.State.{State}
 use Rattle.olr_log.specs.declared.state.State.TheVariants.{Foreign, Opened, Ready, Broken}
@@ -25,9 +25,9 @@ size_in (Opened n last len) = n
 size_in (Ready n len) = n
 size_in Broken = 0
 
-abbrev pub is_own_in : State → Bool
-is_own_in (Foreign len) = false
-is_own_in _ = true
+abbrev pub is_native_in : State → Bool
+is_native_in (Foreign len) = false
+is_native_in _ = true
 
 abbrev pub is_ready_in : State → Bool
 is_ready_in (Ready n len) = true
@@ -47,7 +47,7 @@ module _ {D : Type 0} (d : Ghosts D) (disk : D) where
     pub is : d.is_clean disk ≡ true → IsFile (d.seen disk)
 
   abbrev pub Stands : State → Type 0
-  Stands (Foreign len) = HasFile len (λ file. is_own file ≡ false)
+  Stands (Foreign len) = HasFile len (λ file. is_native file ≡ false)
   Stands (Opened n last len) = HasFile len (IsFound n last) × (n + 1 ≤ len) × (last + 1 ≤ len)
   Stands (Ready n len) = HasFile len (IsPadded n) × (n + 1 < len) × (n + 1 ≤ length (d.seen disk))
   Stands Broken = ⊤

@@ -29,19 +29,19 @@ unfoldable pub recovered : List ℕ → List ℕ
 recovered text = longest_front (length text) text
 
 -- a file begins with an empty line, as those do that the program wrote
-abbrev pub is_own : List ℕ → Bool
-is_own [] = false
-is_own (b ∷ bs) = b == 10
+abbrev pub is_native : List ℕ → Bool
+is_native [] = false
+is_native (b ∷ bs) = b == 10
 
 unfoldable pub text_of : List ℕ → List ℕ
-text_of file = if is_own file then recovered (drop 1 file) else file
+text_of file = if is_native file then recovered (drop 1 file) else file
 
 abbrev pub unpadded : List ℕ → List ℕ
 unpadded [] = []
 unpadded (b ∷ bs) = if b == 13 && is_empty (unpadded bs) then [] else b ∷ unpadded bs
 
 unfoldable pub left_behind : List ℕ → List ℕ
-left_behind file = if is_own file then unpadded (drop (length (text_of file)) (drop 1 file)) else []
+left_behind file = if is_native file then unpadded (drop (length (text_of file)) (drop 1 file)) else []
 
 abbrev pub padded : List ℕ → ℕ → List ℕ
 padded text n = 10 ∷ text ++ replicate n 13

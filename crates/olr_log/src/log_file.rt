@@ -3,6 +3,7 @@
 ghost use Rattle.std.specs.Prelude.{◌≡◌, ◌⊎◌, ◌+◌, ℕ, List, ◌++◌, length, true, false, if◌then◌else◌, IsTrue, IfOk, OnOk, OnErr, IsErr, IsNone, IsSome, Option};
 ghost use Rattle.sqlite_disk.specs.Disk.{Only};
 ghost use Rattle.olr_input.specs.Journals.{MayHaveStored, is_whole};
+ghost use Rattle.olr_log.specs.Texts.{counts};
 ghost use Rattle.olr_log.specs.Files.{text_in};
 ghost use Rattle.olr_log.specs.States.{Stands, Stands-prop, is_broken_in, stored_in, size_in};
 ghost use Rattle.olr_log.specs.Outcomes.{MayLeave, LeavesText};
@@ -42,6 +43,23 @@ struct Made<D: Disk> {
     doubt: Option<io::Error>,
 }
 
+/// Writes a file beside the log, with this text. Returns its length too.
+fn write_beside<D: Disk + Drop, F: Folder<D>>(folder: &mut F, text: &[u8]) -> io::Result<(D, usize)>
+    requires counts { counts text.now ≡ true }
+    ensures stands { IfOk result (λ made. Stands D.Disk made.0 (State.Ready (length text.now) made.1)) }
+    ensures stored { IfOk result (λ made. text_in (length text.now) (D.Disk.seen made.0) ≡ text.now) }
+    ensures name { (n : ℕ) → F.Folder.may_lead folder.new n → F.Folder.may_lead folder.old n }
+{
+    let mut disk = folder.create_beside()?;
+    match fill(&mut disk, text) {
+        Ok(len) => Ok((disk, len)),
+        Err(error) => {
+            folder.remove_beside();
+            Err(error)
+        }
+    }
+}
+
 /// Writes records beside the log, and puts them in its place. After an error the name of the log leads where it did.
 fn write_in_place<D: Disk + Drop, F: Folder<D>>(
     folder: &mut F,
@@ -60,14 +78,7 @@ fn write_in_place<D: Disk + Drop, F: Folder<D>>(
         return Err(io::ErrorKind::InvalidInput.into());
     }
     let number = old + 1;
-    let mut disk = folder.create_beside()?;
-    let len = match fill(&mut disk, records) {
-        Ok(len) => len,
-        Err(error) => {
-            folder.remove_beside();
-            return Err(error);
-        }
-    };
+    let (disk, len) = write_beside(folder, records)?;
     let doubt = match folder.put_in_place(number) {
         Ok(None) => None,
         Ok(Some(error)) => {
@@ -85,7 +96,7 @@ fn write_in_place<D: Disk + Drop, F: Folder<D>>(
 }
 
 impl<D: Disk + Drop, F: Folder<D>> Journal for LogFile<D, F> {
-    ghost use Rattle.olr_log.specs.Logs.{stored_of, left_of, is_own_of, is_ready, is_clean};
+    ghost use Rattle.olr_log.specs.Logs.{stored_of, left_of, is_native_of, is_ready, is_clean};
 
     ghost stored = { λ j. stored_in j.state (D.Disk.seen j.disk) };
 
@@ -127,7 +138,7 @@ impl<D: Disk + Drop, F: Folder<D>> Journal for LogFile<D, F> {
         ensures durable { Only (stored_of self.old) (left_of self.old) → OnOk result (Only (stored_of self.new) (left_of self.new)) }
         ensures cut { (c : List ℕ) → left_of self.new c → left_of self.old c ⊎ (c ≡ records.now) }
         ensures ready { IfOk result (λ done. done ≡ true → is_ready self.new ≡ true) }
-        ensures own { IfOk result (λ done. is_own_of self.new ≡ if done then true else is_own_of self.old) }
+        ensures kind { IfOk result (λ done. is_native_of self.new ≡ if done then true else is_native_of self.old) }
         ensures unready { IfOk result (λ done. done ≡ false → is_ready self.new ≡ is_ready self.old) }
         ensures refused { IfOk result (λ done. done ≡ false → IsSome self.new.refusal) }
         ensures broken { OnErr result (is_broken_in self.new.state ≡ true) }

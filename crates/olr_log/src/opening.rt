@@ -3,7 +3,7 @@
 ghost use Rattle.std.specs.Prelude.{◌≡◌, ◌⊎◌, ◌+◌, true, false, ℕ, List, ◌∷◌, length, IsTrue, IfOk, IsOk, IsErr, OnOk, OnErr};
 ghost use Rattle.std.specs.Io.KnownBytes.{Appends};
 ghost use Rattle.olr_input.specs.Journals.{Only};
-ghost use Rattle.olr_log.specs.Texts.{text_of, is_own, left_behind};
+ghost use Rattle.olr_log.specs.Texts.{text_of, is_native, left_behind};
 ghost use Rattle.olr_log.specs.Files.{IsPaddedText};
 ghost use Rattle.olr_log.specs.States.{is_broken_in};
 
@@ -18,7 +18,7 @@ use std::io;
 use std::io::Write;
 
 impl<D: Disk + Drop, F: Folder<D>> LogFile<D, F> {
-    ghost use Rattle.olr_log.specs.Logs.{stored_of, is_own_of, is_ready};
+    ghost use Rattle.olr_log.specs.Logs.{stored_of, is_native_of, is_ready};
     ghost use Rattle.olr_log.specs.Logs.{left_over_of, left_of, is_clean};
 
     /// Syncs the file and finds the end of its text. It changes nothing.
@@ -26,7 +26,7 @@ impl<D: Disk + Drop, F: Folder<D>> LogFile<D, F> {
         requires usable { IsTrue (D.Disk.is_usable disk) }
         requires named { (n : ℕ) → F.Folder.may_lead folder n → n ≡ 0 }
         ensures text { IfOk result (λ log. is_clean log ≡ true → stored_of log ≡ text_of (D.Disk.seen disk)) }
-        ensures own { IfOk result (λ log. is_clean log ≡ true → is_own_of log ≡ is_own (D.Disk.seen disk)) }
+        ensures kind { IfOk result (λ log. is_clean log ≡ true → is_native_of log ≡ is_native (D.Disk.seen disk)) }
         ensures rest { IfOk result (λ log. is_clean log ≡ true → left_over_of log ≡ left_behind (D.Disk.seen disk)) }
         ensures same { IfOk result (λ log. D.Disk.seen log.disk ≡ D.Disk.seen disk) }
         ensures unready { IfOk result (λ log. is_ready log ≡ false) }
@@ -55,10 +55,10 @@ impl<D: Disk + Drop, F: Folder<D>> LogFile<D, F> {
 
     /// Whether the file begins with the empty line of the program's own files. If not, all of it is its text, and `replace` has
     /// to give it its own form before anything is stored.
-    pub fn is_own(&self) -> bool
-        ensures { result ≡ is_own_of self.now }
+    pub fn is_native(&self) -> bool
+        ensures { result ≡ is_native_of self.now }
     {
-        self.state.is_own()
+        self.state.is_native()
     }
 
     /// Whether an opened file has padding behind its text: the run before was cut off.
@@ -82,10 +82,10 @@ impl<D: Disk + Drop, F: Folder<D>> LogFile<D, F> {
     /// Writes these bytes.
     pub fn copy_left_over<W: Write>(&mut self, alloc: Global, to: &mut W) -> io::Result<()>
         ensures none { is_ready self.old ≡ true → IsOk result }
-        ensures foreign { is_own_of self.old ≡ false → IsOk result }
+        ensures foreign { is_native_of self.old ≡ false → IsOk result }
         ensures copied { OnOk result (is_clean self.new ≡ true → Appends (W.contents to.old) (W.contents to.new) (left_over_of self.old)) }
         ensures stored { stored_of self.new ≡ stored_of self.old }
-        ensures own { is_own_of self.new ≡ is_own_of self.old }
+        ensures kind { is_native_of self.new ≡ is_native_of self.old }
         ensures ready { is_ready self.new ≡ is_ready self.old }
         ensures less { (c : List ℕ) → left_of self.new c → left_of self.old c }
     {
@@ -93,8 +93,7 @@ impl<D: Disk + Drop, F: Folder<D>> LogFile<D, F> {
             State::Opened { text_len, last, .. } => {
                 let at = text_len.checked_add(1).ok_or(io::ErrorKind::FileTooLarge)?;
                 let n = last.saturating_sub(text_len);
-                let mut block = vec![in alloc; 0u8; n]?;
-                read_exact(&mut self.disk, at, &mut block)?;
+                let block = read_exact(alloc, &mut self.disk, at, n)?;
                 to.write_all(&block)
             }
             State::Broken => Err(io::ErrorKind::InvalidInput.into()),
@@ -114,7 +113,7 @@ impl<D: Disk + Drop, F: Folder<D>> LogFile<D, F> {
         ensures stored { OnOk result (is_clean self.new ≡ true → stored_of self.new ≡ stored_of self.old) }
         ensures ready { OnOk result (is_ready self.new ≡ true) }
         ensures again { is_ready self.old ≡ true → IsOk result }
-        ensures foreign { is_own_of self.old ≡ false → IsErr result }
+        ensures foreign { is_native_of self.old ≡ false → IsErr result }
         ensures broken { is_broken_in self.old.state ≡ true → IsErr result }
         ensures padded { OnOk result (is_clean self.new ≡ true
             → IsPaddedText (stored_of self.old) (D.Disk.seen self.new.disk)) }
@@ -144,17 +143,15 @@ impl<D: Disk + Drop, F: Folder<D>> LogFile<D, F> {
         ensures broken { is_broken_in self.old.state ≡ true → IsErr result }
         ensures text { IfOk result (λ text. is_clean self.new ≡ true → text.items ≡ stored_of self.old) }
         ensures stored { stored_of self.new ≡ stored_of self.old }
-        ensures own { is_own_of self.new ≡ is_own_of self.old }
+        ensures kind { is_native_of self.new ≡ is_native_of self.old }
         ensures ready { is_ready self.new ≡ is_ready self.old }
         ensures less { (c : List ℕ) → left_of self.new c → left_of self.old c }
     {
         if self.state.is_broken() {
             return Err(io::ErrorKind::InvalidInput.into());
         }
-        let mut text = vec![in alloc; 0u8; self.state.text_len()]?;
-        let at = usize::from(self.state.is_own());
-        read_exact(&mut self.disk, at, &mut text)?;
-        Ok(text)
+        let at = usize::from(self.state.is_native());
+        read_exact(alloc, &mut self.disk, at, self.state.text_len())
     }
 
     /// Cuts the padding off. Nothing more can be stored. A log of which this wasn't done stays as it is.

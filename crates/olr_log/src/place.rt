@@ -1,7 +1,7 @@
 //! Where a log lies: its name, its folder, and the lock that one process holds. Read, and not proved, but for its names.
 
 ghost use Rattle.std.specs.Prelude.{◌≡◌, ◌⊎◌, ℕ, List, [], true, Some, IsTrue, IsNone, IfOk};
-ghost use Rattle.olr_log.specs.Logs.{stored_of, left_of, left_over_of, is_own_of, is_ready, is_clean};
+ghost use Rattle.olr_log.specs.Logs.{stored_of, left_of, left_over_of, is_native_of, is_ready, is_clean};
 ghost use Rattle.olr_log.specs.Places.{disk_is_usable, IsFreshDisk, folder_may_lead};
 
 use crate::folder::Folder;
@@ -24,7 +24,7 @@ const IO_ERROR: i32 = 5;
 pub type HostDisk<S> = Modelled<HostFile, S>;
 
 /// Why a log can't be opened.
-#[derive(Clone, Copy, Debug)]
+#[derive(Clone, Copy)]
 pub enum OpenError {
     /// There is no such file.
     Missing,
@@ -218,21 +218,22 @@ fn resolve(rt: &HostRuntime, path: &str, is_new: bool) -> Result<PathBuf, OpenEr
     }
 }
 
+/// The number in the first line of a text.
+fn first_number(text: &[u8]) -> Option<u32> {
+    let digits = text.split(|b| *b == b'\n').next()?;
+    std::str::from_utf8(digits).ok()?.parse().ok()
+}
+
 /// The number that a lock file holds.
 fn holder(lock: &mut fs::File) -> Option<u32> {
     let mut text = [0u8; 16];
     let n = lock.read(&mut text).ok()?;
-    let digits = text[..n].split(|b| *b == b'\n').next()?;
-    std::str::from_utf8(digits).ok()?.parse().ok()
+    first_number(&text[..n])
 }
 
-/// Opens the lock file of a log, or makes it. What has its name and is no file is refused and stays as it is, also if it is a link
-/// that was put there meanwhile.
-fn open_lock(rt: &HostRuntime, name: &str) -> io::Result<fs::File> {
-    match open_file(rt, name, true, 0o666) {
-        Err(error) if error.kind() == io::ErrorKind::AlreadyExists => {}
-        made => return made,
-    }
+/// Opens a lock file. What has its name and is no file is refused and stays as it is, also if it is a link that was put there
+/// meanwhile.
+fn open_made(rt: &HostRuntime, name: &str) -> io::Result<fs::File> {
     let other = io::Error::new(io::ErrorKind::InvalidInput, "it is a link, or no file");
     if !fs::symlink_metadata(rt, name)?.is_file() {
         return Err(other);
@@ -245,6 +246,21 @@ fn open_lock(rt: &HostRuntime, name: &str) -> io::Result<fs::File> {
     Ok(file)
 }
 
+/// Opens the lock file of a log, or makes it.
+fn open_lock(rt: &HostRuntime, name: &str) -> io::Result<fs::File> {
+    match open_file(rt, name, true, 0o666) {
+        Err(error) if error.kind() == io::ErrorKind::AlreadyExists => open_made(rt, name),
+        made => made,
+    }
+}
+
+/// Writes the process id to a lock file.
+fn note_holder(rt: &HostRuntime, lock: &mut fs::File) -> io::Result<()> {
+    lock.set_len(0)?;
+    let text = format!(in rt.alloc(); "{}\n", process::id(rt.process()))?;
+    lock.write_all(text.as_str().as_bytes())
+}
+
 /// Locks the lock file of a log, and writes the process id to it.
 fn lock(rt: &HostRuntime, log: &str) -> Result<fs::File, OpenError> {
     let name = format!(in rt.alloc(); "{log}.lock")?;
@@ -253,14 +269,66 @@ fn lock(rt: &HostRuntime, log: &str) -> Result<fs::File, OpenError> {
         Err(fs::TryLockError::WouldBlock) => return Err(OpenError::InUse(holder(&mut lock))),
         taken => taken?,
     }
-    lock.set_len(0)?;
-    let text = format!(in rt.alloc(); "{}\n", process::id(rt.process()))?;
-    lock.write_all(text.as_str().as_bytes())?;
+    note_holder(rt, &mut lock)?;
     Ok(lock)
 }
 
-/// Opens the file of a log, or makes it, and locks it too: another name or a mount may lead to it beside another lock file. Links
-/// are followed now, and not later.
+/// Opens the file of a log, or makes it, and locks it too: another name or a mount may lead to it beside another lock file.
+fn open_log(rt: &HostRuntime, log: &str, is_new: bool) -> Result<fs::File, OpenError> {
+    let file = open_file(rt, log, is_new, 0o666)?;
+    if !file.metadata()?.is_file() {
+        return Err(OpenError::Io(io::ErrorKind::Unsupported.into()));
+    }
+    file.try_lock()?;
+    Ok(file)
+}
+
+/// The name of the file beside a log. One that an earlier run left there is removed.
+fn free_beside(rt: &HostRuntime, log: &str) -> io::Result<String> {
+    let beside = format!(in rt.alloc(); "{log}.compacting")?;
+    unless(
+        io::ErrorKind::NotFound,
+        fs::remove_file(rt, beside.as_str()),
+    )?;
+    Ok(beside)
+}
+
+/// Opens the folder in which a log lies.
+fn open_parent(rt: &HostRuntime, log: &str) -> io::Result<fs::File> {
+    let parent = Path::new(log).parent().ok_or(io::ErrorKind::Unsupported)?;
+    fs::open(rt, parent.as_str())
+}
+
+/// Opens a log and its folder.
+fn open_folder<'a>(
+    rt: &'a HostRuntime,
+    path: &str,
+    is_new: bool,
+) -> Result<(fs::File, LogFolder<'a>), OpenError>
+    ensures { IfOk result (λ place. (n : ℕ) → folder_may_lead place.1 n → n ≡ 0) }
+{
+    let log = resolve(rt, path, is_new)?;
+    let lock = lock(rt, log.as_str())?;
+    let file = open_log(rt, log.as_str(), is_new)?;
+    let beside = free_beside(rt, log.as_str())?;
+    let folder = open_parent(rt, log.as_str())?;
+    let node = node_of(&file)?;
+    let folder = LogFolder {
+        rt,
+        folder,
+        lock,
+        log,
+        beside,
+        number: 0,
+        node,
+        next: None,
+        next_node: node,
+        written: Cell::new(None),
+    };
+    Ok((file, folder))
+}
+
+/// Opens the file of a log, or makes it, and locks it. Links are followed now, and not later.
 pub fn open_place<'a, S: Start>(
     rt: &'a HostRuntime,
     path: &str,
@@ -271,39 +339,9 @@ pub fn open_place<'a, S: Start>(
     ensures fresh { IfOk result (λ place. IsFreshDisk place.0) }
     ensures named { IfOk result (λ place. (n : ℕ) → folder_may_lead place.1 n → n ≡ 0) }
 {
-    let log = resolve(rt, path, is_new)?;
-    let lock = lock(rt, log.as_str())?;
-    let file = open_file(rt, log.as_str(), is_new, 0o666)?;
-    if !file.metadata()?.is_file() {
-        return Err(OpenError::Io(io::ErrorKind::Unsupported.into()));
-    }
-    file.try_lock()?;
-    let beside = format!(in rt.alloc(); "{}.compacting", log.as_str())?;
-    unless(
-        io::ErrorKind::NotFound,
-        fs::remove_file(rt, beside.as_str()),
-    )?;
-    let parent = log
-        .parent()
-        .ok_or(io::Error::from(io::ErrorKind::Unsupported))?;
-    let folder = fs::open(rt, parent.as_str())?;
-    let node = node_of(&file)?;
-    let host = HostFile::settle(file, &folder)?;
-    Ok((
-        Modelled::new(host, true, 0),
-        LogFolder {
-            rt,
-            folder,
-            lock,
-            log,
-            beside,
-            number: 0,
-            node,
-            next: None,
-            next_node: node,
-            written: Cell::new(None),
-        },
-    ))
+    let (file, folder) = open_folder(rt, path, is_new)?;
+    let host = HostFile::settle(file, &folder.folder)?;
+    Ok((Modelled::new(host, true, 0), folder))
 }
 
 /// Copies what stands behind the text of a log to a file of its own beside it, and syncs that. Returns its name, if there was any.
@@ -312,15 +350,16 @@ pub fn set_aside<S: Start>(
 ) -> io::Result<Option<String>>
     ensures none { IfOk result (λ name. IsNone name → is_clean log.old ≡ true → left_over_of log.old ≡ []) }
     ensures stored { stored_of log.new ≡ stored_of log.old }
-    ensures own { is_own_of log.new ≡ is_own_of log.old }
+    ensures kind { is_native_of log.new ≡ is_native_of log.old }
     ensures ready { is_ready log.new ≡ is_ready log.old }
     ensures less { (c : List ℕ) → left_of log.new c → left_of log.old c }
 {
     if log.left_over() == 0 {
         return Ok(None);
     }
-    let (mut file, name) = log.folder().make_aside()?;
-    let alloc = log.folder().rt.alloc();
+    let folder = log.folder();
+    let (mut file, name) = folder.make_aside()?;
+    let alloc = folder.rt.alloc();
     log.copy_left_over(alloc, &mut file)?;
     file.sync_all()?;
     log.folder().folder.sync_all()?;

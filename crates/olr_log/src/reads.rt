@@ -1,7 +1,7 @@
 //! Reads of a log that was opened.
 
 ghost use Rattle.std.specs.Prelude.{◌≡◌, ◌+◌, ◌^◌, ◌<◌, true, false, length, take, drop, IsTrue, IfOk, OnOk};
-ghost use Rattle.olr_log.specs.Texts.{is_own};
+ghost use Rattle.olr_log.specs.Texts.{is_native};
 ghost use Rattle.olr_log.specs.States.{Stands, is_broken_in, is_ready_in};
 ghost use Rattle.olr_log.specs.Reads.{OnlyReads};
 ghost use Rattle.olr_log.specs.Scanning.{Scanned};
@@ -18,7 +18,7 @@ pub fn begins_own<D: Disk>(disk: &mut D, len: usize) -> io::Result<bool>
     requires { IsTrue (D.Disk.is_usable disk.old) }
     ensures reads { OnlyReads D.Disk disk.old disk.new }
     ensures some { IfOk result (λ b. b ≡ true → 0 < len) }
-    ensures own { IfOk result (λ b. D.Disk.is_clean disk.new ≡ true → length (D.Disk.seen disk.old) ≡ len → b ≡ is_own (D.Disk.seen disk.old)) }
+    ensures kind { IfOk result (λ b. D.Disk.is_clean disk.new ≡ true → length (D.Disk.seen disk.old) ≡ len → b ≡ is_native (D.Disk.seen disk.old)) }
 {
     if len == 0 {
         return Ok(false);
@@ -45,8 +45,7 @@ fn scan_next<D: Disk>(
     ensures text { OnOk result (Scanned scan.old (take scan.old.at (drop 1 (D.Disk.seen disk.old))) → D.Disk.is_clean disk.new ≡ true
         → Scanned scan.new (take scan.new.at (drop 1 (D.Disk.seen disk.old)))) }
 {
-    let mut block = vec![in alloc; 0u8; n]?;
-    disk.read_at(at, &mut block)?;
+    let block = read_exact(alloc, disk, at, n)?;
     scan.take(&block)?;
     Ok(())
 }
@@ -91,14 +90,17 @@ pub fn examine<D: Disk>(alloc: Global, disk: &mut D) -> io::Result<State>
     })
 }
 
-/// Reads bytes. If there are none, the disk isn't read.
-pub fn read_exact<D: Disk>(disk: &mut D, at: usize, bytes: &mut [u8]) -> io::Result<()>
+/// Reads so many bytes. If there are none, the disk isn't read.
+pub fn read_exact<D: Disk>(alloc: Global, disk: &mut D, at: usize, n: usize) -> io::Result<Vec<u8>>
     requires { IsTrue (D.Disk.is_usable disk.old) }
     ensures reads { OnlyReads D.Disk disk.old disk.new }
-    ensures bytes { OnOk result (D.Disk.is_clean disk.new ≡ true → take (length bytes.new) (drop at (D.Disk.seen disk.old)) ≡ bytes.new) }
+    ensures len { IfOk result (λ bytes. length bytes.items ≡ n) }
+    ensures bytes { IfOk result (λ bytes. D.Disk.is_clean disk.new ≡ true → bytes.items ≡ take n (drop at (D.Disk.seen disk.old))) }
 {
-    if bytes.is_empty() {
-        return Ok(());
+    let mut bytes = vec![in alloc; 0u8; n]?;
+    if n == 0 {
+        return Ok(bytes);
     }
-    disk.read_at(at, bytes)
+    disk.read_at(at, &mut bytes)?;
+    Ok(bytes)
 }

@@ -1,7 +1,7 @@
 //! The states of a log.
 
 ghost use Rattle.std.specs.Prelude.{◌≡◌};
-ghost use Rattle.olr_log.specs.States.{size_in, is_own_in, is_broken_in};
+ghost use Rattle.olr_log.specs.States.{size_in, is_native_in, is_broken_in};
 
 /// How a log stands. Lengths are in bytes.
 #[derive(Clone, Copy)]
@@ -27,8 +27,8 @@ pub enum State {
 }
 
 impl State {
-    pub fn is_own(self) -> bool
-        ensures { result ≡ is_own_in self }
+    pub fn is_native(self) -> bool
+        ensures { result ≡ is_native_in self }
     {
         !matches!(self, State::Foreign { .. })
     }

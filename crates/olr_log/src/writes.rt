@@ -1,6 +1,6 @@
 //! Writes that are synced.
 
-ghost use Rattle.std.specs.Prelude.{◌≡◌, ◌+◌, ◌-◌, ◌^◌, ◌<◌, ◌≤◌, true, false, length, IsTrue, IfOk, OnOk};
+ghost use Rattle.std.specs.Prelude.{◌≡◌, ◌+◌, ◌-◌, ◌^◌, ◌<◌, ◌≤◌, ◌∷◌, true, false, length, IsTrue, IfOk, OnOk};
 ghost use Rattle.sqlite_disk.specs.Disk.{Holds, Torn, Mixed, Cut, Follows, Only};
 ghost use Rattle.olr_log.specs.Texts.{counts, ends_blank};
 ghost use Rattle.olr_log.specs.Files.{KeepsFirst, IsBlank, text_in};
@@ -91,6 +91,17 @@ pub fn blank<D: Disk>(disk: &mut D, from: usize, to: usize) -> io::Result<()>
     disk.sync()
 }
 
+/// Writes an empty line and a text, whatever the file held.
+fn write_text<D: Disk>(disk: &mut D, text: &[u8]) -> io::Result<()>
+    requires { IsTrue (D.Disk.is_usable disk.old) }
+    ensures usable { OnOk result (IsTrue (D.Disk.is_usable disk.new)) }
+    ensures seen { OnOk result (D.Disk.seen disk.new ≡ 10 ∷ text.now) }
+{
+    disk.set_len(0)?;
+    disk.write_at(0, b"\n")?;
+    disk.write_at(1, text)
+}
+
 /// Writes the program's own file with this text, whatever the file held, and syncs. Returns its length.
 #[inline(never)]
 pub fn fill<D: Disk>(disk: &mut D, text: &[u8]) -> io::Result<usize>
@@ -99,15 +110,12 @@ pub fn fill<D: Disk>(disk: &mut D, text: &[u8]) -> io::Result<usize>
     ensures stands { IfOk result (λ n. Stands D.Disk disk.new (State.Ready (length text.now) n)) }
     ensures stored { OnOk result (text_in (length text.now) (D.Disk.seen disk.new) ≡ text.now) }
 {
-    let end = text
+    let len = text
         .len()
-        .checked_add(1)
+        .checked_add(1 + BLOCK)
         .ok_or(io::ErrorKind::FileTooLarge)?;
-    let len = end.checked_add(BLOCK).ok_or(io::ErrorKind::FileTooLarge)?;
-    disk.set_len(0)?;
-    disk.write_at(0, b"\n")?;
-    disk.write_at(1, text)?;
-    disk.write_at(end, &[b'\r'; BLOCK])?;
+    write_text(disk, text)?;
+    disk.write_at(text.len() + 1, &[b'\r'; BLOCK])?;
     disk.sync()?;
     Ok(len)
 }

@@ -1,6 +1,7 @@
 use Rattle.olr_input.proofs.Common.{◌∙◌, ◌<◌, ◌==◌, ◌++◌, ◌∷◌, [], ℕ, length, take, sym, ap, arith, vec_len, length-append}
 use Rattle.olr_input.proofs.Common.{if◌then◌else◌, join_with_byte, fields_of, is_clean}
 use Rattle.olr_input.proofs.StoredLines.{text_more, clean_more, unclean, lines_stay}
+use Rattle.std.proofs.lemmas.Grind.{common_steps}
 use Rattle.olr_input.proofs.unstored.push_line.Goals as goal
 
 pub returns-then-not-is_clean-clause-front : goal.returns-then-not-is_clean-clause-front
@@ -33,3 +34,9 @@ loop-i-preserved c =
       clean_more fs i less c.loop-i.invariant.2 (sym (ap is_clean c.field-field.ensures) ∙ sym c.push_bytes-longer.ensures.clean
           ∙ c.if-not-is_clean.false),
     )
+
+pub returns-then-capacity-len-clause-front : goal.returns-then-capacity-len-clause-front
+returns-then-capacity-len-clause-front c = grind (arith, common_steps)
+
+pub returns : goal.returns
+returns c = grind (arith, common_steps)

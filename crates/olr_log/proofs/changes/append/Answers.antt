@@ -2,7 +2,7 @@ use Rattle.olr_log.proofs.Common.{◌≡◌, length, append-nil, IsFront, is_who
 use Rattle.olr_log.proofs.Common.{◌+◌, ◌-◌, ◌≤◌, List, ℕ, [], ◌++◌, true, refl, sym, ◌∙◌, ap, arith, not, Mixed, Ready}
 use Rattle.std.proofs.lemmas.Bool.{and_from, not_from_false}
 use Rattle.olr_log.proofs.Crashes.{Leaves, leaves_stored, leaves_next}
-use Rattle.olr_log.proofs.OwnTexts.{keeps_stopped, mixed_text, padded_behind, padded_more}
+use Rattle.olr_log.proofs.NativeTexts.{keeps_stopped, mixed_text, padded_behind, padded_more}
 use Rattle.olr_log.proofs.Padding.{keeps_take, text_more, text_same, torn_keeps, written_reach}
 use Rattle.olr_log.proofs.changes.append.Given.{Over}
 use Rattle.olr_log.proofs.changes.append.Goals.{After-put}

@@ -1,6 +1,6 @@
 use Rattle.olr_log.proofs.Common.{◌≡◌, ◌+◌, sym, ◌∙◌, on_ok_weaker, Cut, text_in}
 use Rattle.olr_log.proofs.Crashes.{leaves_next}
-use Rattle.olr_log.proofs.OwnTexts.{cut_text, cut_twice_text, cut_twice_file}
+use Rattle.olr_log.proofs.NativeTexts.{cut_text, cut_twice_text, cut_twice_file}
 use Rattle.olr_log.proofs.changes.cut_off.Goals as goal
 
 pub returns-in_err-cut-clause-cut : goal.returns-in_err-cut-clause-cut

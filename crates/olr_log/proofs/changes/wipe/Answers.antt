@@ -1,7 +1,7 @@
 use Rattle.olr_log.proofs.Common.{rules, ◌≡◌, ◌+◌, ◌≤◌, max, List, ℕ, [], ◌∷◌, length, true, refl, sym, ◌∙◌, arith, Mixed}
 use Rattle.olr_log.proofs.Common.{text_in, IsPadded, KeepsFirst, Opened}
 use Rattle.olr_log.proofs.Crashes.{Leaves, leaves_stored, leaves_next}
-use Rattle.olr_log.proofs.OwnTexts.{first_wiped, keeps_stopped, once_has, once_next, once_text, wiped}
+use Rattle.olr_log.proofs.NativeTexts.{first_wiped, keeps_stopped, once_has, once_next, once_text, wiped}
 use Rattle.olr_log.proofs.changes.wipe.Given.{Over}
 use Rattle.olr_log.proofs.changes.wipe.Goals.{After-blank, In_ok-blank}
 use Rattle.olr_log.proofs.changes.wipe.Goals as goal

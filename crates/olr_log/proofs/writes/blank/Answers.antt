@@ -1,6 +1,9 @@
-use Rattle.olr_log.proofs.Common.{rules, ◌≡◌, ◌+◌, ◌-◌, ◌≤◌, ◌<◌, ℕ, length, take, ◌∙◌, subst, arith, IsBlank}
+use Rattle.olr_log.proofs.Common.{rules, ◌≡◌, ◌+◌, ◌-◌, ◌≤◌, ◌<◌, ℕ, length, min, take, ◌∙◌, subst, sym, arith, IsBlank}
 use Rattle.olr_log.proofs.Padding.{carriage_returns, KeepsFirst-trans, Torn-within, torn_keeps, blank_more, returns_at, returns_taken}
 use Rattle.olr_log.proofs.writes.blank.Goals as goal
+
+within_range : (from at n to size : ℕ) → size ≡ n → n ≡ min 65536 (to - at) → from ≤ at → at ≤ to → at + size ≤ from + (to - from)
+within_range from at n to size same least low within = omega arith
 
 pub loop-at-preserved : goal.loop-at-preserved
 loop-at-preserved g c =
@@ -24,9 +27,19 @@ loop-at-preserved g c =
       low = omega (arith, so_far.low);
       within = omega (arith, high, so_far.within);
       blank = λ _. subst (λ (m : ℕ). IsBlank from (at + m) after) size (blank_more from at bytes before after so_far.low so_far.blank all holds c.write_at.ensures.others);
-      others = Torn-within from (c.args.to - from) at (length bytes) (disk.seen c.args.disk.now) before after so_far.low (omega (arith, size, high, so_far.low, so_far.within)) so_far.others c.write_at.ensures.others;
+      others = Torn-within from (c.args.to - from) at (length bytes) (disk.seen c.args.disk.now) before after so_far.low (within_range from at n c.args.to _ size c.min-n.ensures so_far.low so_far.within) so_far.others c.write_at.ensures.others;
       crash = λ text left.
           let step = c.write_at.ensures.crash text left in
           let start = so_far.crash step.0 step.1 in
           (start.0, start.1, KeepsFirst-trans from start.0 step.0 text start.2 (torn_keeps from at (length bytes) step.0 text so_far.low step.2));
     }
+
+pub returns-in_err-write_at-clause-others : goal.returns-in_err-write_at-clause-others
+returns-in_err-write_at-clause-others g c =
+    let so_far = c.loop-at.invariant in
+    let size = returns_taken c.min-n.result 65536 (search rules) in
+    let fits = within_range c.args.from c.loop-at.at _ c.args.to _ size c.min-n.ensures so_far.low so_far.within in
+    Torn-within c.args.from _ c.loop-at.at _ _ _ _ so_far.low fits so_far.others c.write_at.ensures.others
+
+pub slice_bounds-write_at-end : goal.slice_bounds-write_at-end
+slice_bounds-write_at-end g c = sym (returns_taken c.min-n.result 65536 (search rules))

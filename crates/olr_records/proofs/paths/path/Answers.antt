@@ -1,5 +1,5 @@
 use Rattle.olr_records.proofs.Common.{⊤, fields_of, Path, Field, amount, name, numbers, Gathers, rules, arith, ℕ, List, drop}
-use Rattle.olr_records.proofs.Common.{subst, string_bytes}
+use Rattle.olr_records.proofs.Common.{subst, string_bytes, common_steps}
 use Rattle.olr_records.proofs.LoopLemmas.{at}
 use Rattle.olr_records.proofs.PartLemmas.{Part, of_field, made, joins, passed_on}
 use Rattle.olr_records.proofs.FormLemmas.{path-fields}
@@ -20,3 +20,6 @@ returns-in_err-name c =
     rw (path-fields fs (omega arith))
     (passed_on _ c.from_residual.result c.in_err-name.field-0.0 c.in_err-name.was (search rules)
     (joins (λ _. ⊤) c.both.ensures offset lines (λ g b h. tt) (λ a b h. tt)))
+
+pub returns : goal.returns
+returns c = grind (arith, common_steps)

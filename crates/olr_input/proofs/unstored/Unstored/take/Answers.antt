@@ -1,6 +1,7 @@
-use Rattle.olr_input.proofs.Common.{◌≡◌, ◌∙◌, ◌++◌, true, rules, fields_of, has_line, is_clean, line_of, word_effect, join_with_byte}
+use Rattle.olr_input.proofs.Common.{arith, ◌≡◌, ◌∙◌, ◌++◌, true, rules, fields_of, has_line, is_clean, line_of, word_effect, join_with_byte}
 use Rattle.olr_input.proofs.StoredLines.{line_for}
 use Rattle.olr_input.proofs.Parts.{added_lines, ended, stays, taken_next, taken_waits}
+use Rattle.std.proofs.lemmas.Grind.{common_steps}
 use Rattle.olr_input.proofs.unstored.Unstored.take.Goals as goal
 
 pub keep-requires : goal.keep-requires
@@ -38,3 +39,6 @@ returns-else-branch-clause-waiting c =
     let u = c.keep.new.self in
     taken_waits c.args.self.now.right _ u.lines.items c.add_line.new.text.items u.ready u.held c.in_ok-add_line.ensures.line
     c.keep.ensures.lines c.keep.ensures.lengths
+
+pub returns-then-branch-clause-line : goal.returns-then-branch-clause-line
+returns-then-branch-clause-line c = grind (arith, common_steps)

@@ -1,7 +1,7 @@
 use Rattle.olr_log.proofs.Common.{◌∙◌, inr, sym, ap, refl, subst, List, ℕ, IsPaddedText, is_broken_in, stored_in, State, Opened}
 use Rattle.olr_log.proofs.Common.{Ready}
 use Rattle.olr_log.proofs.Crashes.{left_stored, only_stored, stands_as}
-use Rattle.olr_log.proofs.OwnTexts.{padded_text}
+use Rattle.olr_log.proofs.NativeTexts.{padded_text}
 use Rattle.olr_log.proofs.log_file.LogFile.wipe_rest.Goals as goal
 
 pub returns-in-Ready-clause-padded : goal.returns-in-Ready-clause-padded

@@ -3,22 +3,22 @@ use Rattle.olr_log.proofs.Common.{◌≡◌, ◌⊎◌, inl, inr, ⊎_elim, ℕ,
 use Rattle.olr_log.proofs.Common.{length, take, drop, get_or, replicate, refl, sym, ◌∙◌, ap, subst, arith, length-drop}
 use Rattle.olr_log.proofs.Common.{take-append-drop, cases_lt, cases_eq, cond-true, cond-false, eqb-true, append-nil, take_all}
 use Rattle.olr_log.proofs.Common.{get_or-take, get_or-drop, get_or-replicate, length-take-le, length-replicate, drop_more}
-use Rattle.olr_log.proofs.Common.{same_number_lists, Holds, Torn, Mixed, Cut, IsFront, counts, is_own, text_in, HasText}
+use Rattle.olr_log.proofs.Common.{same_number_lists, Holds, Torn, Mixed, Cut, IsFront, counts, is_native, text_in, HasText}
 use Rattle.olr_log.proofs.Common.{IsFound, IsPadded, IsPaddedText, KeepsFirst, IsBlank}
 use Rattle.olr_log.specs.Texts.{recovered, text_of}
 use Rattle.olr_log.proofs.Fronts.{counts_append, recovered_append, recovered_counts, recovered_stop, recovered_same, recovered_spotted, short_none, spotted_from}
 use Rattle.olr_log.proofs.Behind.{returns_from}
 use Rattle.olr_log.proofs.Padding.{carriage_returns, first_bytes, torn_keeps, keeps_take, written_front, written_reach, text_from, blank_more}
 
-own_head : (file : List ℕ) → is_own file ≡ true → file ≡ 10 ∷ drop 1 file
-own_head [] own = absurd (cc own)
-own_head (b ∷ bs) own = ap (λ (x : ℕ). x ∷ bs) (eqb-true b 10 own)
+native_head : (file : List ℕ) → is_native file ≡ true → file ≡ 10 ∷ drop 1 file
+native_head [] kind = absurd (cc kind)
+native_head (b ∷ bs) kind = ap (λ (x : ℕ). x ∷ bs) (eqb-true b 10 kind)
 
 pub text_is : (n : ℕ) (file : List ℕ) → HasText n file → text_of file ≡ text_in n file
 unfolding text_of
-text_is n file has = cond-true _ _ _ has.own ∙ has.text
+text_is n file has = cond-true _ _ _ has.kind ∙ has.text
 
-pub foreign_text : (file : List ℕ) → is_own file ≡ false → text_of file ≡ file
+pub foreign_text : (file : List ℕ) → is_native file ≡ false → text_of file ≡ file
 unfolding text_of
 foreign_text file foreign = cond-false _ _ _ foreign
 
@@ -29,7 +29,7 @@ text_counts n file has = ap counts (sym has.text) ∙ recovered_counts (drop 1 f
 pub text_front : (n : ℕ) (file : List ℕ) → HasText n file → take (n + 1) file ≡ 10 ∷ text_in n file
 text_front n file has =
     let e : n + 1 ≡ suc n = omega arith in
-    ap (λ (x : List ℕ). take (n + 1) x) (own_head file has.own) ∙ ap (λ (j : ℕ). take j (10 ∷ drop 1 file)) e
+    ap (λ (x : List ℕ). take (n + 1) x) (native_head file has.kind) ∙ ap (λ (j : ℕ). take j (10 ∷ drop 1 file)) e
 
 -- a file that begins with an empty line and a text that counts
 module _ (n : ℕ) (t file : List ℕ) (whole : counts t ≡ true) (front : take (n + 1) file ≡ 10 ∷ t) (within : n + 1 ≤ length file) where
@@ -44,7 +44,7 @@ module _ (n : ℕ) (t file : List ℕ) (whole : counts t ≡ true) (front : take
 
   has_text : recovered (t ++ rest) ≡ t → HasText n file
   has_text is = record {
-    own = ap is_own parts;
+    kind = ap is_native parts;
     within = within;
     text = ap (λ (x : List ℕ). recovered (drop 1 x)) parts ∙ is ∙ sym text_stored;
   }
@@ -155,7 +155,7 @@ first_wiped n file c has mixed =
     let whole = text_counts n file has in
     let front = keeps_take (n + 1) (n + 1) file c (torn_keeps (n + 1) (n + 1) 1 file c (omega arith) torn) (omega arith) has.within ∙ text_front n file has in
     let within : n + 1 ≤ length c = omega (arith, torn.no_shorter, has.within) in
-    let is : HasText n c → text_of c ≡ t = λ own. text_is n c own ∙ text_stored n t c whole front within in
+    let is : HasText n c → text_of c ≡ t = λ kind. text_is n c kind ∙ text_stored n t c whole front within in
     elim (cases_lt (n + 1) (length file)) [
       | inl more ↦
           let size : length c ≡ length file = omega (arith, torn.no_shorter, torn.no_longer) in
@@ -248,21 +248,25 @@ padded_text n file is =
     get_or-drop (n + 1) file i 0 ∙ is.returns (n + 1 + i) (omega arith) (omega (arith, size)) ∙ sym (get_or-replicate k i 13 0 (omega (arith, size)))) in
     (k, omega (arith, is.some), sym (take-append-drop (n + 1) file) ∙ ap (λ (x : List ℕ). x ++ drop (n + 1) file) (text_front n file is.text) ∙ ap (λ (x : List ℕ). 10 ∷ (text_in n file ++ x)) rest)
 
--- a file that is written anew: its first line, its text and carriage returns
-pub filled : (text none first second third : List ℕ) (end m : ℕ) → end ≡ length text + 1 → length none ≡ 0 → (0 < 1 → Holds first 0 (10 ∷ [])) → Torn 0 1 none first
-    → (0 < length text → Holds second 1 text) → Torn 1 (length text) first second → (0 < length (carriage_returns m) → Holds third end (carriage_returns m))
-    → Torn end (length (carriage_returns m)) second third → 0 < m → counts text ≡ true → IsPadded (length text) third × (text_in (length text) third ≡ text) × (length third ≡ end + m)
-filled text none first second third end m ends empty holds_1 torn_1 holds_2 torn_2 holds_3 torn_3 some whole =
-    let long_m = length-replicate {A = ℕ} m 13 in
+-- a file that is written anew: its first line and its text
+pub begun : (text none first second : List ℕ) → length none ≡ 0 → (0 < 1 → Holds first 0 (10 ∷ [])) → Torn 0 1 none first
+    → (0 < length text → Holds second 1 text) → Torn 1 (length text) first second → second ≡ 10 ∷ text
+begun text none first second empty holds_1 torn_1 holds_2 torn_2 =
     let size_1 : length first ≡ 1 = omega (arith, written_reach 0 (10 ∷ []) none first (omega arith) holds_1 torn_1, torn_1.no_longer, empty) in
-    let size_2 : length second ≡ end = omega (arith, written_reach 1 text first second (omega (arith, size_1)) holds_2 torn_2, torn_2.no_longer, size_1, ends) in
-    let blank = blank_more end end (carriage_returns m) second third (omega arith) (λ never. absurd (omega (arith, never))) (λ i low. get_or-replicate m i 13 0 (omega (arith, low, long_m))) (holds_3 (omega (arith, long_m, some))) torn_3 in
-    let size_3 : length third ≡ end + m = omega (arith, blank.reach, torn_3.no_longer, size_2, long_m) in
-    let place : end ≡ 1 + length text = omega (arith, ends) in
+    sym (take_all (1 + length text) second (omega (arith, torn_2.no_longer, size_1))) ∙ written_front 1 text first second (omega (arith, size_1)) holds_2 torn_2
+    ∙ ap (λ (x : List ℕ). x ++ text) (written_front 0 (10 ∷ []) none first (omega arith) holds_1 torn_1)
+
+-- and carriage returns
+pub filled : (text second third : List ℕ) (end m : ℕ) → end ≡ length text + 1 → second ≡ 10 ∷ text → (0 < length (carriage_returns m) → Holds third end (carriage_returns m))
+    → Torn end (length (carriage_returns m)) second third → 0 < m → counts text ≡ true → IsPadded (length text) third × (text_in (length text) third ≡ text) × (length third ≡ end + m)
+filled text second third end m ends is holds torn some whole =
+    let long_m = length-replicate {A = ℕ} m 13 in
+    let size_2 : length second ≡ end = omega (arith, ends, ap length is) in
+    let blank = blank_more end end (carriage_returns m) second third (omega arith) (λ never. absurd (omega (arith, never))) (λ i low. get_or-replicate m i 13 0 (omega (arith, low, long_m))) (holds (omega (arith, long_m, some))) torn in
+    let size_3 : length third ≡ end + m = omega (arith, blank.reach, torn.no_longer, size_2, long_m) in
     let front : take (length text + 1) third ≡ 10 ∷ text =
-    ap (λ (j : ℕ). take j third) (sym ends) ∙ keeps_take end end second third (torn_keeps end end (length (carriage_returns m)) second third (omega arith) torn_3) (omega arith) (omega (arith, size_2))
-    ∙ ap (λ (j : ℕ). take j second) place ∙ written_front 1 text first second (omega (arith, size_1)) holds_2 torn_2
-    ∙ ap (λ (x : List ℕ). x ++ text) (written_front 0 (10 ∷ []) none first (omega arith) holds_1 torn_1) in
+    ap (λ (j : ℕ). take j third) (sym ends) ∙ keeps_take end end second third (torn_keeps end end (length (carriage_returns m)) second third (omega arith) torn) (omega arith) (omega (arith, size_2))
+    ∙ take_all end second (omega (arith, size_2)) ∙ is in
     let long : length text + 1 < length third = omega (arith, size_3, ends) in
     let byte : (i : ℕ) → length text + 1 ≤ i → i < length third → get_or third i 0 ≡ 13 = λ i above below. blank.each i (omega (arith, ends)) (omega (arith, size_3)) in (
       padded (length text) text third whole front (omega arith) long byte,

@@ -1,0 +1,6 @@
+use Rattle.olr_log.proofs.Common.{arith}
+use Rattle.std.proofs.lemmas.Grind.{common_steps}
+use Rattle.olr_log.proofs.log_file.LogFile.text.Goals as goal
+
+pub returns-clause-text : goal.returns-clause-text
+returns-clause-text g c = grind (arith, common_steps)
