@@ -1,10 +1,10 @@
 -- The ranges of coordinates, and of coordinates between two others.
-use Rattle.olr_spec.proofs.Common.{◌≡◌, ℕ, ◌+◌, ◌-◌, ◌*◌, ◌≤◌, ℤ, pos, negsuc, ◌+ℤ◌, ◌-ℤ◌, ◌*ℤ◌, IsTrue, to_z, of_z, ap}
+use Rattle.olr_spec.proofs.Common.{◌≡◌, ℕ, ◌+◌, ◌-◌, ◌*◌, ◌^◌, ◌≤◌, ℤ, pos, negsuc, ◌+ℤ◌, ◌-ℤ◌, ◌*ℤ◌, IsTrue, to_z, of_z, ap}
 use Rattle.olr_spec.proofs.Common.{arith, Width, w64, w128, FitsSigned, to_z-of_z, subst, sym, ints, and_parts, Coord}
 use Rattle.olr_spec.proofs.Common.{is_coord, thousandths}
 use Rattle.olr_spec.proofs.BytesLemmas.{bounds}
 use Rattle.olr_bearing.specs.Ranges.{IsWithin, IsPart, IsBoundary, degree_units}
-use Rattle.olr_bearing.proofs.Products.{natural_product_within, times_sum, sum_times}
+use Rattle.olr_bearing.proofs.Products.{natural_product_within, product_within, same_product, times_sum, sum_times}
 
 -- the value of a number in an integer type
 abbrev pub held : Width → ℤ → ℤ
@@ -19,6 +19,34 @@ part_held z h = to_z-of_z w128 z (omega (arith, ints, h.0, h.1))
 
 pub boundary_held : (z : ℤ) → IsBoundary z → held w128 z ≡ z
 boundary_held z h = to_z-of_z w128 z (omega (arith, ints, h.0, h.1))
+
+-- ---- numbers of the code: x is z, and at most b either way
+
+pub record Is (b : ℕ) (z x : ℤ) : Type 0 where
+  pub same : held w128 x ≡ z
+  pub within : IsWithin b z
+
+pub record Fits (b : ℕ) (z x : ℤ) : Type 0 where
+  pub fits : FitsSigned w128 x
+  pub is : Is b z x
+
+pub known : (b : ℕ) (z x : ℤ) → b ≤ 2 ^ 126 → x ≡ z → IsWithin b z → Fits b z x
+known b z x h e g = record { fits = omega (arith, ints); is = record { same = omega (arith, ints); within = g } }
+
+pub product : (m b : ℕ) (w f x y : ℤ) → m * b ≤ 2 ^ 126 → Is m w x → Is b f y →
+    Fits (m * b) (w *ℤ f) (held w128 x *ℤ held w128 y)
+product m b w f x y h p q =
+    known (m * b) _ _ h (same_product _ _ _ _ p.same q.same) (product_within m b w f p.within q.within)
+
+pub sum : (m b : ℕ) (w f x y : ℤ) → m + b ≤ 2 ^ 126 → Is m w x → Is b f y →
+    Fits (m + b) (w +ℤ f) (held w128 x +ℤ held w128 y)
+sum m b w f x y h p q =
+    known (m + b) _ _ h (cc) (omega (arith, ints, p.within.0, q.within.0), omega (arith, ints, p.within.1, q.within.1))
+
+pub difference : (m b : ℕ) (w f x y : ℤ) → m + b ≤ 2 ^ 126 → Is m w x → Is b f y →
+    Fits (m + b) (w -ℤ f) (held w128 x -ℤ held w128 y)
+difference m b w f x y h p q =
+    known (m + b) _ _ h (cc) (omega (arith, ints, p.within.0, q.within.1), omega (arith, ints, p.within.1, q.within.0))
 
 -- ---- coordinates
 

@@ -1,6 +1,6 @@
 //! Sectors with a margin of a quarter of a sector on both sides.
 ghost use Rattle.std.specs.Prelude.{◌≡◌, ◌<◌, slice_index_or};
-ghost use Rattle.olr_spec.specs.Bearings.{beyond, vector};
+ghost use Rattle.olr_spec.specs.Bearings.{beyond, quarter_turn, vector};
 ghost use Rattle.olr_spec.specs.Directions.{first_after, first_before, is_beyond, is_direction};
 ghost use Rattle.olr_bearing.specs.Ranges.{HasBoundaryParts, HasParts};
 ghost use Rattle.olr_bearing.specs.Turned.{nowhere, turned};
@@ -86,14 +86,20 @@ fn turned(direction: Direction, quarters: u8) -> Direction
     ensures value { result ≡ turned quarters direction }
     ensures in_range { HasBoundaryParts result }
 {
-    let Direction { east, north } = direction;
     match quarters {
         0 => direction,
-        1 => at(north, -east),
-        2 => Direction {
-            east: -east,
-            north: -north,
-        },
-        _ => at(-north, east),
+        1 => quarter_turn(direction),
+        2 => quarter_turn(quarter_turn(direction)),
+        _ => quarter_turn(quarter_turn(quarter_turn(direction))),
     }
+}
+
+/// A direction after a quarter turn to the right.
+fn quarter_turn(direction: Direction) -> Direction
+    requires { HasBoundaryParts direction }
+    ensures value { result ≡ quarter_turn direction }
+    ensures in_range { HasBoundaryParts result }
+{
+    let Direction { east, north } = direction;
+    at(north, -east)
 }

@@ -16,6 +16,11 @@ pub made_ok : (M : Map) (c : TableChange) → IsOk (edited M (change_edit c)) �
     edited M (change_edit c) ≡ Ok (map_after M c)
 made_ok M c h = ok_is (edited M (change_edit c)) M h
 
+-- once more capacity was reserved, and the change for an accepted edit was made
+pub edit_made : (M M' N : Map) (e : map.Edit) (c : TableChange) → IsOk (edited M e) → M' ≡ M → change_edit c ≡ e →
+    N ≡ map_after M' c → edited M e ≡ Ok N
+edit_made M M' N e c h same is made = grind (arith, common_steps, made_ok M c)
+
 -- what an accepted edit, or the edit of an accepted change, says of the map
 pub made_from : (M : Map) (e : map.Edit) → IsOk (edited M e) → Made M e (result_unwrap_or (edited M e) M)
 made_from M e h = made_by M (result_unwrap_or (edited M e) M) e (ok_is (edited M e) M h)

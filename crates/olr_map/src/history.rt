@@ -186,7 +186,6 @@ impl RoadMap {
 
     /// Makes an edit that was judged on this map. An error leaves the map as it was, and is returned only for an edit
     /// that adds or removes a node or a line. What it returns must be spent by `undo` or by `keep`.
-    #[tactic(auto, using(crate::proofs::Verdicts::plan_slots, crate::proofs::Verdicts::slots_reserved, crate::proofs::Making::made_ok))]
     pub fn make(&mut self, edit: Edit, plan: &EditPlan) -> Result<Undo, AllocError>
         requires { IsEditPlan (map_of self.old) (slot_of self.old) (edit_of edit) plan.now }
         ensures done { OnOk result (edited (map_of self.old) (edit_of edit) ≡ Ok (map_of self.new)) }
@@ -251,7 +250,6 @@ impl RoadMap {
 
     /// Makes an edit that `judge` accepted on this map, and appends its undo record to a log. If an allocation fails,
     /// map and log are unchanged.
-    #[tactic(auto, using(crate::proofs::Verdicts::plan_slots, crate::proofs::Verdicts::slots_reserved, crate::proofs::Making::made_ok))]
     pub fn make_into(
         &mut self,
         edit: Edit,

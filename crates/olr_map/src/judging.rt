@@ -39,7 +39,9 @@ pub fn judge<M: MapRead>(map: &M, edit: &Edit) -> Result<EditPlan, EditFault>
             Ok(node_plan(*id, 0))
         }
         Edit::MoveNode(id, place) => {
-            let at = map.slot_of(*id).ok_or(EditFault::NoNode)?;
+            let Some(at) = map.slot_of(*id) else {
+                return Err(EditFault::NoNode);
+            };
             let _latitude = place.lat();
             Ok(node_plan(*id, at))
         }
@@ -52,7 +54,9 @@ pub fn judge<M: MapRead>(map: &M, edit: &Edit) -> Result<EditPlan, EditFault>
             len,
             shape,
         } => {
-            let was = map.line(*id).ok_or(EditFault::NoLine)?;
+            let Some(was) = map.line(*id) else {
+                return Err(EditFault::NoLine);
+            };
             if !has_good_fields(*frc, *fow, *len, shape) {
                 return Err(EditFault::BadShape);
             }
@@ -60,20 +64,23 @@ pub fn judge<M: MapRead>(map: &M, edit: &Edit) -> Result<EditPlan, EditFault>
             Ok(line_plan(map, *id, was, least, was.len != *len))
         }
         Edit::DropLine(id) => {
-            let was = map.line(*id).ok_or(EditFault::NoLine)?;
+            let Some(was) = map.line(*id) else {
+                return Err(EditFault::NoLine);
+            };
             Ok(line_plan(map, *id, was, was.len, true))
         }
     }
 }
 
 /// A node can be removed only if it is on the map and no line uses it.
-#[tactic(auto, using(crate::proofs::Using::unused_by_lists, crate::proofs::Using::used_by_out, crate::proofs::Using::used_by_in, crate::proofs::Using::drop_taken, crate::proofs::Using::drop_refused, std::proofs::lemmas::Grind::common_steps))]
 fn judge_node_dropped<M: MapRead>(map: &M, id: NodeId) -> Result<EditPlan, EditFault>
     ensures fault { MatchResult (edited (M.map map.now) (Drop_node id))
         (λ _. IsOk result) (λ f. result ≡ Err (edit_fault_of f)) }
     ensures plan { IfOk result (IsEditPlan (M.map map.now) (M.node_slot map.now) (Drop_node id)) }
 {
-    let at = map.slot_of(id).ok_or(EditFault::NoNode)?;
+    let Some(at) = map.slot_of(id) else {
+        return Err(EditFault::NoNode);
+    };
     if !map.out_lines_at(at).lines.is_empty() || !map.in_lines_at(at).lines.is_empty() {
         return Err(EditFault::NodeInUse);
     }
@@ -89,8 +96,12 @@ fn judge_line_added<M: MapRead>(map: &M, id: LineId, line: &Line) -> Result<Edit
     if map.line(id).is_some() {
         return Err(EditFault::LineExists);
     }
-    let from = map.slot_of(line.from).ok_or(EditFault::NoNode)?;
-    let to = map.slot_of(line.to).ok_or(EditFault::NoNode)?;
+    let Some(from) = map.slot_of(line.from) else {
+        return Err(EditFault::NoNode);
+    };
+    let Some(to) = map.slot_of(line.to) else {
+        return Err(EditFault::NoNode);
+    };
     if !line.is_good() {
         return Err(EditFault::BadShape);
     }

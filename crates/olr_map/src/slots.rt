@@ -72,7 +72,6 @@ impl NodeSlots {
     }
 
     /// The numbers of all nodes, in the order of their slots.
-    #[tactic(auto, using(crate::proofs::AllIds::ids_more))]
     pub fn ids(&self, alloc: Global) -> Result<Vec<NodeId>, AllocError>
         ensures { IfOk result (λ ids. ids.items ≡ present (slots_of self.now.ids)) }
     {
@@ -126,7 +125,6 @@ impl NodeSlots {
     }
 
     /// Stores a node in a free slot, and returns the slot.
-    #[tactic(auto, using(crate::proofs::ColumnLemmas::stays_beside))]
     pub fn put(&mut self, id: NodeId, place: Coord, outs: Links, ins: Links) -> u32
         requires { 0 < node_room self.old }
         ensures inserts { IsInserted (node_slots self.old) (node_slots self.new) result

@@ -2,6 +2,8 @@ use Rattle.olr_map.proofs.Common.{◌∷◌, List, ◌∙◌, ap, sym, subst, ar
 use Rattle.olr_map.proofs.Common.{node_numbers, line_numbers, log_changes}
 use Rattle.olr_map.proofs.Capacity.{within_trans}
 use Rattle.olr_map.proofs.Log.{one_more, all_on}
+use Rattle.olr_map.proofs.Making.{edit_made}
+use Rattle.olr_map.proofs.Verdicts.{plan_slots, slots_reserved}
 use Rattle.olr_map.proofs.road_map.RoadMap.make_into.Goals as goal
 
 pub returns-clause-can_undo : goal.returns-clause-can_undo
@@ -35,3 +37,16 @@ returns-in_err-make_room-clause-can_undo c =
           c.make_room.ensures.same.map c.make_room.ensures.same.more c.requires.log.0),
       record { nodes = omega arith; lines = omega arith },
     )
+
+pub make_room-requires-clause-slots : goal.make_room-requires-clause-slots
+make_room-requires-clause-slots c = plan_slots c.args.self.now _ _ c.requires.plan
+
+pub make_change-back-requires-clause-slots : goal.make_change-back-requires-clause-slots
+make_change-back-requires-clause-slots c =
+    slots_reserved _ _ _ _ _ c.make_room.ensures.same c.change_for-change.ensures.same
+    (plan_slots c.args.self.now _ _ c.requires.plan)
+
+pub returns-clause-done : goal.returns-clause-done
+returns-clause-done c =
+    edit_made _ _ _ _ _ c.requires.plan.accepted c.make_room.ensures.same.map c.change_for-change.ensures.same
+    c.make_change-back.ensures.made.changed.map
