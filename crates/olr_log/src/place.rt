@@ -24,7 +24,7 @@ const IO_ERROR: i32 = 5;
 pub type HostDisk<S> = Modelled<HostFile, S>;
 
 /// Why a log can't be opened.
-#[derive(Clone, Copy)]
+#[derive(Clone, Copy, Debug)]
 pub enum OpenError {
     /// There is no such file.
     Missing,
