@@ -20,7 +20,7 @@ use olr_coords::Coord;
 use olr_model::{Line, LineId, MapRead, NodeId};
 
 /// Which lines are the candidates of an LRP.
-#[derive(Clone, Copy, Debug, PartialEq, Eq)]
+#[derive(Clone, Copy, PartialEq, Eq)]
 pub enum Side {
     /// Those that leave their node.
     Outgoing,

@@ -1,6 +1,5 @@
 -- A list has no duplicates exactly if its numbers, sorted, are strictly increasing.
-use Rattle.std.proofs.Common.{◌≡◌, ℕ, ◌+◌, ◌<◌, true, false, List, [], ◌∷◌, length, get_or, eqb, IsPermutation, refl, ◌∙◌}
-use Rattle.std.proofs.Common.{arith}
+use Rattle.std.proofs.Common.{IsPermutation, length, get_or, false, arith, true, List, refl, ◌≡◌, ◌+◌, ◌<◌, ◌∷◌, eqb, ◌∙◌, [], ℕ}
 use Rattle.std.specs.List.{IsDistinct, AllByRecursion}
 use Rattle.std.specs.List.Sorted.{IsSorted}
 use Rattle.std.specs.Cmp.{nat_eq_equiv}

@@ -3,7 +3,7 @@
 use olr_model::{LineId, NodeId};
 
 /// An ambiguity at a location reference point (LRP).
-#[derive(Clone, Copy, Debug, PartialEq, Eq)]
+#[derive(Clone, Copy, PartialEq, Eq)]
 pub enum Obstacle {
     /// Another line at its node with the same class, form and sector.
     SameSector(LineId),
@@ -14,7 +14,7 @@ pub enum Obstacle {
 }
 
 /// An ambiguity, and at which LRP it is, counted from 0.
-#[derive(Clone, Copy, Debug, PartialEq, Eq)]
+#[derive(Clone, Copy, PartialEq, Eq)]
 pub struct Found {
     /// The number of the LRP.
     pub lrp: usize,

@@ -18,7 +18,7 @@ pub enum Refusal {
 }
 
 /// What is published of a path.
-#[derive(Drop, Debug)]
+#[derive(Drop)]
 pub enum Answer {
     /// Its reference.
     Points(Reference),

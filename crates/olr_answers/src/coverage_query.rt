@@ -5,7 +5,7 @@ use olr_model::NodeId;
 use std::marker::Model;
 
 /// A coverage query: a search of an encoding, which finds how far the lines after an LRP are the unique shortest path.
-#[derive(Clone, Copy, Debug, PartialEq, Eq)]
+#[derive(Clone, Copy, PartialEq, Eq)]
 pub struct CoverageQuery {
     /// The node where it begins: the end of the line of the location reference point (LRP).
     pub from: NodeId,
@@ -26,7 +26,7 @@ impl Model for CoverageQuery {
 
 /// A coverage query along a path's own lines, and its positions in them. On another map it is right as well where the
 /// changes between the maps offer no detour that is as short: then it is not searched again.
-#[derive(Clone, Copy, Debug, PartialEq, Eq)]
+#[derive(Clone, Copy, PartialEq, Eq)]
 pub struct KnownQuery {
     /// The query.
     pub query: CoverageQuery,

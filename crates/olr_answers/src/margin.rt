@@ -12,7 +12,7 @@ const LEAST_CLASS: u8 = 7;
 /// How much longer the lines between two location reference points (LRPs) count where it is tested whether they are the
 /// unique shortest route, and by how many classes the lowest class to the next LRP (LFRCNP) is less important than that
 /// of the leg.
-#[derive(Clone, Copy, Debug, PartialEq, Eq)]
+#[derive(Clone, Copy, PartialEq, Eq)]
 pub struct Margin {
     routes: u32,
     classes: u8,

@@ -33,7 +33,7 @@ impl From<AllocError> for PathFault {
 
 /// 1 to 10,000 lines, none twice, in the order of travel, and the two offsets: the length that is cut off at the start,
 /// from the first line on, and the length that is cut off at the end, from the last line back.
-#[derive(Drop, Debug)]
+#[derive(Drop)]
 pub struct Path {
     lines: Vec<LineId>,
     pos: u32,

@@ -4,7 +4,7 @@ use olr_answers::Margin;
 use olr_model::{Edit, LineId, NodeId};
 
 /// A command. In records a name has 1 to 64 bytes; here it may be any text.
-#[derive(Drop, Debug)]
+#[derive(Drop)]
 pub enum Command {
     /// An edit of the map.
     Edit(Edit),

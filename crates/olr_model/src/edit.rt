@@ -6,7 +6,7 @@ use olr_coords::Coord;
 use thiserror::Error;
 
 /// An edit of a map.
-#[derive(Drop, Debug)]
+#[derive(Drop)]
 pub enum Edit {
     /// Adds a node at a coordinate.
     AddNode(NodeId, Coord),

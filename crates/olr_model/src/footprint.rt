@@ -9,7 +9,7 @@ use std::alloc::{AllocError, Global};
 use std::marker::Model;
 
 /// A set of node numbers, stored and returned in ascending order.
-#[derive(Drop, Debug)]
+#[derive(Drop)]
 pub struct Footprint {
     nodes: Vec<NodeId>,
 }

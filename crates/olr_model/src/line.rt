@@ -15,7 +15,7 @@ pub const GREATEST_LEN: u32 = 1_000_000;
 pub const MOST_SHAPE_POINTS: usize = 1000;
 
 /// A shape point: a coordinate of a line between its two ends.
-#[derive(Clone, Copy, Debug, PartialEq, Eq)]
+#[derive(Clone, Copy, PartialEq, Eq)]
 pub struct Shape {
     /// The distance from the start of the line, along the line, in decimetres.
     pub at: u32,
@@ -32,7 +32,7 @@ impl Model for Shape {
 }
 
 /// A directed line from a node to a node. A road that is used both ways is two lines.
-#[derive(Drop, Debug)]
+#[derive(Drop)]
 pub struct Line {
     /// The node where the line begins.
     pub from: NodeId,

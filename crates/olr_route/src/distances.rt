@@ -25,7 +25,7 @@ use olr_model::{LineEnd, LineId, MapRead, NodeId};
 use std::alloc::{AllocError, Global};
 
 /// Along the lines, or against them.
-#[derive(Clone, Copy, Debug, PartialEq, Eq)]
+#[derive(Clone, Copy, PartialEq, Eq)]
 pub enum Direction {
     /// From where a line begins to where it ends.
     Along,
@@ -234,7 +234,6 @@ impl Dijkstra {
 
     /// The slots of the nodes that the search has labelled, each once: those within the limit to which it is settled,
     /// and some beyond it, up to `GREATEST_LIMIT`. In no particular order.
-    #[tactic(auto, using(crate::proofs::SearchLemmas::labelled_listed, crate::proofs::SearchLemmas::near_listed, crate::proofs::SearchLemmas::listed_reached, crate::proofs::SearchLemmas::is_distance, crate::proofs::DistinctLemmas::slots_distinct))]
     pub fn labelled_slots(&self) -> &[u32]
         ensures near { (M : Map) (node_slot : ℕ → ℕ) (direction : _) (from : List (ℕ × ℕ)) (v : ℕ)
             → IsSearch M node_slot direction from self.now → LiesWithin M direction from (limit_of self.now) v
