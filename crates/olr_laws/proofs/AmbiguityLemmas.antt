@@ -10,8 +10,7 @@ use Rattle.olr_spec.proofs.Common.{list_any_at, extended_path, EncodingWith, kep
 use Rattle.olr_spec.proofs.Common.{or_right, and_from, eqb-true, ltb-true, Reference, not-false, ltb-false, LawOf}
 use Rattle.olr_spec.specs.Margins.{Margin}
 use Rattle.olr_spec.specs.Receiver.{Outgoing, Incoming, sector_on, are_twins, decoded_coord, last_number}
-use Rattle.olr_spec.specs.Recovery.{line_by, IsLineAtWith, OwnLinesWith, own_lines, Weighted, DistinctWith, lon_apart}
-use Rattle.olr_spec.specs.Recovery.{lat_apart}
+use Rattle.olr_spec.specs.Recovery.{IsLineAtWith, OwnLinesWith, DistinctWith, own_lines, lon_apart, lat_apart, Weighted, line_by}
 use Rattle.olr_spec.specs.Directions.{direction_on, is_direction, is_beyond}
 use Rattle.olr_spec.specs.Ambiguity.{least_cosine, is_farther, is_outdone_for_all, obstacles_at, obstacles_from, thousandths_up}
 use Rattle.olr_spec.specs.Ambiguity.{usual_slack, lines_on, all_nodes, is_twin_of, is_unclear, side_at, obstacles, cosine_up_to}

@@ -10,8 +10,7 @@ use Rattle.olr_spec.proofs.PartnerLemmas.{recovered_elsewhere}
 use Rattle.olr_spec.proofs.ReceiverLemmas.{line_at_point, same_path, size}
 use Rattle.olr_spec.specs.Elsewhere.{RecoversLegs}
 use Rattle.olr_spec.specs.Margins.{Margin}
-use Rattle.olr_spec.specs.Receiver.{Lrp, Outgoing, Incoming, RecoversBy, RecoversFrom, attributes, last_lrp, last_number}
-use Rattle.olr_spec.specs.Receiver.{lrp_at}
+use Rattle.olr_spec.specs.Receiver.{RecoversFrom, last_number, RecoversBy, attributes, Outgoing, Incoming, last_lrp, lrp_at, Lrp}
 use Rattle.olr_spec.specs.Recovery.{IsStretchesWith, stretches}
 use Rattle.olr_laws.specs.ReceiverLaws.{TakesOwn, ReceiverLaws}
 use Rattle.olr_laws.proofs.CommandLemmas.{path_in}

@@ -13,12 +13,12 @@ use Rattle.olr_laws.proofs.CommandLemmas.{one_outcome, outcome_keeps}
 use Rattle.olr_records.proofs.ReadLemmas.{coords_read}
 use Rattle.olr_commands.specs.Reply.{Lacks}
 use Rattle.std.specs.Prelude.{IsOkAnd}
-use Rattle.olr_run.proofs.Dumping.{step_own}
+use Rattle.olr_run.proofs.Dumping.{step_fault}
 use Rattle.olr_commands.specs.Dump.{steps_then, steps}
 use Rattle.olr_laws.specs.RunLaws.{RunLaws}
 use Rattle.olr_commands.proofs.HistoryLemmas.{start_sound}
 use Rattle.olr_commands.proofs.StateLemmas.{steps_keep}
-use Rattle.olr_log.specs.Logs.{stored_of, left_of, is_own_of}
+use Rattle.olr_log.specs.Logs.{stored_of, left_of, is_native_of}
 use Rattle.olr_log.specs.declared.log_file.LogFile.{LogFile}
 use Rattle.olr_run.specs.LogEnds.{BeginsWith}
 use Rattle.olr_run.specs.Logs.{Lasts}
@@ -95,7 +95,7 @@ one_run stop s t u rs w v end stand i p q n m = grind (arith, one_list)
 -- ---- of a record
 
 refused : (s : State) (c : Command) → IsRefusal s c Memory → IsTrue (may_lack s c)
-refused s c (ByState e) = grind (arith, step_own)
+refused s c (ByState e) = grind (arith, step_fault)
 refused s c (Lacks is may) = may
 
 of_command : (s t : State) (r : Read Command) → CommandOutcome s r (Err Memory) t →
@@ -199,7 +199,7 @@ accepted_sound [] s t sound a = subst IsState a sound
 accepted_sound (r ∷ rs) s t sound a =
     accepted_sound rs a.3 t (steps_keep s a.3 a.0 sound (coords_read r a.0 a.1) a.4) a.5
 
-begins_sound : (own : Bool) (text : List ℕ) (c : Content) → BeginsWith own text c → IsContent c
+begins_sound : (kind : Bool) (text : List ℕ) (c : Content) → BeginsWith kind text c → IsContent c
 begins_sound true text c l = (accepted_sound l.records _ _ start_sound l.accepted).content
 begins_sound false text c l = (accepted_sound (records_of text) _ _ start_sound l).content
 
@@ -256,7 +256,7 @@ module _ {D F : Type 0} (d : disk.Ghosts D) (f : folder.Ghosts F D) {W : Type 0}
   -- a run from a log that led to a content, and the log from which it began
   ran : (log last : LogFile D F d f) (least : ℕ) (stop : Bool) (rs : List (List Field)) (o p : Buffered W) (code : ℕ)
       (one : FromLog contents log last least stop (Some rs) o p code) → HasBegun one → IsHonest one → (c : Content) →
-      BeginsWith (is_own_of log) (stored_of log) c → (start : LogFile D F d f) × Leads (stored_of start) c
+      BeginsWith (is_native_of log) (stored_of log) c → (start : LogFile D F d f) × Leads (stored_of start) c
       × (Only (stored_of log) (left_of log) → Only (stored_of start) (left_of start))
       × WrittenOutcomes (Lasts stored_of left_of contents start o (left_of last) p) (closed c) rs (written contents o) (written contents p)
   ran log last least stop rs o p code (Not_begun same rejected status gone) began honest c says = absurd began
@@ -270,14 +270,14 @@ module _ {D F : Type 0} (d : disk.Ghosts D) (f : folder.Ghosts F D) {W : Type 0}
       let r = ran log last least stop rs o p code one began honest c says in
       let l = r.3.each.1 (record { closed_batch = refl; only = r.2 only; leads = r.1; none_pending = none }) in
       let s = l.2 (stored_of next) left in
-      let next_says : BeginsWith (is_own_of next) (stored_of next) s.0 =
+      let next_says : BeginsWith (is_native_of next) (stored_of next) s.0 =
       subst (λ (b : Bool). BeginsWith b (stored_of next) s.0) (sym own) s.1 in
       let a = (ran next end most again qs u v status two begun true_too s.0 next_says).3 in (
         l.0,
         l.1,
         a.outcomes,
         a.state,
-        next_continues (closed c) a.state rs qs r.3.outcomes a.outcomes s.0 l.0 (begins_sound (is_own_of log) (stored_of log) c says)
+        next_continues (closed c) a.state rs qs r.3.outcomes a.outcomes s.0 l.0 (begins_sound (is_native_of log) (stored_of log) c says)
             s.2 a.each.0,
         a.wrote,
         a.rest,

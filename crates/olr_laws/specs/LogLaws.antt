@@ -6,7 +6,7 @@ use Rattle.std.specs.Io.KnownBytes.{Appends}
 use Rattle.sqlite_disk.specs.declared.Disk as disk
 use Rattle.olr_commands.specs.Reply.{Outcome, Paths}
 use Rattle.olr_commands.specs.State.{Change, Content, IsContent, State}
-use Rattle.olr_log.specs.Logs.{stored_of, left_of, is_own_of, is_clean}
+use Rattle.olr_log.specs.Logs.{stored_of, left_of, is_native_of, is_clean}
 use Rattle.olr_log.specs.declared.folder.Folder as folder
 use Rattle.olr_log.specs.declared.log_file.LogFile.{LogFile}
 use Rattle.olr_records.specs.Records.{Field}
@@ -65,10 +65,10 @@ module _ {D F : Type 0} (d : disk.Ghosts D) (f : folder.Ghosts F D) {W : Type 0}
   TwoRuns =
       (log last : LogFile D F d f) (least : ℕ) (stop : Bool) (rs : List (List Field)) (o p : Buffered W) (code : ℕ)
       (one : FromLog contents log last least stop (Some rs) o p code) → HasBegun one → IsHonest one → (c : Content) →
-      BeginsWith (is_own_of log) (stored_of log) c → Only (stored_of log) (left_of log) → pending o ≡ [] →
+      BeginsWith (is_native_of log) (stored_of log) c → Only (stored_of log) (left_of log) → pending o ≡ [] →
       (next end : LogFile D F d f) (most : ℕ) (again : Bool) (qs : List (List Field)) (u v : Buffered W) (status : ℕ)
       (two : FromLog contents next end most again (Some qs) u v status) → HasBegun two → IsHonest two →
-      is_own_of next ≡ true → left_of last (stored_of next) →
+      is_native_of next ≡ true → left_of last (stored_of next) →
       (sent : List ℕ) × Appends (contents o.device) (contents p.device) sent
       × (outcomes : List Outcome) × (t : State) × ContinuedBy (closed c) rs sent qs outcomes t
       × (wrote rest : List ℕ) × Appends (written contents u) (written contents v) wrote × (texts outcomes ≡ wrote ++ rest)

@@ -36,7 +36,7 @@ pub use Rattle.olr_input.specs.declared.ends.Status.{Status}
 pub use Rattle.olr_input.specs.declared.gate.Gate.{Gate}
 pub use Rattle.olr_input.specs.declared.in_memory.InMemory.{InMemory}
 pub use Rattle.olr_input.specs.declared.unstored.Effect.{Effect}
-pub use Rattle.olr_paths.specs.Items.{Made, made_of, left}
+pub use Rattle.olr_paths.specs.Items.{Results, results_of, left}
 pub use Rattle.olr_records.proofs.ReadLemmas.{read_recorded, two}
 pub use Rattle.olr_records.proofs.RecordLines.{PlainRecord, all_lines, lines_read, plain_record, records_split}
 pub use Rattle.olr_records.proofs.RecordedLemmas.{recorded_dumps, start_recorded, step_stays}
@@ -59,11 +59,10 @@ pub use Rattle.olr_run.specs.Output.{IsDumpOf, Ran, StopsAtFault, any_refused, d
 pub use Rattle.olr_run.specs.Output.{SoundOutcome, SoundOutcomes, most_records, records_of, texts, Builds, Dumps, Faulted}
 pub use Rattle.olr_run.specs.Restored.{HasContentOf, InPlace, IsContentOf, LeadsNowhere, Loaded, Loads, LoadsRecord}
 pub use Rattle.olr_run.specs.Restored.{Refuses, RefusesRecord, is_rejection}
-pub use Rattle.olr_run.specs.Runs.{AnsweredOn, AnswersRecord, CarriedOut, CutIn, FaultedOn, In_text, IsAnswer, LeadsOn, GoesOn}
-pub use Rattle.olr_run.specs.Runs.{AreReplacement, Exchange, Exchanged}
-pub use Rattle.olr_run.specs.Runs.{HadTooMany, In_taking, IsExchange, IsReplacement, IsReport, No_text, answer_of}
-pub use Rattle.olr_run.specs.Runs.{Past_the_most, RanIn, RanOn, Records, answer_text, EndedOn, file_bytes, joined_records}
-pub use Rattle.olr_run.specs.Runs.{events_of, once_sent, records_taken, unwritten, last_events, records_read}
+pub use Rattle.olr_run.specs.Runs.{AreReplacement, joined_records, AnswersRecord, IsReplacement, Past_the_most, records_taken}
+pub use Rattle.olr_run.specs.Runs.{records_read, answer_text, last_events, AnsweredOn, CarriedOut, HadTooMany, IsExchange, GoesOn}
+pub use Rattle.olr_run.specs.Runs.{file_bytes, FaultedOn, Exchanged, In_taking, answer_of, events_of, once_sent, unwritten, CutIn}
+pub use Rattle.olr_run.specs.Runs.{IsAnswer, Exchange, IsReport, In_text, LeadsOn, No_text, Records, EndedOn, RanIn, RanOn}
 pub use Rattle.olr_run.specs.Sizes.{IsLength, NoSize}
 pub use Rattle.olr_run.specs.declared.loader.Loader.{Loader}
 pub use Rattle.olr_spec.specs.Encoding.{Refusal}

@@ -2,7 +2,8 @@
 use Rattle.olr_run.proofs.Common.{Field, read_recorded, ◌≡◌, List, [], ◌∷◌, map, Result, Ok, Err, refl, ap, subst, concat}
 use Rattle.olr_run.proofs.Common.{dump_lines, dump_changes, steps, fields_of_change, Change, Make, Content, IsContent, State}
 use Rattle.olr_run.proofs.Common.{Fault, start_state, step, dumps_run, HaveRecords, StaysRecorded, step_stays, start_recorded}
-use Rattle.olr_run.proofs.Common.{record_back, Accepted, Leads, closed, all_lines}
+use Rattle.olr_run.proofs.Common.{record_back, Accepted, Leads, closed, all_lines, ℕ, Option, Some, None, Dump, step_in}
+use Rattle.olr_commands.specs.Reply.{Dumped, IsOutcome}
 
 stays : (rs : List (List Field)) (s t : State) → StaysRecorded s → Accepted s rs t → StaysRecorded t
 stays [] s t h a = subst StaysRecorded a h
@@ -29,3 +30,12 @@ dump_leads rs c a sound =
       accepted = changes_accepted (dump_changes c) start_state (closed c)
           (stays rs start_state (closed c) start_recorded a).0 (dumps_run c sound);
     }
+
+-- what is dumped
+pub dumped_records : (s t : State) (count : ℕ) (text : List ℕ) → IsOutcome s Dump (Ok (Dumped count text)) t →
+    (s.batch ≡ None) × (text ≡ concat (dump_lines s.content))
+dumped_records s t count text h = (no_batch s.batch h.0, cc (h.1))
+  where
+    no_batch : (b : Option (List Change)) → step_in s.content b Dump ≡ Ok t → b ≡ None
+    no_batch None e = refl
+    no_batch (Some xs) e = absurd cc

@@ -18,16 +18,16 @@ use Rattle.std.specs.Prelude.{◌≡◌, unwrap_or}
 -- ---- the faults that a command has by its state
 
 -- none is out of memory, and one is that the content can't be written as records only if it can't
-abbrev pub IsOwn : Bool → Fault → Type 0
-IsOwn recordable Memory = ⊥
-IsOwn recordable Not_a_record = recordable ≡ false
-IsOwn recordable fault = ⊤
+abbrev pub IsOfStep : Bool → Fault → Type 0
+IsOfStep recordable Memory = ⊥
+IsOfStep recordable Not_a_record = recordable ≡ false
+IsOfStep recordable fault = ⊤
 
-abbrev OwnFault : {A : Type 0} → Bool → Result A Fault → Type 0
-OwnFault b r = IfErr r (IsOwn b)
+abbrev OfStep : {A : Type 0} → Bool → Result A Fault → Type 0
+OfStep b r = IfErr r (IsOfStep b)
 
-change_own : (k : Bool) (c : Content) (x : Change) → OwnFault k (with_change c x)
-change_own k c x = grind arith
+change_of_step : (k : Bool) (c : Content) (x : Change) → OfStep k (with_change c x)
+change_of_step k c x = grind arith
 
 all_find : {X : Type 0} (f : ℕ × X → Bool) (es : List (ℕ × X)) (k : ℕ) (v : X) → find nat_cmp k es ≡ Some v →
     list_all f es ≡ true → f (k, v) ≡ true
@@ -56,23 +56,23 @@ line_written M x can =
     grind (arith, node_written M (start M x) can, node_written M (end M x) can, shape_written M x can)
 
 own_when : (k there ok : Bool) (fault : MapFault) (s : State) → (k ≡ true → ok ≡ true) →
-    IfErr (when (not there) (Map_fault fault) (when (not ok) Not_a_record (Ok s))) (IsOwn k)
+    IfErr (when (not there) (Map_fault fault) (when (not ok) Not_a_record (Ok s))) (IsOfStep k)
 own_when k false ok fault s h = tt
 own_when k true true fault s h = tt
 own_when false true false fault s h = refl
 own_when true true false fault s h = absurd (let never = h refl in cc)
 
-pub step_own : (c : Content) (batch : Option (List Change)) (x : Command) →
-    IfErr (step_in c batch x) (IsOwn (is_recordable c))
-step_own c None (Show_node v) =
+pub step_fault : (c : Content) (batch : Option (List Change)) (x : Command) →
+    IfErr (step_in c batch x) (IsOfStep (is_recordable c))
+step_fault c None (Show_node v) =
     own_when (is_recordable c) (has_node c.map v) (has_node_record c.map v) No_node (record { content = c; batch = None })
     (λ k. node_written c.map v (and_parts _ _ k).0)
-step_own c None (Show_line x) =
+step_fault c None (Show_line x) =
     own_when (is_recordable c) (has_line c.map x) (has_line_records c.map x) No_line (record { content = c; batch = None })
     (λ k. line_written c.map x (and_parts _ _ k).0)
-step_own c None (Make x) = grind (arith, change_own (is_recordable c) c x)
-step_own c (Some xs) (Make x) = grind (arith, change_own (is_recordable c) (after c xs) x)
-step_own c b x = grind arith
+step_fault c None (Make x) = grind (arith, change_of_step (is_recordable c) c x)
+step_fault c (Some xs) (Make x) = grind (arith, change_of_step (is_recordable c) (after c xs) x)
+step_fault c b x = grind arith
 
 -- ---- the text
 
@@ -95,9 +95,9 @@ of_reply s t c reply sound h is same = grind (arith, builds)
 not_refused : (s : State) (c : Command) (f : Fault) → IsTrue (is_recordable s.content) → IsRefusal s c f →
     f ≢ Not_a_record
 not_refused s c f can (ByState e) = λ is.
-    let own : IsOwn (is_recordable s.content) f =
-    subst (λ (r : Result State Fault). IfErr r (IsOwn (is_recordable s.content))) e (step_own s.content s.batch c) in
-    let never : is_recordable s.content ≡ false = subst (λ (g : Fault). IsOwn (is_recordable s.content) g) is own in
+    let of_step : IsOfStep (is_recordable s.content) f =
+    subst (λ (r : Result State Fault). IfErr r (IsOfStep (is_recordable s.content))) e (step_fault s.content s.batch c) in
+    let never : is_recordable s.content ≡ false = subst (λ (g : Fault). IsOfStep (is_recordable s.content) g) is of_step in
     cc (can, never)
 not_refused s c f can (Lacks is may) = λ e. cc
 

@@ -5,7 +5,7 @@ use Rattle.olr_run.proofs.Common.{concat, dump_lines, Keeps-refl, AreRecordsOf, 
 use Rattle.olr_run.proofs.Common.{Leads, Survives, UpTo, Lasts, LastsWhole, LeftAfter, HasContentOf, IsContentOf}
 use Rattle.olr_run.proofs.Common.{records_of, written, Only, Buffered, Status, Gate}
 use Rattle.std.specs.Prelude.{Result, Ok, Err, IsTrue}
-use Rattle.olr_log.specs.Logs.{stored_of, left_of, is_own_of, is_clean}
+use Rattle.olr_log.specs.Logs.{stored_of, left_of, is_native_of, is_clean}
 use Rattle.olr_log.specs.declared.log_file.LogFile.{LogFile}
 use Rattle.sqlite_disk.specs.declared.Disk as disk
 use Rattle.olr_log.specs.declared.folder.Folder as folder
@@ -22,17 +22,17 @@ module _ {D F : Type 0} {d : disk.Ghosts D} {f : folder.Ghosts F D} where
   -- ---- the start
 
   pub begins_from : (log read start : LogFile D F d f) (register : Registered) → IsContent register.state.content →
-      is_own_of read ≡ is_own_of log → stored_of read ≡ stored_of log → ((t : List ℕ) → left_of read t → left_of log t)
+      is_native_of read ≡ is_native_of log → stored_of read ≡ stored_of log → ((t : List ℕ) → left_of read t → left_of log t)
       → (is_clean read ≡ true → HasContentOf (stored_of log) register)
-      → (is_own_of read ≡ true → is_clean start ≡ true → (stored_of start ≡ stored_of read) ⊎ AreRecordsOf register (stored_of start))
-      → (is_own_of read ≡ false → AreRecordsOf register (stored_of start))
+      → (is_native_of read ≡ true → is_clean start ≡ true → (stored_of start ≡ stored_of read) ⊎ AreRecordsOf register (stored_of start))
+      → (is_native_of read ≡ false → AreRecordsOf register (stored_of start))
       → (Only (stored_of read) (left_of read) → Only (stored_of start) (left_of start)) → Begins log read start register
-  begins_from log read start register sound own same less content stored compacted durable =
+  begins_from log read start register sound kind same less content stored compacted durable =
       record {
         same = same;
         less = less;
         content = content;
-        leads = by_own (is_own_of log) own;
+        leads = by_kind (is_native_of log) kind;
         only = λ before. durable (λ t left. before t (less t left) ∙ sym same);
       }
     where
@@ -46,9 +46,9 @@ module _ {D F : Type 0} {d : disk.Ghosts D} {f : folder.Ghosts F D} where
           let there = content clean in
           subst (λ (x : Content). Represents register.state (closed x)) (same_content (stored_of log) there.0 c there.1 l) there.2
 
-      by_own : (b : Bool) → is_own_of read ≡ b → is_clean read ≡ true → is_clean start ≡ true → (c : Content) →
+      by_kind : (b : Bool) → is_native_of read ≡ b → is_clean read ≡ true → is_clean start ≡ true → (c : Content) →
           BeginsWith b (stored_of log) c → Represents register.state (closed c) × Leads (stored_of start) c
-      by_own true is clean now c l =
+      by_kind true is clean now c l =
           let represents = same_register clean c (is_content (stored_of log) c l) in (
             represents,
             elim (stored is now) [
@@ -56,7 +56,7 @@ module _ {D F : Type 0} {d : disk.Ghosts D} {f : folder.Ghosts F D} where
               | inr records ↦ rewritten c represents (dump_leads l.records c l.accepted) records
             ],
           )
-      by_own false is clean now c l =
+      by_kind false is clean now c l =
           let represents = same_register clean c l in
           (represents, rewritten c represents (dump_leads (records_of (stored_of log)) c l) (compacted is))
 

@@ -1,6 +1,7 @@
 pub mod Common
 pub mod RunLemmas
 pub mod Answering
+mod AddedArguments
 pub mod Reports
 pub mod Running
 pub mod InputRuns

@@ -1,14 +1,13 @@
 -- The log of a run, from the history of its session.
-use Rattle.olr_run.proofs.Common.{IfErr, IfSome, Outcome, Field, SoundOutcome, append-nil, append_assoc, Known, Event, Took}
-use Rattle.olr_run.proofs.Common.{Ended, Not_taken, Not_sent, Wrote, Cut, History, RanIn, CutIn, Keeps, Past_the_most, In_text}
-use Rattle.olr_run.proofs.Common.{Appends, Registered, RunFault, Claims, EndedOn, Records, last_events, ◌≡◌, ◌∙◌, ℕ, Bool}
-use Rattle.olr_run.proofs.Common.{false, List, [], ◌∷◌, ◌++◌, length, Some, None, refl, sym, ap, subst, arith, length-append}
-use Rattle.olr_run.proofs.Common.{IfOk, OnOk, flat_map, Change, IsContent, State, append_known, Exchanged, In_taking, No_text}
-use Rattle.olr_run.proofs.Common.{answer_of, once_sent, IsReplacement, Exchange, IsExchange, Whole, records_taken, events_of}
-use Rattle.olr_run.proofs.Common.{unwritten, Replacement, Compacted, Unasked, Given, Lacking, Leads, Survives, UpTo}
-use Rattle.olr_run.proofs.Common.{Began, Lasts, LastsWhole, pending, written, Compaction, Passes, Untouched, ready}
-use Rattle.olr_run.proofs.Common.{is_closed, Waiting, waiting, LogHappens, Buffered, Gate, Status, Appends-nil, Keeps-refl}
-use Rattle.olr_run.proofs.Common.{Concludes}
+use Rattle.olr_run.proofs.Common.{Past_the_most, length-append, IsReplacement, records_taken, SoundOutcome, append_assoc, Outcome}
+use Rattle.olr_run.proofs.Common.{append_known, last_events, Replacement, Appends-nil, append-nil, Registered, IsExchange, IfSome}
+use Rattle.olr_run.proofs.Common.{LastsWhole, Compaction, LogHappens, Keeps-refl, Not_taken, IsContent, Exchanged, In_taking, Cut}
+use Rattle.olr_run.proofs.Common.{answer_of, once_sent, events_of, unwritten, Compacted, Untouched, is_closed, Concludes, History}
+use Rattle.olr_run.proofs.Common.{Not_sent, RunFault, flat_map, Exchange, Survives, Buffered, In_text, Appends, EndedOn, Records}
+use Rattle.olr_run.proofs.Common.{No_text, Unasked, Lacking, pending, written, Waiting, waiting, Claims, length, Change, Passes}
+use Rattle.olr_run.proofs.Common.{Status, IfErr, Field, Known, Event, Ended, Wrote, RanIn, CutIn, Keeps, false, subst, arith, ◌≡◌}
+use Rattle.olr_run.proofs.Common.{State, Whole, Given, Leads, Began, Lasts, ready, Took, Bool, List, ◌++◌, Some, None, refl, IfOk}
+use Rattle.olr_run.proofs.Common.{OnOk, UpTo, Gate, ◌∙◌, ◌∷◌, sym, [], ap, ℕ}
 use Rattle.std.specs.Prelude.{Ok, Err, Option, Result}
 use Rattle.olr_input.specs.declared.logged.Logged.{Logged}
 use Rattle.olr_input.proofs.Writing.{took_nothing}

@@ -60,8 +60,8 @@ abbrev Follows : List ℕ → State → Waiting → Type 0
 Follows k t w = Leads (k ++ w.ready) t.content × HoldsBatch t.content t.batch w.batch
 
 -- what a log makes of the line of an accepted command
-abbrev made : Command → List Field → Waiting → Waiting
-made c r w = concluded (effect_for c) (line_if (has_line (effect_for c)) (fields_line r)) w
+abbrev concluded_as : Command → List Field → Waiting → Waiting
+concluded_as c r w = concluded (effect_for c) (line_if (has_line (effect_for c)) (fields_line r)) w
 
 line_some : (x y : List ℕ) → is_empty (x ++ (y ++ 10 ∷ [])) ≡ false
 line_some [] [] = refl
@@ -76,7 +76,7 @@ module _ (k : List ℕ) (w : Waiting) (r : List Field) where
       (leads_join start_state (closed c) (closed d) (k ++ w.ready) y l more)
 
   ends_in : (c : Content) (b : Option (List Change)) (x : Command) (t : State) → read r ≡ Ok x → step_in c b x ≡ Ok t →
-      Follows k (record { content = c; batch = b }) w → Ends (λ s. Follows k s (made x r w)) c b x
+      Follows k (record { content = c; batch = b }) w → Ends (λ s. Follows k s (concluded_as x r w)) c b x
   ends_in c None (Make x) t e is h = λ d ok.
       rw h.1
       (leads_more c d (fields_line r) h.0 (one_leads (closed c) (closed d) r (Make x) e tt (make_closed c d x ok)), refl)
@@ -117,14 +117,14 @@ refused_same t u (Err e) f h = h.1
 abbrev answered : List Field → Bool → Waiting → Waiting
 answered r accepts w = if accepts then concluded (effect_of r) (stored_line r) w else w
 
-made_is : (r : List Field) (c : Command) (w : Waiting) → read r ≡ Ok c → concluded (effect_of r) (stored_line r) w ≡ made c r w
-made_is r c w e = ap (λ (f : Effect). concluded f (line_if (has_line f) (line_of r)) w) (effect_is r c e)
+concluded_is : (r : List Field) (c : Command) (w : Waiting) → read r ≡ Ok c → concluded (effect_of r) (stored_line r) w ≡ concluded_as c r w
+concluded_is r c w e = ap (λ (f : Effect). concluded f (line_if (has_line f) (line_of r)) w) (effect_is r c e)
 
 by_reply : (k : List ℕ) (w : Waiting) (t u : State) (r : List Field) (q : Read Command) (reply : Reply) → read r ≡ q →
     CommandOutcome t q (Ok reply) u → Follows k t w → Follows k u (answered r true w)
 by_reply k w t u r (Ok c) reply e h f =
-    subst (λ (v : Waiting). Follows k u v) (sym (made_is r c w e))
-    (ends (λ s. Follows k s (made c r w)) t u c h.0 (ends_in k w r t.content t.batch c u e h.0 f))
+    subst (λ (v : Waiting). Follows k u v) (sym (concluded_is r c w e))
+    (ends (λ s. Follows k s (concluded_as c r w)) t u c h.0 (ends_in k w r t.content t.batch c u e h.0 f))
 by_reply k w t u r (Err g) reply e h f = absurd (let never = h.0 in cc)
 
 follows_outcome : (k : List ℕ) (w : Waiting) (t u : State) (r : List Field) (o : Outcome) → Follows k t w →

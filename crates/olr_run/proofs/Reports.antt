@@ -3,32 +3,32 @@ use Rattle.olr_run.proofs.Common.{length-map, append-nil, append_assoc, count_li
 use Rattle.olr_run.proofs.Common.{Outcome, IsOutcome, RecordOutcome, may_lack, Registered, ◌≡◌, answer_of, ◌≢◌, ℕ, List, []}
 use Rattle.olr_run.proofs.Common.{◌∷◌, ◌++◌, length, map, refl, ap, ◌∙◌, suc, subst, sym, arith, IsTrue, Result, Ok, Err}
 use Rattle.olr_run.proofs.Common.{Option, Some, inl, true, false, ne_eqb, concat, option_map_or, Map, Margin, Refusal, Named}
-use Rattle.olr_run.proofs.Common.{Content, State, Memory, Report, Entry, Paths, AllOf, Lacks, entry, published_text, Made}
+use Rattle.olr_run.proofs.Common.{Content, State, Memory, Report, Entry, Paths, AllOf, Lacks, entry, published_text, Results}
 use Rattle.olr_run.proofs.Common.{entry_line, HaveEncodings, AllPublished, IsReport}
 
 -- ---- the text
 
 -- the lines of paths
-abbrev pub line_of : List ℕ × Option Made → List ℕ
+abbrev pub line_of : List ℕ × Option Results → List ℕ
 line_of p = option_map_or (λ m. entry_line (entry p.0 m.answer)) p.1 []
 
-abbrev pub lines_of : List (List ℕ × Option Made) → List ℕ
+abbrev pub lines_of : List (List ℕ × Option Results) → List ℕ
 lines_of xs = concat (map line_of xs)
 
 abbrev named : List ℕ → Result (List ℕ) Refusal → Entry
 named name p = record { name = name; published = p }
 
 -- the text with one line more, before those that are left
-pub one_more : (xs rest : List (List ℕ × Option Made)) (name : List ℕ) (m : Made) (p : Result (List ℕ) Refusal)
+pub one_more : (xs rest : List (List ℕ × Option Results)) (name : List ℕ) (m : Results) (p : Result (List ℕ) Refusal)
     (t u w : List ℕ) → xs ≡ (name, Some m) ∷ rest → p ≡ published_text m.answer → u ≡ t ++ entry_line (named name p)
     → t ++ lines_of xs ≡ w → u ++ lines_of rest ≡ w
 one_more xs rest name m p t u w e q a h =
     ap (λ (x : List ℕ). x ++ lines_of rest)
     (a ∙ ap (λ (r : Result (List ℕ) Refusal). t ++ entry_line (named name r)) q)
     ∙ append_assoc t (entry_line (entry name m.answer)) (lines_of rest)
-    ∙ ap (λ (ys : List (List ℕ × Option Made)). t ++ lines_of ys) (sym e) ∙ h
+    ∙ ap (λ (ys : List (List ℕ × Option Results)). t ++ lines_of ys) (sym e) ∙ h
 
-all_of : (g : Margin) (M : Map) (ps : List Named) (xs : List (List ℕ × Option Made)) → HaveEncodings g M ps xs →
+all_of : (g : Margin) (M : Map) (ps : List Named) (xs : List (List ℕ × Option Results)) → HaveEncodings g M ps xs →
     (es : List Entry) × AllOf g M ps es × (length es ≡ length ps) × (concat (map entry_line es) ≡ lines_of xs)
 all_of g M [] xs h = ([], refl, refl, rw h refl)
 all_of g M (p ∷ ps) xs (m, rest, encoding, more, is) =
@@ -40,7 +40,7 @@ all_of g M (p ∷ ps) xs (m, rest, encoding, more, is) =
     )
 
 -- the first line, and those of all paths
-pub report_of : (register : Registered) (xs rest : List (List ℕ × Option Made)) (before mid after : List ℕ) (n : ℕ)
+pub report_of : (register : Registered) (xs rest : List (List ℕ × Option Results)) (before mid after : List ℕ) (n : ℕ)
     → AllPublished register.state.content xs → n ≡ length register.state.content.paths → mid ≡ before ++ count_line n →
     rest ≡ [] → after ++ lines_of rest ≡ mid ++ lines_of xs → IsReport register (λ lines. after ≡ before ++ lines)
 report_of register xs rest before mid after n h count first none last s represents =
@@ -50,7 +50,7 @@ report_of register xs rest before mid after n h count first none last s represen
     let head : mid ≡ before ++ count_line (length (map entry_line r.0)) = first ∙ ap (λ k. before ++ count_line k) size in (
       r.0,
       r.1,
-      sym (append-nil after) ∙ ap (λ (ys : List (List ℕ × Option Made)). after ++ lines_of ys) (sym none) ∙ last
+      sym (append-nil after) ∙ ap (λ (ys : List (List ℕ × Option Results)). after ++ lines_of ys) (sym none) ∙ last
           ∙ ap (λ (x : List ℕ). x ++ lines_of xs) head
           ∙ append_assoc before (count_line (length (map entry_line r.0))) (lines_of xs)
           ∙ ap (λ (x : List ℕ). before ++ (count_line (length (map entry_line r.0)) ++ x)) (sym r.3),

@@ -1,13 +1,12 @@
 -- The records that a run has answered so far.
-use Rattle.olr_run.proofs.Common.{◌&&◌, ◌||◌, Took, Wrote, RanIn, CutIn, arith, ℕ, Bool, true, false, List, subst, State}
-use Rattle.olr_run.proofs.Common.{is_err, RunFault, run_more, No_text, Exchange, or-false, flat_map, is_ok, Field, Event, Ended}
-use Rattle.olr_run.proofs.Common.{length, Result, GoesOn, Answer, Unasked, Status, or-true, if◌then◌else◌, list_any-append}
-use Rattle.olr_run.proofs.Common.{SoundOutcomes, Past_the_most, AreReplacement, flat_map-append, ⊤, Not_taken}
-use Rattle.olr_run.proofs.Common.{cases_Bool, IsContent, run_status, IsExchange, or_parts, Not_sent, In_text, In_taking}
-use Rattle.olr_run.proofs.Common.{Exchanged, events_of, unwritten, Compacted, and-false, append-nil, Represents, Registered}
-use Rattle.olr_run.proofs.Common.{History, IsOfTaking, AnsweredOn, any_refused, Replacement, Outcome, most_records}
-use Rattle.olr_run.proofs.Common.{AnswersRecord, last_events, length-append, StopsAtFault, records_taken, Cut, ◌≡◌, ◌∙◌, ◌+◌}
-use Rattle.olr_run.proofs.Common.{not, [], ◌∷◌, ◌++◌, Ok, ◌⊎◌, Err, inl, inr, refl, sym, ap}
+use Rattle.olr_run.proofs.Common.{list_any-append, flat_map-append, AreReplacement, if◌then◌else◌, SoundOutcomes, Past_the_most}
+use Rattle.olr_run.proofs.Common.{AnswersRecord, length-append, records_taken, most_records, StopsAtFault, any_refused, Not_taken}
+use Rattle.olr_run.proofs.Common.{Replacement, last_events, cases_Bool, run_status, IsExchange, append-nil, Represents, IsContent}
+use Rattle.olr_run.proofs.Common.{Registered, IsOfTaking, AnsweredOn, In_taking, Exchanged, events_of, unwritten, Compacted, ◌&&◌}
+use Rattle.olr_run.proofs.Common.{and-false, RunFault, run_more, Exchange, or-false, flat_map, or_parts, Not_sent, No_text, Wrote}
+use Rattle.olr_run.proofs.Common.{Unasked, or-true, In_text, History, Outcome, is_err, length, Result, GoesOn, Answer, Status, []}
+use Rattle.olr_run.proofs.Common.{RanIn, CutIn, arith, false, subst, State, is_ok, Field, Event, Ended, ◌||◌, Took, Bool, true, ℕ}
+use Rattle.olr_run.proofs.Common.{List, ◌++◌, refl, Cut, ◌≡◌, ◌∙◌, ◌+◌, not, ◌∷◌, ◌⊎◌, Err, inl, inr, sym, Ok, ap, ⊤}
 use Rattle.olr_input.proofs.SessionLemmas.{history_join}
 use Rattle.olr_commands.specs.History.{Run}
 use Rattle.olr_run.specs.Runs as runs

@@ -13,7 +13,7 @@ use Rattle.olr_run.specs.Explains.{Explains}
 use Rattle.olr_run.specs.Opens.{IsFile}
 use Rattle.olr_run.specs.Options.{Options, keep_app, options}
 use Rattle.olr_run.specs.Sizes.{IsLength, NoSize}
-use Rattle.olr_log.specs.Logs.{stored_of, left_of, is_own_of}
+use Rattle.olr_log.specs.Logs.{stored_of, left_of, is_native_of}
 use Rattle.olr_log.specs.declared.folder.Folder as folder
 use Rattle.olr_log.specs.declared.log_file.LogFile.{LogFile}
 use Rattle.olr_log.specs.declared.place.OpenError.{OpenError}
@@ -73,7 +73,7 @@ module _ {D F : Type 0} {d : disk.Ghosts D} {f : folder.Ghosts F D} where
   -- the result of opening a log of this name, or of making it
   abbrev pub OpensLog : (List ℕ → Bool → Bool → List ℕ → (List ℕ → Type 0) → Type 0) →
       (List ℕ → Bool → OpenError → Type 0) → List ℕ → Bool → Result (LogFile D F d f) OpenError → Type 0
-  OpensLog MayBe Refuses name is_new (Ok log) = MayBe name is_new (is_own_of log) (stored_of log) (left_of log)
+  OpensLog MayBe Refuses name is_new (Ok log) = MayBe name is_new (is_native_of log) (stored_of log) (left_of log)
   OpensLog MayBe Refuses name is_new (Err e) = Refuses name is_new e
 
   -- what may be left of the log was left at the end of the run, or is all that is stored, if the run was not cut off

@@ -1,7 +1,7 @@
 -- How a run with a log in a file begins and ends.
 --     AreRecordsOf register text      the text has the records that build the content of the register
 --     is_rejected fault      a log is rejected for it
---     BeginsWith own text c      what the text of a log says: of one that the program wrote, each record is a line as the
+--     BeginsWith kind text c      what the text of a log says: of one that the program wrote, each record is a line as the
 --         program writes it
 --     Begins log read start register      a register and a log in which records can be stored, from a log that was opened
 use Rattle.std.specs.Prelude.{◌≡◌, ◌⊎◌, ℕ, Bool, true, false, List}
@@ -9,7 +9,7 @@ use Rattle.std.specs.List.{concat}
 use Rattle.sqlite_disk.specs.declared.Disk as disk
 use Rattle.olr_commands.specs.Dump.{dump_lines}
 use Rattle.olr_commands.specs.State.{Content}
-use Rattle.olr_log.specs.Logs.{stored_of, left_of, is_own_of, is_clean}
+use Rattle.olr_log.specs.Logs.{stored_of, left_of, is_native_of, is_clean}
 use Rattle.olr_log.specs.declared.folder.Folder as folder
 use Rattle.olr_log.specs.declared.log_file.LogFile.{LogFile}
 use Rattle.olr_register.specs.RegisterState.{Represents}
@@ -39,7 +39,7 @@ module _ {D F : Type 0} {d : disk.Ghosts D} {f : folder.Ghosts F D} where
     pub same : stored_of read ≡ stored_of log
     pub less : (t : List ℕ) → left_of read t → left_of log t
     pub content : is_clean read ≡ true → HasContentOf (stored_of log) register
-    pub leads : is_clean read ≡ true → is_clean start ≡ true → (c : Content) → BeginsWith (is_own_of log) (stored_of log) c →
+    pub leads : is_clean read ≡ true → is_clean start ≡ true → (c : Content) → BeginsWith (is_native_of log) (stored_of log) c →
         Represents register.state (closed c) × Leads (stored_of start) c
     pub only : Only (stored_of log) (left_of log) → Only (stored_of start) (left_of start)
 

@@ -35,16 +35,18 @@ with_short letter r = record r { short = Some letter }
 abbrev pub with_long : List ℕ → Rule → Rule
 with_long name r = record r { long = Some name }
 
+-- those that a run without a log has, too
+abbrev pub unlogged_app : App
+unlogged_app =
+    with_rule
+    (with_rule (with_rule described_app (with_short 109 (value_rule (codes "file"))))
+    (with_short 115 (flag_rule (codes "stop"))))
+    (with_long (codes "lines") (flag_rule (codes "lines")))
+
 abbrev pub keep_app : App
 keep_app =
     with_rule
-    (with_rule
-    (with_rule
-    (with_rule
-    (with_rule (with_rule described_app (with_short 109 (value_rule (codes "file"))))
-    (with_short 115 (flag_rule (codes "stop"))))
-    (with_long (codes "lines") (flag_rule (codes "lines"))))
-    (with_short 108 (value_rule (codes "log"))))
+    (with_rule (with_rule unlogged_app (with_short 108 (value_rule (codes "log"))))
     (with_long (codes "new") (flag_rule (codes "new"))))
     (with_long (codes "compact-at") (value_rule (codes "compact-at")))
 

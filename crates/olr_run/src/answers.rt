@@ -1,9 +1,11 @@
 //! The answer to one record.
 
-ghost use Rattle.std.specs.Prelude.{◌≡◌, ◌≢◌, ◌++◌, length, Ok, IfOk, OnOk, is_ok};
+ghost use Rattle.std.specs.Prelude.{◌≡◌, ◌≢◌, ◌++◌, length, true, Ok, IfOk, OnOk, is_ok};
 ghost use Rattle.csv.specs.Records.{fields_of};
 ghost use Rattle.olr_commands.specs.State.{Report};
+ghost use Rattle.olr_commands.specs.Words.{outcome_of, reply_of};
 ghost use Rattle.olr_records.specs.Records.{read};
+ghost use Rattle.olr_records.specs.ReplyText.{reply_text};
 ghost use Rattle.olr_input.specs.Sessions.{Given};
 ghost use Rattle.olr_run.specs.Runs.{CarriedOut, IsAnswer, IsReport, answer_text, WritesText, AnswersRecord, AreReplacement, CompactsFrom};
 
@@ -17,6 +19,16 @@ use olr_records::{
 use olr_register::Register;
 use std::alloc::{AllocError, Global};
 
+/// The reply to a command, or the line of its fault.
+fn reply_or_line(answer: Result<Reply, CommandFault>) -> Result<Reply, &'static str>
+    ensures { IsAnswer result (outcome_of answer) }
+{
+    match answer {
+        Ok(reply) => Ok(reply),
+        Err(fault) => Err(fault_text(fault)),
+    }
+}
+
 /// Carries out the command of a record, and doesn't copy the text of `explain`. Returns the reply, or the line of the fault.
 fn carry_out(
     alloc: Global,
@@ -27,10 +39,10 @@ fn carry_out(
 {
     if let Some(text) = text_to_explain(fields) {
         register.is_sound();
-        return register.explain(text).map_err(fault_text);
+        return reply_or_line(register.explain(text));
     }
     match read_command(alloc, fields) {
-        Ok(command) => register.apply(command).map_err(fault_text),
+        Ok(command) => reply_or_line(register.apply(command)),
         Err(fault) => Err(read_fault_text(fault)),
     }
 }
@@ -48,8 +60,22 @@ fn write_text<W, S: Session<W>>(
     Ok(accepts)
 }
 
-/// Writes an answer; the text of a reply is made in `text`, whose buffer is reused, and that of a dump in the dump's own
-/// buffer. Returns whether it accepts the command.
+/// Writes the text of a reply, which is made in `text`, whose buffer is reused.
+fn write_reply<W, S: Session<W>>(
+    reply: &Reply,
+    text: &mut Vec<u8>,
+    session: &mut S,
+    output: &mut W,
+) -> Result<bool, RunFault>
+    ensures { WritesText S.happens (session.old, output.old) (reply_text (reply_of reply.now)) (session.new, output.new) result
+        true }
+{
+    text.clear();
+    append_reply(text, reply)?;
+    write_text(text.as_slice(), true, session, output)
+}
+
+/// Writes an answer. The text of a dump is made in the dump's own buffer. Returns whether the answer accepts the command.
 fn write_answer<W, S: Session<W>>(
     alloc: Global,
     answer: Result<Reply, &'static str>,
@@ -65,11 +91,7 @@ fn write_answer<W, S: Session<W>>(
             let lines = dump_text(alloc, dump)?;
             write_text(&lines, true, session, output)
         }
-        Ok(reply) => {
-            text.clear();
-            append_reply(text, &reply)?;
-            write_text(text.as_slice(), true, session, output)
-        }
+        Ok(reply) => write_reply(&reply, text, session, output),
         Err(line) => write_text(line.as_bytes(), false, session, output),
     }
 }

@@ -8,7 +8,8 @@ ghost use Rattle.clap.specs.Kinds.{Kinds, HasKind};
 ghost use Rattle.clap.specs.Values.{kind_of};
 ghost use Rattle.clap.specs.declared.error.kind.ErrorKind.TheVariants as kinds;
 ghost use Rattle.clap.specs.Walk.{rule_of};
-ghost use Rattle.olr_run.specs.Options.{described_app, value_rule, flag_rule, keep_app, options, options_of, is_set, IsOptionsFault};
+ghost use Rattle.olr_run.specs.Options.{described_app, unlogged_app, value_rule, flag_rule, keep_app, options, options_of};
+ghost use Rattle.olr_run.specs.Options.{is_set, IsOptionsFault};
 
 use crate::arguments::{Options, OptionsFault};
 use clap::error::ErrorKind;
@@ -73,14 +74,21 @@ fn described<'a>(alloc: Global) -> Command<'a>
         .after_help(AFTER_HELP)
 }
 
-/// The program's arguments.
-fn command<'a>(alloc: Global) -> Result<Command<'a>, AllocError>
-    ensures { IfOk result (λ c. app_of c ≡ keep_app) }
+/// The program's arguments but those for a log.
+fn unlogged<'a>(alloc: Global) -> Result<Command<'a>, AllocError>
+    ensures { IfOk result (λ c. app_of c ≡ unlogged_app) }
 {
     described(alloc)
         .arg(valued(alloc, "file", "FILE", FILE_HELP).short('m'))?
         .arg(flag(alloc, "stop", STOP_HELP).short('s'))?
-        .arg(flag(alloc, "lines", LINES_HELP).long("lines"))?
+        .arg(flag(alloc, "lines", LINES_HELP).long("lines"))
+}
+
+/// The program's arguments.
+fn command<'a>(alloc: Global) -> Result<Command<'a>, AllocError>
+    ensures { IfOk result (λ c. app_of c ≡ keep_app) }
+{
+    unlogged(alloc)?
         .arg(valued(alloc, "log", "LOG", LOG_HELP).short('l'))?
         .arg(flag(alloc, "new", NEW_HELP).long("new"))?
         .arg(valued(alloc, "compact-at", "SIZE", SIZE_HELP).long("compact-at"))

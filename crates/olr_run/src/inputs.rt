@@ -10,7 +10,6 @@ use std::alloc::{AllocError, Global};
 use std::io::Read;
 
 /// The records of a file, if there is one, and then those of an input. A batch that the file leaves open stays open.
-#[tactic(auto, using(crate::proofs::InputRuns::none_left, crate::proofs::InputRuns::both_left))]
 pub(crate) fn both_sources<F: Read + Drop, R: Read + Drop>(
     alloc: Global,
     file: Option<F>,

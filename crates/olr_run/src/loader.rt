@@ -138,7 +138,6 @@ impl Loader {
     }
 
     /// Carries out a command of a log.
-    #[tactic(auto, using(crate::proofs::Restoring::refused_result))]
     fn carry_out(&mut self, command: Command) -> Result<(), RestoreFault>
         ensures loaded { OnOk result (IsLogged (command_of command) × Loaded self.old (command_of command) self.new) }
         ensures refused { IfErr result (λ e. is_rejection e ≡ true
@@ -188,7 +187,7 @@ impl Loader {
 }
 
 /// How far the records of a log were carried out.
-#[derive(Clone, Copy, Debug, Default)]
+#[derive(Clone, Copy, Default)]
 pub struct Progress {
     /// The number of records that were taken.
     pub taken: u64,

@@ -1,7 +1,7 @@
 //! A start from a log in a file.
 
 ghost use Rattle.std.specs.Prelude.{◌≡◌, ◌⊎◌, true, false, ℕ, List, IfOk, IfErr, OnOk};
-ghost use Rattle.olr_log.specs.Logs.{stored_of, left_of, is_own_of, is_clean};
+ghost use Rattle.olr_log.specs.Logs.{stored_of, left_of, is_native_of, is_clean};
 ghost use Rattle.olr_run.specs.LogEnds.{AreRecordsOf, BegunFrom, Unbegun, is_rejected};
 ghost use Rattle.olr_run.specs.Restored.{HasContentOf, LeadsNowhere};
 ghost use Rattle.olr_input.specs.Journals.{Only};
@@ -16,7 +16,7 @@ use std::alloc::Global;
 use std::io;
 
 /// Why a run can't begin with a log.
-#[derive(Clone, Copy, Debug)]
+#[derive(Clone, Copy)]
 pub enum StartFault {
     /// The log can't be read or written, or there is no memory.
     Unusable(io::Error),
@@ -56,7 +56,7 @@ fn read_log<D: Disk + Drop, G: Folder<D>>(
     ensures content { IfOk result (λ r. is_clean log.new ≡ true → HasContentOf (stored_of log.old) r.0) }
     ensures refused { IfErr result (λ e. is_rejected e ≡ true → is_clean log.new ≡ true → LeadsNowhere (stored_of log.old)) }
     ensures stored { stored_of log.new ≡ stored_of log.old }
-    ensures own { is_own_of log.new ≡ is_own_of log.old }
+    ensures kind { is_native_of log.new ≡ is_native_of log.old }
     ensures less { (t : List ℕ) → left_of log.new t → left_of log.old t }
 {
     let text = match log.text(alloc) {
@@ -68,7 +68,7 @@ fn read_log<D: Disk + Drop, G: Folder<D>>(
         Ok(register) => Ok((register, progress.taken)),
         Err(fault) => {
             let start = text.len().saturating_sub(progress.left);
-            let first = 1 + u64::from(log.is_own());
+            let first = 1 + u64::from(log.is_native());
             let line = lines_before(text.as_slice(), start).saturating_add(first);
             Err(StartFault::Records {
                 fault,
@@ -86,7 +86,7 @@ fn put_records<D: Disk + Drop, G: Folder<D>>(
 ) -> Result<bool, StartFault>
     ensures stored { IfOk result (λ done. done ≡ true → AreRecordsOf register.now (stored_of log.new)) }
     ensures left { IfOk result (λ done. done ≡ false → stored_of log.new ≡ stored_of log.old) }
-    ensures own { IfOk result (λ done. done ≡ false → is_own_of log.new ≡ is_own_of log.old) }
+    ensures kind { IfOk result (λ done. done ≡ false → is_native_of log.new ≡ is_native_of log.old) }
     ensures durable { Only (stored_of log.old) (left_of log.old) → OnOk result (Only (stored_of log.new) (left_of log.new)) }
     ensures cut { (t : List ℕ) → left_of log.new t → left_of log.old t ⊎ AreRecordsOf register.now t }
     ensures fails { IfErr result (λ e. is_rejected e ≡ false) }
@@ -111,23 +111,23 @@ fn prepare_log<D: Disk + Drop, G: Folder<D>>(
     register: &Register,
     from: usize,
 ) -> Result<(), StartFault>
-    ensures own { OnOk result (is_own_of log.old ≡ true → is_clean log.new ≡ true
+    ensures kind { OnOk result (is_native_of log.old ≡ true → is_clean log.new ≡ true
         → (stored_of log.new ≡ stored_of log.old) ⊎ AreRecordsOf register.now (stored_of log.new)) }
-    ensures foreign { OnOk result (is_own_of log.old ≡ false → AreRecordsOf register.now (stored_of log.new)) }
+    ensures foreign { OnOk result (is_native_of log.old ≡ false → AreRecordsOf register.now (stored_of log.new)) }
     ensures durable { Only (stored_of log.old) (left_of log.old) → OnOk result (Only (stored_of log.new) (left_of log.new)) }
     ensures cut { (t : List ℕ) → left_of log.new t
         → left_of log.old t ⊎ (t ≡ stored_of log.old) ⊎ AreRecordsOf register.now t }
     ensures fails { IfErr result (λ e. is_rejected e ≡ false) }
 {
-    let is_own = log.is_own();
-    if is_own && log.len() < from {
+    let is_native = log.is_native();
+    if is_native && log.len() < from {
         return log.wipe_rest().map_err(StartFault::Unusable);
     }
     let is_done = put_records(log, register)?;
     if is_done {
         return Ok(());
     }
-    if is_own {
+    if is_native {
         log.report_unreplaced(log.refusal().is_some());
         return log.wipe_rest().map_err(StartFault::Unusable);
     }

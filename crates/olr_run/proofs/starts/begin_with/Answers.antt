@@ -7,8 +7,8 @@ pub returns-clause-begun : goal.returns-clause-begun
 returns-clause-begun g c = (
   c.read_log.new.log,
   begins_from c.args.log.now c.read_log.new.log c.prepare_log.new.log c.in_ok-register.register c.is_sound.ensures
-      c.read_log.ensures.own c.read_log.ensures.stored c.read_log.ensures.less c.in_ok-register.ensures.content
-      c.in_ok-prepare_log.ensures.own c.in_ok-prepare_log.ensures.foreign
+      c.read_log.ensures.kind c.read_log.ensures.stored c.read_log.ensures.less c.in_ok-register.ensures.content
+      c.in_ok-prepare_log.ensures.kind c.in_ok-prepare_log.ensures.foreign
       c.in_ok-prepare_log.ensures.durable,
 )
 

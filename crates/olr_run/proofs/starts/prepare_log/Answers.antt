@@ -11,8 +11,8 @@ returns-in_err-is_done-clause-cut g c = λ t left. elim (c.put_records.ensures.c
 pub returns-then-is_done-clause-durable : goal.returns-then-is_done-clause-durable
 returns-then-is_done-clause-durable g c = λ before. c.in_ok-is_done.ensures.durable before
 
-pub returns-then-is_own-2-clause-cut : goal.returns-then-is_own-2-clause-cut
-returns-then-is_own-2-clause-cut g c = λ t left. elim (c.wipe_rest-then-is_own-2.ensures.cut t left) [
+pub returns-then-is_native-2-clause-cut : goal.returns-then-is_native-2-clause-cut
+returns-then-is_native-2-clause-cut g c = λ t left. elim (c.wipe_rest-then-is_native-2.ensures.cut t left) [
   | inl before ↦ elim (c.put_records.ensures.cut t before) [
     | inl old ↦ inl old
     | inr records ↦ inr (inr records)

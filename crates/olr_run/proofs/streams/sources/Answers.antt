@@ -1,7 +1,6 @@
 -- What the arguments ask for, from their parts.
-use Rattle.olr_run.proofs.Common.{refl, file_bytes, options_of, Log_lacking, Not_opened, No_size, No_memory, Bor}
-use Rattle.olr_run.proofs.Common.{Opens, Known, IsFile, OpensFile, ◌≡◌, ℕ, List, Option, Some, None, Result, Ok, Err, IsLength}
-use Rattle.olr_run.proofs.Common.{NoSize, rules}
+use Rattle.olr_run.proofs.Common.{Log_lacking, file_bytes, options_of, Not_opened, No_memory, OpensFile, IsLength, No_size, Opens}
+use Rattle.olr_run.proofs.Common.{IsFile, Option, Result, NoSize, Known, rules, refl, List, Some, None, Bor, ◌≡◌, Err, Ok, ℕ}
 use Rattle.std.specs.Fn.{Once}
 use Rattle.olr_run.proofs.streams.sources.Goals as goal
 

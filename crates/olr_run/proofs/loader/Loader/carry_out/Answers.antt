@@ -1,5 +1,5 @@
-use Rattle.olr_run.proofs.Common.{Begin, Commit, ap, command_of}
-use Rattle.olr_run.proofs.Restoring.{logged_result}
+use Rattle.olr_run.proofs.Common.{Begin, Commit, ap, command_of, refl}
+use Rattle.olr_run.proofs.Restoring.{logged_result, refused_result}
 use Rattle.olr_run.proofs.loader.Loader.carry_out.Goals as goal
 
 pub returns-in-Begin-clause-loaded : goal.returns-in-Begin-clause-loaded
@@ -26,3 +26,24 @@ change-requires-in-DropPath c = (_, ap command_of c.in-DropPath.is)
 
 pub change-requires-in-SetMargin : goal.change-requires-in-SetMargin
 change-requires-in-SetMargin c = (_, ap command_of c.in-SetMargin.is)
+
+pub returns-in-Edit-clause-refused : goal.returns-in-Edit-clause-refused
+returns-in-Edit-clause-refused c = refused_result _ _ _ c.change.result refl c.change.ensures.refused
+
+pub returns-in-AddPath-clause-refused : goal.returns-in-AddPath-clause-refused
+returns-in-AddPath-clause-refused c = refused_result _ _ _ c.change-in-AddPath.result refl c.change-in-AddPath.ensures.refused
+
+pub returns-in-SetPath-clause-refused : goal.returns-in-SetPath-clause-refused
+returns-in-SetPath-clause-refused c = refused_result _ _ _ c.change-in-SetPath.result refl c.change-in-SetPath.ensures.refused
+
+pub returns-in-DropPath-clause-refused : goal.returns-in-DropPath-clause-refused
+returns-in-DropPath-clause-refused c = refused_result _ _ _ c.change-in-DropPath.result refl c.change-in-DropPath.ensures.refused
+
+pub returns-in-SetMargin-clause-refused : goal.returns-in-SetMargin-clause-refused
+returns-in-SetMargin-clause-refused c = refused_result _ _ _ c.change-in-SetMargin.result refl c.change-in-SetMargin.ensures.refused
+
+pub returns-in-Begin-clause-refused : goal.returns-in-Begin-clause-refused
+returns-in-Begin-clause-refused c = refused_result _ _ _ c.begin.result (ap command_of c.in-Begin.is) c.begin.ensures.refused
+
+pub returns-in-Commit-clause-refused : goal.returns-in-Commit-clause-refused
+returns-in-Commit-clause-refused c = refused_result _ _ _ c.commit.result (ap command_of c.in-Commit.is) c.commit.ensures.refused
