@@ -3,9 +3,8 @@ use Rattle.olr_commands.proofs.Common.{cases_Bool, both_ways, not-false, bytes_d
 use Rattle.std.proofs.Common.{rules, arith, inr, ◌⊎◌, ◌≡◌, ℕ, true, false, not, List, [], ◌∷◌, ◌++◌, map, Option, Some}
 use Rattle.std.proofs.Common.{None, is_some, Ok, refl, ap, sym, subst, ◌∙◌}
 use Rattle.std.proofs.Math.Bool.{or-false}
-use Rattle.olr_commands.specs.State.{Named, Content, same_name, path_named, with_path, NamesDiffer, Path_exists}
-use Rattle.olr_commands.specs.State.{Bad_path, when, Change, Add_path, Set_path, with_change, State, Make, step}
-use Rattle.olr_commands.specs.State.{changes_made, IsState}
+use Rattle.olr_commands.specs.State.{changes_made, NamesDiffer, Path_exists, with_change, path_named, same_name, with_path, Named}
+use Rattle.olr_commands.specs.State.{Bad_path, Add_path, Set_path, Content, IsState, Change, State, when, Make, step}
 use Rattle.olr_commands.specs.Counts.{Affects, By_name, By_node, By_line, CountIs, all_nodes, all_lines, gives, Raises}
 use Rattle.olr_commands.proofs.NameLemmas.{same_is, not_named, set_name}
 use Rattle.olr_commands.proofs.StateLemmas.{ends, when_ok, passed, steps_keep}

@@ -1,9 +1,8 @@
 -- The changes that a content is written as build it from an empty one.
 use Rattle.olr_commands.proofs.Common.{cases_eq, AllByRecursion, Map, IsMap, Line, is_good, got_other, got_same, Margin}
 use Rattle.olr_commands.proofs.Common.{no_margin}
-use Rattle.std.proofs.Common.{arith, ◌≡◌, ◌≢◌, ℕ, Bool, true, false, T, if◌then◌else◌, List, [], ◌∷◌, ◌++◌, map, Option}
-use Rattle.std.proofs.Common.{Some, None, is_some, Ok, refl, sym, ap, ◌∙◌, append_assoc, nat_cmp, Ordering, is_lt}
-use Rattle.std.proofs.Common.{is_eq}
+use Rattle.std.proofs.Common.{if◌then◌else◌, append_assoc, Ordering, is_some, nat_cmp, Option, arith, false, is_lt, is_eq, Bool}
+use Rattle.std.proofs.Common.{true, List, ◌++◌, Some, None, refl, ◌≡◌, ◌≢◌, ◌∷◌, map, sym, ◌∙◌, [], Ok, ap, ℕ, T}
 use Rattle.std.proofs.lemmas.Bool.{eq-eqb, ne_eqb}
 use Rattle.std.specs.Option.{option_or}
 use Rattle.std.proofs.lemmas.List.{append-nil}

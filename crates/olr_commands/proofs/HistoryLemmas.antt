@@ -9,9 +9,8 @@ use Rattle.olr_spec.specs.Margins.{IsSoundFor}
 use Rattle.olr_spec.proofs.UndoLemmas.{empty_sound}
 use Rattle.olr_spec.specs.Joins.{JoinedWith}
 use Rattle.olr_spec.proofs.JoinedAnswers.{joined_with}
-use Rattle.olr_commands.specs.State.{Named, Content, path_named, same_name, ArePaths, NamesDiffer, IsContent, Fault}
-use Rattle.olr_commands.specs.State.{Change, after, Command, Make, State, start_state, step, changes_made}
-use Rattle.olr_commands.specs.State.{changes_made_in, IsState, Dump}
+use Rattle.olr_commands.specs.State.{changes_made_in, changes_made, NamesDiffer, start_state, path_named, same_name, IsContent}
+use Rattle.olr_commands.specs.State.{ArePaths, Content, Command, IsState, Change, Named, Fault, after, State, Make, step, Dump}
 use Rattle.olr_commands.specs.Reply.{Entry, entry, Paths, HasAnswer, Published, ChangedOf, Differences, IsReply}
 use Rattle.olr_commands.specs.Reply.{Outcome, IsOutcome, Dumped, Reply}
 use Rattle.olr_commands.specs.History.{Run, brought_by, next_state, all_changes_made, OneOf, IsPublished, names}

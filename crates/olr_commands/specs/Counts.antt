@@ -1,5 +1,6 @@
 -- By how much an accepted command raises the count of encodings.
 --     gives name x      the change adds or sets the path of that name, or sets the margin, with which each path is encoded
+--     Affected given g M T X P      the path is given, or its footprint on M has a touched node, or one of its lines was touched
 --     Affects c xs p      the changes xs, made from the content c, affect the named path p
 --     Picks P xs ys      ys are the elements of xs for which P holds, in order
 --     CountIs P ps n      P holds of n of the elements
@@ -7,6 +8,8 @@
 use Rattle.std.specs.Prelude.{◌≡◌, ℕ, suc, Bool, true, false, List, [], ◌∷◌, ◌++◌, flat_map, ◌⊎◌, IsTrue}
 use Rattle.std.specs.List.{list_any}
 use Rattle.olr_spec.specs.Map.{Map, touched_nodes, touched_lines, has}
+use Rattle.olr_spec.specs.Extension.{Path}
+use Rattle.olr_spec.specs.Margins.{Margin}
 use Rattle.olr_spec.specs.Footprint.{FootWith}
 use Rattle.olr_commands.specs.State.{Named, Content, same_name, Change, On_map, Add_path, Set_path, Set_margin, next}
 use Rattle.olr_commands.specs.State.{State, Command, changes_made}
@@ -34,11 +37,14 @@ all_nodes c (x ∷ xs) = nodes_of_change c.map x ++ all_nodes (next c x) xs
 abbrev pub all_lines : List Change → List ℕ
 all_lines xs = flat_map lines_of_change xs
 
+pub data Affected (given : Type 0) (g : Margin) (M : Map) (T X : List ℕ) (P : Path) : Type 0 where
+  By_name : given → Affected given g M T X P
+  By_node : (v : ℕ) → IsTrue (has T v) → FootWith g M P v → Affected given g M T X P
+  By_line : (x : ℕ) → IsTrue (has X x) → IsTrue (has P.lines x) → Affected given g M T X P
+
 -- a change gives the path, or touches a node of its footprint before all changes, or one of its lines
-pub data Affects (c : Content) (xs : List Change) (p : Named) : Type 0 where
-  By_name : IsTrue (list_any (gives p.name) xs) → Affects c xs p
-  By_node : (v : ℕ) → IsTrue (has (all_nodes c xs) v) → FootWith c.margin c.map p.path v → Affects c xs p
-  By_line : (x : ℕ) → IsTrue (has (all_lines xs) x) → IsTrue (has p.path.lines x) → Affects c xs p
+abbrev pub Affects : Content → List Change → Named → Type 0
+Affects c xs p = Affected (IsTrue (list_any (gives p.name) xs)) c.margin c.map (all_nodes c xs) (all_lines xs) p.path
 
 abbrev pub Picks : {A : Type 0} → (A → Type 0) → List A → List A → Type 0
 Picks P [] ys = ys ≡ []

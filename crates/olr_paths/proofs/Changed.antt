@@ -3,7 +3,7 @@
 --     Lies us vs      vs is us, with some paths replaced by paths that are not encoded yet
 use Rattle.olr_paths.proofs.Common.{list_any, values_of, not, inl, inr, ◌≡◌, ◌⊎◌, ℕ, zero, suc, ◌+◌, true, false, cond, List, []}
 use Rattle.olr_paths.proofs.Common.{◌∷◌, ◌++◌, map, length, slice_get, Option, Some, None, is_some, refl, sym, ap, ◌∙◌, subst}
-use Rattle.olr_paths.proofs.Common.{arith, Path, same_name, path_named, NamesDiffer, Entry, Made, Item, all_named, Reported}
+use Rattle.olr_paths.proofs.Common.{arith, Path, same_name, path_named, NamesDiffer, Entry, Results, Item, all_named, Reported}
 use Rattle.olr_paths.proofs.Common.{Changes, RemovesNone, change_at, drops, under_change, under_changes, Put, put, all_put}
 use Rattle.olr_paths.proofs.Common.{string_bytes, Rc, same_is, changes_in, String, Global, without_answer, length-map}
 use Rattle.std.proofs.Common.{length-append}
@@ -17,7 +17,7 @@ use Rattle.olr_paths.proofs.Overlaying.{Entered, has_name, path_in}
 abbrev pub changed : Option (Option Path) → Item → Item
 changed None i = i
 changed (Some None) i = i
-changed (Some (Some path)) i = record { name = i.name; path = path; made = None }
+changed (Some (Some path)) i = record { name = i.name; path = path; results = None }
 
 abbrev pub changed_by : Changes → Item → Item
 changed_by cs i = changed (change_at cs i.name) i
@@ -26,7 +26,7 @@ pub one_changed : (c : Option (Option Path)) (i : Item) → drops c ≡ false �
 one_changed c i h = grind arith
 
 one_lies : (c : Option (Option Path)) (i : Item) → (i.name ≡ (changed c i).name)
-    × (((changed c i).made ≡ None) ⊎ (i ≡ changed c i))
+    × (((changed c i).results ≡ None) ⊎ (i ≡ changed c i))
 one_lies c i = grind arith
 
 -- ---- the list, position by position
@@ -86,7 +86,7 @@ module _ (cs : Changes) (is ys : List Item) (none_removed : RemovesNone cs) wher
 abbrev pub Lies : List Item → List Item → Type 0
 Lies [] vs = vs ≡ []
 Lies (a ∷ us) [] = ⊥
-Lies (a ∷ us) (b ∷ vs) = (a.name ≡ b.name) × ((b.made ≡ None) ⊎ (a ≡ b)) × Lies us vs
+Lies (a ∷ us) (b ∷ vs) = (a.name ≡ b.name) × ((b.results ≡ None) ⊎ (a ≡ b)) × Lies us vs
 
 lies_itself : (is : List Item) → Lies is is
 lies_itself [] = refl
@@ -100,16 +100,16 @@ pub overlaid_lies : (cs : Changes) (is ys : List Item) → RemovesNone cs → Li
 overlaid_lies cs is ys none_removed =
     subst (λ (js : List Item). Lies (is ++ ys) js) (sym (parts cs is ys none_removed)) (map_lies cs is ys)
 
-put_lies : (us vs : List Item) (k : ℕ) (path : Path) (made : Option Made) → Lies us vs →
-    Lies (put us k path made) (put vs k path made)
-put_lies [] vs k path made h = ap (λ (js : List Item). put js k path made) h
-put_lies (a ∷ us) [] k path made h = absurd h
-put_lies (a ∷ us) (b ∷ vs) zero path made h = grind arith
-put_lies (a ∷ us) (b ∷ vs) (suc k) path made h = (h.0, h.1, put_lies us vs k path made h.2)
+put_lies : (us vs : List Item) (k : ℕ) (path : Path) (results : Option Results) → Lies us vs →
+    Lies (put us k path results) (put vs k path results)
+put_lies [] vs k path results h = ap (λ (js : List Item). put js k path results) h
+put_lies (a ∷ us) [] k path results h = absurd h
+put_lies (a ∷ us) (b ∷ vs) zero path results h = grind arith
+put_lies (a ∷ us) (b ∷ vs) (suc k) path results h = (h.0, h.1, put_lies us vs k path results h.2)
 
 all_put_lies : (us vs : List Item) (ps : List Put) → Lies us vs → Lies (all_put us ps) (all_put vs ps)
 all_put_lies us vs [] h = h
-all_put_lies us vs (p ∷ ps) h = put_lies (all_put us ps) (all_put vs ps) p.position p.path p.made
+all_put_lies us vs (p ∷ ps) h = put_lies (all_put us ps) (all_put vs ps) p.position p.path p.results
     (all_put_lies us vs ps h)
 
 -- if each path is reported, none is a replacement that is not encoded yet
@@ -205,7 +205,7 @@ not_there es name k i free at = grind (arith, there_named (items_of es) k i name
 pub none_removed_by : (cs : Changes) (ys : List Item) → ((is : List Item) → under_changes cs is ++ ys ≡ is) → RemovesNone cs
 none_removed_by cs ys h name = is_there (change_at cs name) (h (i ∷ [])) where
   i : Item
-  i = record { name = name; path = record { lines = []; pos = 0; neg = 0 }; made = None }
+  i = record { name = name; path = record { lines = []; pos = 0; neg = 0 }; results = None }
 
   is_there : (c : Option (Option Path)) → (under_change c i ++ []) ++ ys ≡ i ∷ [] → drops c ≡ false
   is_there None e = refl

@@ -9,7 +9,7 @@ pub use Rattle.olr_paths.specs.Changes.{AreEncoded, LineTouched, QueryTouched, R
 pub use Rattle.olr_paths.specs.Changes.{without_answer}
 pub use Rattle.olr_paths.specs.Finders.{AreNoted, AreNotedAt, ArePublished, Grows, AddsOnly, ChangesOnly, IsNoted}
 pub use Rattle.olr_paths.specs.Finders.{KeyLists, Spares, keys_by, named_keys}
-pub use Rattle.olr_paths.specs.Items.{Item, Made, all_named, answer_in, items, made_in, made_of, made_of_named, named_of}
+pub use Rattle.olr_paths.specs.Items.{Item, Results, all_named, answer_in, items, results_in, results_of, results_of_named, named_of}
 pub use Rattle.olr_paths.specs.Listed.{items_of}
 pub use Rattle.olr_paths.specs.Origins.{Begins, BeginsIn, BeginsPut, LackQueries}
 pub use Rattle.olr_paths.specs.Overlaid.{Changes, RemovesNone, change_at, changes_in, drops, overlay_changes}

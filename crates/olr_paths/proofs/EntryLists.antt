@@ -1,7 +1,7 @@
 -- The texts and entries of a list whose paths were encoded, and such a list as what its iterator has left.
 use Rattle.olr_paths.proofs.Common.{arith, ◌≡◌, ℕ, Bool, List, Bor, IsTrue, Option, Some, None, sym, ap, ◌∙◌, subst, option_map}
 use Rattle.olr_paths.proofs.Common.{bytes_eq, IsReference, bytes_decides, result_ok, published_text, option_eq, true, is_some}
-use Rattle.olr_paths.proofs.Common.{[], ◌∷◌, refl, Answer, Made, Item, made_of, made_of_named, made_in, answer_in, ◌≢◌, ◌&&◌}
+use Rattle.olr_paths.proofs.Common.{[], ◌∷◌, refl, Answer, Results, Item, results_of, results_of_named, results_in, answer_in, ◌≢◌, ◌&&◌}
 use Rattle.olr_paths.proofs.Common.{map, string_bytes, Rc, AreEncoded, Published, list_all, Global}
 use Rattle.olr_binary.proofs.TextLemmas.{one_reference}
 use Rattle.olr_spec.specs.Reference.{Reference}
@@ -37,19 +37,19 @@ decided q r _ _ soundq soundr textq textr b e = absurd cc
 
 -- a name with a stored result has an answer
 pub answered : (is : List Item) (name : List ℕ) (o : Option (Bor Encoded)) →
-    option_map (λ p. made_of p.now) o ≡ made_in is name → is_some o ≡ true → (A : Answer) × (answer_in is name ≡ Some A)
+    option_map (λ p. results_of p.now) o ≡ results_in is name → is_some o ≡ true → (A : Answer) × (answer_in is name ≡ Some A)
 answered is name None e some = absurd cc
-answered is name (Some p) e some = ((made_of p.now).answer, ap (option_map (λ (m : Made). m.answer)) (sym e))
+answered is name (Some p) e some = ((results_of p.now).answer, ap (option_map (λ (m : Results). m.answer)) (sym e))
 
-some_made : (o : Option (Rc Published Global)) → option_map (λ p. made_of p.value) o ≢ None → is_some o ≡ true
-some_made o h = grind arith
+some_results : (o : Option (Rc Published Global)) → option_map (λ p. results_of p.value) o ≢ None → is_some o ≡ true
+some_results o h = grind arith
 
 pub all_some : (es : Entries) → AreEncoded (items_of es) → list_all (λ e. is_some e.1.published) es ≡ true
 all_some [] a = refl
 all_some (e ∷ es) a =
-    ap (λ b. b && list_all (λ e. is_some e.1.published) es) (some_made e.1.published a.0) ∙ all_some es a.1
+    ap (λ b. b && list_all (λ e. is_some e.1.published) es) (some_results e.1.published a.0) ∙ all_some es a.1
 
-pub all_left : (es : Entries) → map {B = List ℕ × Option Made} (λ e. (string_bytes e.0, made_of_named e.1)) es
-    ≡ map (λ (i : Item). (i.name, i.made)) (items_of es)
+pub all_left : (es : Entries) → map {B = List ℕ × Option Results} (λ e. (string_bytes e.0, results_of_named e.1)) es
+    ≡ map (λ (i : Item). (i.name, i.results)) (items_of es)
 all_left [] = refl
-all_left (e ∷ es) = ap (λ (xs : List (List ℕ × Option Made)). (string_bytes e.0, made_of_named e.1) ∷ xs) (all_left es)
+all_left (e ∷ es) = ap (λ (xs : List (List ℕ × Option Results)). (string_bytes e.0, results_of_named e.1) ∷ xs) (all_left es)

@@ -2,8 +2,8 @@
 use Rattle.olr_paths.proofs.Common.{option_and_then, AllByRecursion, slice_get-map, bytes_decides, string_bytes, length}
 use Rattle.olr_paths.proofs.Common.{set_value_at, NamesDiffer, option_map, cases_Bool, path_named, slice_get, string_eq}
 use Rattle.olr_paths.proofs.Common.{same_name, all_named, NamedPath, bytes_eq, set_item, position, is_some, ℕ, same_is, flipped}
-use Rattle.olr_paths.proofs.Common.{made_of_named, made_in, keys_of, get_or, Option, filter, lookup, remove, String, Global}
-use Rattle.olr_paths.proofs.Common.{subst, arith, false, zero, Bool, true, List, Some, None, refl, Path, Made, Item, inl, inr}
+use Rattle.olr_paths.proofs.Common.{results_of_named, results_in, keys_of, get_or, Option, filter, lookup, remove, String, Global}
+use Rattle.olr_paths.proofs.Common.{subst, arith, false, zero, Bool, true, List, Some, None, refl, Path, Results, Item, inl, inr}
 use Rattle.olr_paths.proofs.Common.{◌≡◌, suc, ◌<◌, not, ◌∷◌, map, sym, ◌∙◌, [], ap}
 use Rattle.std.proofs.lemmas.List.Quantifiers.{position-Some}
 use Rattle.std.specs.List.{IsDistinct}
@@ -34,7 +34,7 @@ same_flip a b = elim (cases_Bool (same_name a b)) [
 -- ---- lookups
 
 pub looked_up : (es : Entries) (name : List ℕ) →
-    made_in (items_of es) name ≡ option_and_then made_of_named (lookup (asks name) es)
+    results_in (items_of es) name ≡ option_and_then results_of_named (lookup (asks name) es)
 looked_up [] name = refl
 looked_up (e ∷ es) name = grind (arith, looked_up es name, same_flip (string_bytes e.0) name)
 
@@ -69,11 +69,11 @@ pub none_filtered : (is : List Item) (name : List ℕ) → absent is name → fi
 none_filtered [] name h = refl
 none_filtered (i ∷ is) name h = let r = not_here i is name h in rw r.0 (ap (λ (js : List Item). i ∷ js) (none_filtered is name r.1))
 
-pub sets_none : (is : List Item) (name : List ℕ) (path : Path) (made : Option Made) → absent is name →
-    map (set_item name path made) is ≡ is
-sets_none [] name path made h = refl
-sets_none (i ∷ is) name path made h =
-    let r = not_here i is name h in rw r.0 (ap (λ (js : List Item). i ∷ js) (sets_none is name path made r.1))
+pub sets_none : (is : List Item) (name : List ℕ) (path : Path) (results : Option Results) → absent is name →
+    map (set_item name path results) is ≡ is
+sets_none [] name path results h = refl
+sets_none (i ∷ is) name path results h =
+    let r = not_here i is name h in rw r.0 (ap (λ (js : List Item). i ∷ js) (sets_none is name path results r.1))
 
 -- the entry at p is the first of its name
 abbrev pub First : List ℕ → Entries → ℕ → Type 0
@@ -108,21 +108,21 @@ removed_items (e ∷ es) name (suc q) h d =
 -- the first entry of a name is replaced
 pub set_items : (es : Entries) (name : List ℕ) (q : ℕ) (n : NamedPath) → First name es q →
     NamesDiffer (all_named (items_of es)) →
-    items_of (set_value_at es q n) ≡ map (set_item name n.path.value (made_of_named n)) (items_of es)
+    items_of (set_value_at es q n) ≡ map (set_item name n.path.value (results_of_named n)) (items_of es)
 set_items [] name q n h d = absurd h
 set_items (e ∷ es) name zero n h d =
     let here : same_name (string_bytes e.0) name ≡ true = same_flip (string_bytes e.0) name ∙ h in
     rw here (ap (λ (js : List Item). item_of (e.0, n) ∷ js)
-    (sym (sets_none (items_of es) name n.path.value (made_of_named n)
+    (sym (sets_none (items_of es) name n.path.value (results_of_named n)
     (subst (absent (items_of es)) (same_is (string_bytes e.0) name here) d.0))))
 set_items (e ∷ es) name (suc q) n h d =
     let other : same_name (string_bytes e.0) name ≡ false = same_flip (string_bytes e.0) name ∙ h.0 in
     rw other (ap (λ (js : List Item). item_of e ∷ js) (set_items es name q n h.1 d.1))
 
 pub set_absent : (es : Entries) (name : List ℕ) (n : NamedPath) → lookup (asks name) es ≡ None →
-    items_of es ≡ map (set_item name n.path.value (made_of_named n)) (items_of es)
+    items_of es ≡ map (set_item name n.path.value (results_of_named n)) (items_of es)
 set_absent es name n h =
-    sym (sets_none (items_of es) name n.path.value (made_of_named n) (sym (named_there es name) ∙ ap is_some h))
+    sym (sets_none (items_of es) name n.path.value (results_of_named n) (sym (named_there es name) ∙ ap is_some h))
 
 -- ---- one entry
 

@@ -1,12 +1,11 @@
 -- Index entries that are added and removed one by one, and results to be stored at positions.
-use Rattle.olr_paths.proofs.Common.{option_to_list, CoverageQuery, All-contains, ArePublished, set_value_at, LackQueries}
-use Rattle.olr_paths.proofs.Common.{path_ids_of, option_map, IsNoted, keys_by, named_keys, AreNotedAt, map-append}
-use Rattle.olr_paths.proofs.Common.{AreEncoded, nat_tests, slice_get, Published, NamedPath, values_of, Contains, AddsOnly}
-use Rattle.olr_paths.proofs.Common.{ChangesOnly, BeginsIn, PathList, made_of, made_of_named, all_put, puts_of, length, get_or}
-use Rattle.olr_paths.proofs.Common.{IsTrue, Option, Begins, Finder, String, Global, subst, arith, holds, Index, Grows, items}
-use Rattle.olr_paths.proofs.Common.{◌==◌, List, ◌||◌, ◌&&◌, [], take, zero, Some, None, refl, Item, ◌++◌, Path, Made, ◌≡◌, ◌≢◌}
-use Rattle.olr_paths.proofs.Common.{Bool, false, is_some, true≢false}
-use Rattle.olr_paths.proofs.Common.{◌+◌, ◌<◌, not, All, suc, ◌∷◌, sym, ◌∙◌, has, ◌≤◌, Put, put, ap, Rc, ℕ}
+use Rattle.olr_paths.proofs.Common.{results_of_named, option_to_list, CoverageQuery, All-contains, ArePublished, set_value_at, []}
+use Rattle.olr_paths.proofs.Common.{LackQueries, path_ids_of, ChangesOnly, option_map, named_keys, AreNotedAt, map-append, length}
+use Rattle.olr_paths.proofs.Common.{AreEncoded, results_of, true≢false, nat_tests, slice_get, Published, NamedPath, values_of, ap}
+use Rattle.olr_paths.proofs.Common.{Contains, AddsOnly, BeginsIn, PathList, IsNoted, keys_by, all_put, puts_of, Results, is_some}
+use Rattle.olr_paths.proofs.Common.{get_or, IsTrue, Option, Begins, Finder, String, Global, subst, arith, holds, Index, Grows, Rc}
+use Rattle.olr_paths.proofs.Common.{items, false, ◌==◌, List, ◌||◌, ◌&&◌, take, zero, Some, None, refl, Item, ◌++◌, Path, Bool, ℕ}
+use Rattle.olr_paths.proofs.Common.{◌≡◌, ◌≢◌, ◌+◌, ◌<◌, not, All, suc, ◌∷◌, sym, ◌∙◌, has, ◌≤◌, Put, put}
 use Rattle.olr_paths.proofs.Alls.{all_more, at_position}
 use Rattle.olr_paths.proofs.NamedEntries.{Entries, item_of, items_of, item_at}
 use Rattle.olr_paths.proofs.PathIdLemmas.{NamedNoted, noted_grown}
@@ -75,8 +74,8 @@ is_published o b is off gone = true≢false (sym (is ∙ ap not off) ∙ ap is_s
 -- if each path was encoded, something is published of each
 pub all_published : (es : Entries) → AreEncoded (items_of es) → ArePublished es
 all_published es h k e at none =
-    at_position AreEncoded (λ i. i.made ≢ None) (λ x xs r. r) (items_of es) k (item_of e) h (item_at es k e at)
-    (ap (option_map (λ p. made_of p.value)) none)
+    at_position AreEncoded (λ i. i.results ≢ None) (λ x xs r. r) (items_of es) k (item_of e) h (item_at es k e at)
+    (ap (option_map (λ p. results_of p.value)) none)
 
 -- ---- no path has a coverage query, if none begins at a node
 
@@ -87,7 +86,7 @@ back (x ∷ es) zero i at = let same : item_of x ≡ i = cc (at) in (x, refl, sa
 back (x ∷ es) (suc k) i at = back es k i at
 
 lack_from : (es : Entries) (l : CoverageQuery)
-    → ((k : ℕ) (e : String Global × NamedPath) → slice_get es k ≡ Some e → BeginsIn (made_of_named e.1) l → ⊥) →
+    → ((k : ℕ) (e : String Global × NamedPath) → slice_get es k ≡ Some e → BeginsIn (results_of_named e.1) l → ⊥) →
     Begins (items_of es) l → ⊥
 lack_from [] l none h = h
 lack_from (e ∷ es) l none h = grind (arith, none 0 e refl, lack_from es l (λ k. none (suc k)))
@@ -101,7 +100,7 @@ pub lack_by : (p : PathList) → IsTrue p.finder.indexed → ((number : ℕ) →
     LackQueries (items p)
 lack_by p indexed empty l = lack_from p.paths.entries l (λ k e at. by k e at e.1.published refl) where
   by : (k : ℕ) (e : String Global × NamedPath) → slice_get p.paths.entries k ≡ Some e →
-      (o : Option (Rc Published Global)) → e.1.published ≡ o → BeginsIn (option_map (λ r. made_of r.value) o) l → ⊥
+      (o : Option (Rc Published Global)) → e.1.published ≡ o → BeginsIn (option_map (λ r. results_of r.value) o) l → ⊥
   by k e at None is b = b
   by k e at (Some r) is b =
       let id = get_or p.path_ids.items k 0 in
@@ -119,48 +118,48 @@ all_same es fs same h = all_published fs (subst AreEncoded (sym same) (encoded e
     encoded [] h = tt
     encoded (e ∷ es) h = ((λ none. h 0 e refl (not_published e.1.published none)), encoded es (λ k. h (suc k)))
       where
-        not_published : (o : Option (Rc Published Global)) → option_map (λ p. made_of p.value) o ≡ None → o ≡ None
+        not_published : (o : Option (Rc Published Global)) → option_map (λ p. results_of p.value) o ≡ None → o ≡ None
         not_published o none = grind arith
 
 -- after the first ones
-pub put_behind : (xs : List Item) (k : ℕ) (i : Item) (ys : List Item) (path : Path) (made : Option Made) →
+pub put_behind : (xs : List Item) (k : ℕ) (i : Item) (ys : List Item) (path : Path) (results : Option Results) →
     k ≤ length xs →
-    put (take k xs ++ i ∷ ys) k path made ≡ take k xs ++ record { name = i.name; path = path; made = made } ∷ ys
-put_behind xs zero i ys path made le = refl
-put_behind [] (suc k) i ys path made le = absurd (omega arith)
-put_behind (x ∷ xs) (suc k) i ys path made le = ap (λ zs. x ∷ zs) (put_behind xs k i ys path made (omega arith))
+    put (take k xs ++ i ∷ ys) k path results ≡ take k xs ++ record { name = i.name; path = path; results = results } ∷ ys
+put_behind xs zero i ys path results le = refl
+put_behind [] (suc k) i ys path results le = absurd (omega arith)
+put_behind (x ∷ xs) (suc k) i ys path results le = ap (λ zs. x ∷ zs) (put_behind xs k i ys path results (omega arith))
 
 -- the last of a list is stored first
 pub all_put-push : (is : List Item) (ps : List Put) (p : Put) →
-    all_put is (ps ++ p ∷ []) ≡ all_put (put is p.position p.path p.made) ps
+    all_put is (ps ++ p ∷ []) ≡ all_put (put is p.position p.path p.results) ps
 all_put-push is [] p = refl
-all_put-push is (q ∷ ps) p = ap (λ js. put js q.position q.path q.made) (all_put-push is ps p)
+all_put-push is (q ∷ ps) p = ap (λ js. put js q.position q.path q.results) (all_put-push is ps p)
 
 -- ---- in the entries of a map
 
 -- the new value replaces the old one
 pub put_at : (es : Entries) (k : ℕ) (n : NamedPath) →
-    items_of (set_value_at es k n) ≡ put (items_of es) k n.path.value (made_of_named n)
+    items_of (set_value_at es k n) ≡ put (items_of es) k n.path.value (results_of_named n)
 put_at [] k n = refl
 put_at (e ∷ es) zero n = refl
 put_at (e ∷ es) (suc k) n = ap (λ (is : List Item). item_of e ∷ is) (put_at es k n)
 
 -- if there is no entry, nothing is stored
-put_nowhere : (es : Entries) (k : ℕ) (path : Path) (made : Option Made) → None ≡ slice_get (values_of es) k →
-    put (items_of es) k path made ≡ items_of es
-put_nowhere [] k path made at = refl
-put_nowhere (e ∷ es) zero path made at = absurd cc
-put_nowhere (e ∷ es) (suc k) path made at = ap (λ (is : List Item). item_of e ∷ is) (put_nowhere es k path made at)
+put_nowhere : (es : Entries) (k : ℕ) (path : Path) (results : Option Results) → None ≡ slice_get (values_of es) k →
+    put (items_of es) k path results ≡ items_of es
+put_nowhere [] k path results at = refl
+put_nowhere (e ∷ es) zero path results at = absurd cc
+put_nowhere (e ∷ es) (suc k) path results at = ap (λ (is : List Item). item_of e ∷ is) (put_nowhere es k path results at)
 
 module _ (es : Entries) (k : ℕ) (n : NamedPath) (all rest : List One) (o : Option One)
     (last : all ≡ rest ++ option_to_list o) (is : o ≡ Some (k, n))
     (whole : List Item) (h : all_put (items_of es) (puts_of all) ≡ whole) where
   -- the last of the remaining ones, stored first
-  taken : all_put (put (items_of es) k n.path.value (made_of_named n)) (puts_of rest) ≡ whole
+  taken : all_put (put (items_of es) k n.path.value (results_of_named n)) (puts_of rest) ≡ whole
   taken = rw (last, is, map-append, all_put-push) at h
 
   pub placed : all_put (items_of (set_value_at es k n)) (puts_of rest) ≡ whole
   placed = ap (λ (js : List Item). all_put js (puts_of rest)) (put_at es k n) ∙ taken
 
   pub passed_by : None ≡ slice_get (values_of es) k → all_put (items_of es) (puts_of rest) ≡ whole
-  passed_by at = rw (put_nowhere es k n.path.value (made_of_named n) at) at taken
+  passed_by at = rw (put_nowhere es k n.path.value (results_of_named n) at) at taken

@@ -17,9 +17,9 @@ use Rattle.olr_spec.specs.Detours.{ChangedLine, Near, AccountsFor}
 use Rattle.olr_spec.specs.Queries.{CoverageQuery, KnownQuery, AreKnownWith}
 use Rattle.olr_commands.specs.State.{same_name}
 use Rattle.olr_commands.specs.Reply.{Entry, entry}
-use Rattle.olr_paths.specs.Items.{Made, Item, answer_in}
+use Rattle.olr_paths.specs.Items.{Results, Item, answer_in}
 
-abbrev pub TraversedTouched : List ℕ → Made → Type 0
+abbrev pub TraversedTouched : List ℕ → Results → Type 0
 TraversedTouched T m = (v : ℕ) × IsTrue (has T v) × Contains m.traversed v
 
 abbrev pub LineTouched : List ℕ → Path → Type 0
@@ -28,7 +28,7 @@ LineTouched X P = (x : ℕ) × IsTrue (has X x) × IsTrue (has P.lines x)
 abbrev pub QueryTouched : Map → List ℕ → List CoverageQuery → Type 0
 QueryTouched N T queries = (l : CoverageQuery) × Contains queries l × Near N T l.from (min l.within GREATEST_LIMIT)
 
-abbrev pub Touches : Map → List ℕ → List ℕ → Made → Path → Type 0
+abbrev pub Touches : Map → List ℕ → List ℕ → Results → Path → Type 0
 Touches N T X m P = TraversedTouched T m ⊎ (LineTouched X P ⊎ QueryTouched N T m.queries)
 
 abbrev pub StayKnown : Map → List ChangedLine → List KnownQuery → List KnownQuery → Type 0
@@ -39,21 +39,21 @@ StayKnown N C ks rest =
 abbrev pub Reported : List Item → List Item → List Entry → Type 0
 Reported before [] es = es ≡ []
 Reported before (j ∷ js) es =
-    (A : Answer) × (rest : List Entry) × (option_map (λ m. m.answer) j.made ≡ Some A) × Reported before js rest
+    (A : Answer) × (rest : List Entry) × (option_map (λ m. m.answer) j.results ≡ Some A) × Reported before js rest
     × (((answer_in before j.name ≡ Some A) × (es ≡ rest))
     ⊎ ((answer_in before j.name ≢ Some A) × (es ≡ entry j.name A ∷ rest)))
 
 abbrev pub AreEncoded : List Item → Type 0
 AreEncoded [] = ⊤
-AreEncoded (i ∷ is) = (i.made ≢ None) × AreEncoded is
+AreEncoded (i ∷ is) = (i.results ≢ None) × AreEncoded is
 
 abbrev pub without_answer : Item → Item
-without_answer i = record i { made = None }
+without_answer i = record i { results = None }
 
 abbrev pub to_renew : Bool → List Item → List Item
 to_renew false is = is
 to_renew true is = map without_answer is
 
 -- the path of that name is replaced
-abbrev pub set_item : List ℕ → Path → Option Made → Item → Item
-set_item name path made i = if same_name i.name name then record { name = i.name; path = path; made = made } else i
+abbrev pub set_item : List ℕ → Path → Option Results → Item → Item
+set_item name path results i = if same_name i.name name then record { name = i.name; path = path; results = results } else i

@@ -1,8 +1,8 @@
 -- A list of named paths, each with what is published of it.
---     Made      the results of a path: answer, traversed nodes, coverage queries, and those along its own lines.
+--     Results      the results of a path: answer, traversed nodes, coverage queries, and those along its own lines.
 --     IsEncodingOf g M P m      they are the results of the path on the map, with the margin
 --     Item      a name, its path and, if it was encoded, its results.
---     made_of_named n, item_of name n      the results of an entry of a list, if it was encoded; and its item under a name
+--     results_of_named n, item_of name n      the results of an entry of a list, if it was encoded; and its item under a name
 --     items l, left it      the items of a list;  what an iterator has left: the names and the results
 --     AreEncodings g M is      each path was encoded, with results that are right on the map.
 --     AreEncodingsIfAny g M is      the same for each path that was encoded
@@ -20,7 +20,7 @@ use Rattle.olr_paths.specs.declared.path_list.NamedPath.{NamedPath}
 use Rattle.olr_paths.specs.declared.path_list.PathList.{PathList}
 use Rattle.olr_paths.specs.declared.iter.Iter.{Iter}
 
-pub record Made : Type 0 where
+pub record Results : Type 0 where
   pub answer : Answer
   pub traversed : List ℕ
   pub queries : List CoverageQuery
@@ -29,12 +29,12 @@ pub record Made : Type 0 where
 pub record Item : Type 0 where
   pub name : List ℕ
   pub path : Path
-  pub made : Option Made
+  pub results : Option Results
 
 -- ---- Rust's values as these
 
-abbrev pub made_of : Encoded → Made
-made_of p =
+abbrev pub results_of : Encoded → Results
+results_of p =
     record {
       answer = answer_of p.answer;
       traversed = p.traversed;
@@ -42,21 +42,21 @@ made_of p =
       known = p.known.items;
     }
 
-abbrev pub made_of_named : NamedPath → Option Made
-made_of_named n = option_map (λ p. made_of p.value) n.published
+abbrev pub results_of_named : NamedPath → Option Results
+results_of_named n = option_map (λ p. results_of p.value) n.published
 
 abbrev pub item_of : List ℕ → NamedPath → Item
-item_of name n = record { name = name; path = n.path.value; made = made_of_named n }
+item_of name n = record { name = name; path = n.path.value; results = results_of_named n }
 
 abbrev pub items : PathList → List Item
 items l = map (λ e. item_of (string_bytes e.0) e.1) l.paths.entries
 
-abbrev pub left : Iter → List (List ℕ × Option Made)
-left it = map (λ e. (string_bytes e.0, made_of_named e.1)) it.entries
+abbrev pub left : Iter → List (List ℕ × Option Results)
+left it = map (λ e. (string_bytes e.0, results_of_named e.1)) it.entries
 
 -- ---- what is right on a map
 
-pub record IsEncodingOf (g : Margin) (M : Map) (P : Path) (m : Made) : Type 0 where
+pub record IsEncodingOf (g : Margin) (M : Map) (P : Path) (m : Results) : Type 0 where
   pub answer : EncodesWith g M P m.answer
   pub traversed : (v : ℕ) → Contains m.traversed v ↔ TraversedOf M P v
   pub queries : QueriesOfWith g M P m.queries
@@ -64,11 +64,11 @@ pub record IsEncodingOf (g : Margin) (M : Map) (P : Path) (m : Made) : Type 0 wh
 
 abbrev pub AreEncodings : Margin → Map → List Item → Type 0
 AreEncodings g M [] = ⊤
-AreEncodings g M (i ∷ is) = ((m : Made) × (i.made ≡ Some m) × IsEncodingOf g M i.path m) × AreEncodings g M is
+AreEncodings g M (i ∷ is) = ((m : Results) × (i.results ≡ Some m) × IsEncodingOf g M i.path m) × AreEncodings g M is
 
 abbrev pub AreEncodingsIfAny : Margin → Map → List Item → Type 0
 AreEncodingsIfAny g M [] = ⊤
-AreEncodingsIfAny g M (i ∷ is) = IfSome i.made (IsEncodingOf g M i.path) × AreEncodingsIfAny g M is
+AreEncodingsIfAny g M (i ∷ is) = IfSome i.results (IsEncodingOf g M i.path) × AreEncodingsIfAny g M is
 
 -- ---- the list in terms of the register's definitions
 
@@ -79,14 +79,14 @@ abbrev pub all_named : List Item → List Named
 all_named is = map named_of is
 
 -- the known coverage queries of results, if there are some
-abbrev pub known_in : Option Made → List KnownQuery
+abbrev pub known_in : Option Results → List KnownQuery
 known_in None = []
 known_in (Some m) = m.known
 
 -- the results of the path of that name
-abbrev pub made_in : List Item → List ℕ → Option Made
-made_in [] name = None
-made_in (i ∷ is) name = if same_name i.name name then i.made else made_in is name
+abbrev pub results_in : List Item → List ℕ → Option Results
+results_in [] name = None
+results_in (i ∷ is) name = if same_name i.name name then i.results else results_in is name
 
 abbrev pub answer_in : List Item → List ℕ → Option Answer
-answer_in is name = option_map (λ m. m.answer) (made_in is name)
+answer_in is name = option_map (λ m. m.answer) (results_in is name)

@@ -1,5 +1,5 @@
 -- The coverage queries of a list.
---     BeginsIn made l, Begins is l      l is a query of what was made;  one of a list's
+--     BeginsIn results l, Begins is l      l is a query of results;  one of a list's
 --     BeginsPut ps l      one of those that are put at places of a list
 --     farthest g, AreShort g is      the greatest length of a query with the margin, in decimetres;  no query is longer
 --     AreNewQueries ls is js      each query of the list js is one of the list is or one of ls
@@ -8,20 +8,20 @@ use Rattle.std.specs.Prelude.{ℕ, ◌*◌, ◌≤◌, ◌==◌, List, [], ◌�
 use Rattle.olr_spec.specs.Extension.{limit}
 use Rattle.olr_spec.specs.Margins.{Margin}
 use Rattle.olr_spec.specs.Queries.{CoverageQuery}
-use Rattle.olr_paths.specs.Items.{Made, Item}
+use Rattle.olr_paths.specs.Items.{Results, Item}
 use Rattle.olr_paths.specs.Stored.{Put}
 
-abbrev pub BeginsIn : Option Made → CoverageQuery → Type 0
+abbrev pub BeginsIn : Option Results → CoverageQuery → Type 0
 BeginsIn None l = ⊥
 BeginsIn (Some m) l = Contains m.queries l
 
 abbrev pub Begins : List Item → CoverageQuery → Type 0
 Begins [] l = ⊥
-Begins (i ∷ is) l = BeginsIn i.made l ⊎ Begins is l
+Begins (i ∷ is) l = BeginsIn i.results l ⊎ Begins is l
 
 abbrev pub BeginsPut : List Put → CoverageQuery → Type 0
 BeginsPut [] l = ⊥
-BeginsPut (p ∷ ps) l = BeginsIn p.made l ⊎ BeginsPut ps l
+BeginsPut (p ∷ ps) l = BeginsIn p.results l ⊎ BeginsPut ps l
 
 -- a line counts at most twice its length
 abbrev pub farthest : Margin → ℕ

@@ -33,7 +33,7 @@ RemovesNone cs = (name : List ℕ) → drops (change_at cs name) ≡ false
 abbrev pub under_change : Option (Option Path) → Item → List Item
 under_change None i = i ∷ []
 under_change (Some None) i = []
-under_change (Some (Some path)) i = record { name = i.name; path = path; made = None } ∷ []
+under_change (Some (Some path)) i = record { name = i.name; path = path; results = None } ∷ []
 
 abbrev pub under_changes : Changes → List Item → List Item
 under_changes cs [] = []

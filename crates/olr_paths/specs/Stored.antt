@@ -1,27 +1,27 @@
 -- Results that are stored in a list of named paths.
 --     Put      a path with its results, and its position.
---     puts_of es      the results that were made.
+--     puts_of es      the results that are put
 --     all_put is ps      the list with these at their positions
 use Rattle.std.specs.Prelude.{ℕ, zero, suc, List, [], ◌∷◌, map, Option}
 use Rattle.olr_spec.specs.Extension.{Path}
-use Rattle.olr_paths.specs.Items.{Made, Item, made_of_named}
+use Rattle.olr_paths.specs.Items.{Results, Item, results_of_named}
 use Rattle.olr_paths.specs.declared.path_list.NamedPath.{NamedPath}
 
 pub record Put : Type 0 where
   pub position : ℕ
   pub path : Path
-  pub made : Option Made
+  pub results : Option Results
 
 -- the item at that position has this path and these results, and keeps its name
-abbrev pub put : List Item → ℕ → Path → Option Made → List Item
-put [] k path made = []
-put (i ∷ is) zero path made = record { name = i.name; path = path; made = made } ∷ is
-put (i ∷ is) (suc k) path made = i ∷ put is k path made
+abbrev pub put : List Item → ℕ → Path → Option Results → List Item
+put [] k path results = []
+put (i ∷ is) zero path results = record { name = i.name; path = path; results = results } ∷ is
+put (i ∷ is) (suc k) path results = i ∷ put is k path results
 
 -- with each at its position
 abbrev pub all_put : List Item → List Put → List Item
 all_put is [] = is
-all_put is (p ∷ ps) = put (all_put is ps) p.position p.path p.made
+all_put is (p ∷ ps) = put (all_put is ps) p.position p.path p.results
 
 abbrev pub puts_of : List (ℕ × NamedPath) → List Put
-puts_of es = map (λ e. record { position = e.0; path = e.1.path.value; made = made_of_named e.1 }) es
+puts_of es = map (λ e. record { position = e.0; path = e.1.path.value; results = results_of_named e.1 }) es

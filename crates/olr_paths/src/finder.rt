@@ -10,7 +10,7 @@ use std::alloc::{AllocError, Global};
 
 /// The path ids by the numbers of traversed nodes, of nodes where coverage queries begin, and of lines. It may have
 /// more entries than the paths need.
-#[derive(Drop, Debug)]
+#[derive(Drop)]
 pub struct Finder {
     /// By the numbers of traversed nodes.
     pub traversed: Index,

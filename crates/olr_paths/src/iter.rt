@@ -17,11 +17,11 @@ pub struct Iter<'a> {
 impl<'a> Iterator for Iter<'a> {
     ghost use Rattle.std.specs.Prelude.{Some};
     ghost use Rattle.std.specs.Iterator.{YieldsFirstBy, item_count};
-    ghost use Rattle.olr_paths.specs.Items.{made_of, left};
+    ghost use Rattle.olr_paths.specs.Items.{results_of, left};
 
     type Item = (&'a str, &'a Published);
 
-    ghost next_gives = { YieldsFirstBy (λ item. (item.0.now, Some (made_of item.1.now))) left };
+    ghost next_gives = { YieldsFirstBy (λ item. (item.0.now, Some (results_of item.1.now))) left };
 
     ghost remaining = { item_count left };
 
@@ -51,7 +51,7 @@ impl PathList {
     /// The paths in order, each with what is published of it. All of them were encoded.
     pub fn iter(&self) -> Iter<'_>
         requires encoded { AreEncoded (items self.now) }
-        ensures { left result ≡ map (λ i. (i.name, i.made)) (items self.now) }
+        ensures { left result ≡ map (λ i. (i.name, i.results)) (items self.now) }
     {
         Iter {
             entries: self.paths.iter(),

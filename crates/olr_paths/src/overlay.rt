@@ -132,7 +132,7 @@ impl Overlay {
         requires { (is : List Item)
             × (is_some (path_named (all_named (under_overlay is self.old)) (string_bytes name)) ≡ false) }
         ensures ok { OnOk result ((is : List Item) → under_overlay is self.new ≡ under_overlay is self.old
-            ++ record { name = string_bytes name; path = path; made = None } ∷ []) }
+            ++ record { name = string_bytes name; path = path; results = None } ∷ []) }
         ensures err { OnErr result ((is : List Item) → under_overlay is self.new ≡ under_overlay is self.old) }
     {
         self.added.hold(alloc, name, path)

@@ -13,7 +13,7 @@ use std::alloc::{AllocError, Global};
 use std::rc::Rc;
 
 /// A path and, if it was encoded, what is published of it.
-#[derive(Drop, Debug)]
+#[derive(Drop)]
 pub struct NamedPath {
     /// The path.
     pub path: Rc<Path>,
@@ -23,7 +23,7 @@ pub struct NamedPath {
 
 impl NamedPath {
     ghost use Rattle.std.specs.Prelude.{◌≡◌, IfOk, option_map};
-    ghost use Rattle.olr_paths.specs.Items.{made_of, made_of_named};
+    ghost use Rattle.olr_paths.specs.Items.{results_of, results_of_named};
     ghost use Rattle.olr_paths.specs.Finders.{keys_in, named_keys};
 
     /// What the path is found by.
@@ -42,7 +42,7 @@ impl NamedPath {
 
     /// What is published of the path. None if it is not encoded yet.
     pub(crate) fn published(&self) -> Option<&Published>
-        ensures { option_map (λ p. made_of p.now) result ≡ made_of_named self.now }
+        ensures { option_map (λ p. results_of p.now) result ≡ results_of_named self.now }
     {
         match &self.published {
             Some(published) => Some(&**published),
@@ -53,7 +53,7 @@ impl NamedPath {
     /// A second value that shares the path and what is published of it.
     pub(crate) fn share(&self) -> Result<NamedPath, AllocError>
         ensures path { IfOk result (λ n. n.path.value ≡ self.now.path.value) }
-        ensures made { IfOk result (λ n. made_of_named n ≡ made_of_named self.now) }
+        ensures results { IfOk result (λ n. results_of_named n ≡ results_of_named self.now) }
     {
         let path = self.path.clone()?;
         let published = match &self.published {
@@ -65,7 +65,6 @@ impl NamedPath {
 }
 
 /// Paths by name, in the order of their registration.
-#[derive(Debug)]
 pub struct PathList {
     /// The paths by their names, in order.
     pub paths: IndexMap<String, NamedPath>,
@@ -100,7 +99,7 @@ impl PathList {
     ghost use Rattle.std.specs.Prelude.{◌≡◌, [], ◌∷◌, ◌++◌, true, false, not, None, map, filter, take, length, is_some};
     ghost use Rattle.std.specs.Prelude.{slice_get, string_bytes, option_map, IfOk, OnOk, OnErr};
     ghost use Rattle.olr_commands.specs.State.{NamesDiffer, path_named, same_name};
-    ghost use Rattle.olr_paths.specs.Items.{items, item_of, made_of, made_of_named, all_named, made_in};
+    ghost use Rattle.olr_paths.specs.Items.{items, item_of, results_of, results_of_named, all_named, results_in};
     ghost use Rattle.olr_paths.specs.Changes.{AreEncoded, set_item};
 
     /// The list without paths. Takes no memory.
@@ -146,7 +145,7 @@ impl PathList {
         ensures { option_map (λ p. record {
           name = p.0.now;
           path = p.1.now;
-          made = option_map (λ q. made_of q.now) p.2;
+          results = option_map (λ q. results_of q.now) p.2;
         }) result ≡ slice_get (items self.now) k }
     {
         let (name, named) = self.paths.get_index(k)?;
@@ -162,7 +161,7 @@ impl PathList {
 
     /// What is published of the path of that name. None if there is none, or if it is not encoded yet.
     pub fn published_of(&self, name: &str) -> Option<&Published>
-        ensures { option_map (λ p. made_of p.now) result ≡ made_in (items self.now) name.now }
+        ensures { option_map (λ p. results_of p.now) result ≡ results_in (items self.now) name.now }
     {
         self.paths.get(name)?.published()
     }
@@ -179,7 +178,7 @@ impl PathList {
     pub fn hold(&mut self, alloc: Global, name: String, path: Path) -> Result<(), AllocError>
         requires { is_some (path_named (all_named (items self.old)) (string_bytes name)) ≡ false }
         ensures ok { OnOk result (items self.new ≡ items self.old
-            ++ record { name = string_bytes name; path = path; made = None } ∷ []) }
+            ++ record { name = string_bytes name; path = path; results = None } ∷ []) }
         ensures err { OnErr result (items self.new ≡ items self.old) }
     {
         let named = NamedPath {
@@ -245,7 +244,7 @@ impl PathList {
     /// Replaces the path of a name. It keeps its position. If an allocation fails, the list is unchanged.
     pub fn replace(&mut self, name: &str, named: NamedPath) -> Result<(), AllocError>
         ensures ok { OnOk result (items self.new
-            ≡ map (set_item name.now named.path.value (made_of_named named)) (items self.old)) }
+            ≡ map (set_item name.now named.path.value (results_of_named named)) (items self.old)) }
         ensures err { OnErr result (items self.new ≡ items self.old) }
     {
         let Some((position, _, current)) = self.paths.get_full(name) else {

@@ -11,7 +11,7 @@ use olr_model::Footprint;
 use std::alloc::{AllocError, Global};
 
 /// A path's answer, its text, its traversed nodes, its coverage queries, and those along its own lines.
-#[derive(Drop, Debug)]
+#[derive(Drop)]
 pub struct Published {
     pub(crate) answer: Answer,
     pub(crate) text: Option<String>,
@@ -25,7 +25,7 @@ impl Published {
     ghost use Rattle.std.specs.Prelude.{◌↔◌, IsTrue};
     ghost use Rattle.olr_commands.specs.Reply.{entry};
     ghost use Rattle.olr_commands.specs.Words.{entry_of};
-    ghost use Rattle.olr_paths.specs.Items.{made_of};
+    ghost use Rattle.olr_paths.specs.Items.{results_of};
 
     /// What is published for an answer. It fails if there is no memory for the text.
     pub fn new(
@@ -35,7 +35,7 @@ impl Published {
         queries: Vec<CoverageQuery>,
         known: Vec<KnownQuery>,
     ) -> Result<Published, AllocError>
-        ensures { IfOk result (λ p. made_of p ≡ record {
+        ensures { IfOk result (λ p. results_of p ≡ record {
           answer = answer_of answer;
           traversed = traversed;
           queries = queries.items;
@@ -57,21 +57,21 @@ impl Published {
 
     /// The answer.
     pub fn answer(&self) -> &Answer
-        ensures { answer_of result.now ≡ (made_of self.now).answer }
+        ensures { answer_of result.now ≡ (results_of self.now).answer }
     {
         &self.answer
     }
 
     /// The text of the reference. None if the path is not encodable.
     pub fn text(&self) -> Option<&str>
-        ensures { option_map (λ t. t.now) result ≡ result_ok (published_text (made_of self.now).answer) }
+        ensures { option_map (λ t. t.now) result ≡ result_ok (published_text (results_of self.now).answer) }
     {
         self.text.as_deref()
     }
 
     /// The path's string, or the reason why it has none.
     pub fn string(&self) -> Result<&str, &Refusal>
-        ensures { result_map_both (λ s. s.now) (λ r. refusal_of r.now) result ≡ published_text (made_of self.now).answer }
+        ensures { result_map_both (λ s. s.now) (λ r. refusal_of r.now) result ≡ published_text (results_of self.now).answer }
     {
         match self.answer() {
             Answer::Points(_) => Ok(self.text().unwrap()),
@@ -82,28 +82,28 @@ impl Published {
     /// The path's traversed nodes, in ascending order: those of its extended path and of the runs of degree-two nodes
     /// that were tried.
     pub fn traversed(&self) -> &Footprint
-        ensures { result.now ≡ (made_of self.now).traversed }
+        ensures { result.now ≡ (results_of self.now).traversed }
     {
         &self.traversed
     }
 
     /// The coverage queries of the encoding, in the order of the LRPs at which they begin.
     pub fn queries(&self) -> &[CoverageQuery]
-        ensures { result.now ≡ (made_of self.now).queries }
+        ensures { result.now ≡ (results_of self.now).queries }
     {
         self.queries.as_slice()
     }
 
     /// The coverage queries along the path's own lines, in the order of the lines where they begin.
     pub fn known(&self) -> &[KnownQuery]
-        ensures { result.now ≡ (made_of self.now).known }
+        ensures { result.now ≡ (results_of self.now).known }
     {
         self.known.as_slice()
     }
 
     /// Whether the other has the same answer, by their texts or their reasons.
     pub fn has_answer_of(&self, other: &Published) -> bool
-        ensures { IsTrue result ↔ ((made_of self.now).answer ≡ (made_of other.now).answer) }
+        ensures { IsTrue result ↔ ((results_of self.now).answer ≡ (results_of other.now).answer) }
     {
         match (&self.answer, &other.answer) {
             (Answer::Points(one), Answer::Points(another)) => {
@@ -119,7 +119,7 @@ impl Published {
 
     /// The entry of a reply under this name: the text, or the reason why there is none.
     pub fn entry(&self, alloc: Global, name: &str) -> Result<Entry, AllocError>
-        ensures { IfOk result (λ e. entry_of e ≡ entry name.now (made_of self.now).answer) }
+        ensures { IfOk result (λ e. entry_of e ≡ entry name.now (results_of self.now).answer) }
     {
         let name = String::from_str(alloc, name)?;
         let published = match self.string() {

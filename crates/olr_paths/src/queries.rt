@@ -1,7 +1,7 @@
 //! The coverage queries of a list.
 ghost use Rattle.std.specs.Prelude.{Contains, IfOk, OnOk};
 ghost use Rattle.olr_spec.specs.Queries.{CoverageQuery as QueryRecord};
-ghost use Rattle.olr_paths.specs.Items.{items, made_of_named};
+ghost use Rattle.olr_paths.specs.Items.{items, results_of_named};
 ghost use Rattle.olr_paths.specs.Origins.{BeginsIn, Begins, BeginsPut};
 ghost use Rattle.olr_paths.specs.Stored.{puts_of};
 
@@ -12,7 +12,7 @@ use std::alloc::{AllocError, Global};
 /// Appends the coverage queries of a path.
 fn push_queries(named: &NamedPath, queries: &mut Vec<CoverageQuery>) -> Result<(), AllocError>
     ensures before { OnOk result ((l : QueryRecord) → Contains queries.old.items l → Contains queries.new.items l) }
-    ensures named { OnOk result ((l : QueryRecord) → BeginsIn (made_of_named named.now) l
+    ensures named { OnOk result ((l : QueryRecord) → BeginsIn (results_of_named named.now) l
         → Contains queries.new.items l) }
 {
     let Some(published) = named.published() else {

@@ -1,9 +1,11 @@
 -- The ambiguities of the strings of a register's paths, path by path.
-use Rattle.olr_register.proofs.Common.{◌≡◌, ◌∷◌, map, sym, ap, ◌∙◌, take, ◌+◌, Map, Path, Item, Made, All}
+use Rattle.olr_register.proofs.Common.{◌≡◌, ◌∷◌, map, sym, ap, ◌∙◌, take, ◌+◌, Map, Path, Item, Results, All}
 use Rattle.olr_register.proofs.Common.{ℕ, ◌++◌, Some, refl, subst, Margin, Named, Option, IsMap, is_path, length, named, IsTrue}
 use Rattle.olr_register.proofs.Common.{List, all_named, named_of, Ambiguity, answer_of, has_line, Reference, Obstacle, known_in}
 use Rattle.olr_register.proofs.Common.{[], append_assoc, AreEncodings, IsEncodingOf, take_more_at, NamedObstacle, slice_get-map}
-use Rattle.olr_register.proofs.Common.{append-nil, slice_get, option_map, AreKnownWith, obstacles_of, Ambiguities, at_position}
+use Rattle.olr_register.proofs.Common.{arith, length-map, take_all, append-nil, slice_get}
+use Rattle.olr_register.proofs.Common.{option_map, AreKnownWith, obstacles_of, Ambiguities, at_position}
+use Rattle.std.specs.Prelude.{◌≤◌}
 use Rattle.olr_answers.specs.declared.answer.Answer.TheVariants.{Points}
 use Rattle.olr_refs.specs.declared.encoding.Encoding.{Encoding}
 use Rattle.olr_refs.specs.Referring.{IsEncoding}
@@ -47,12 +49,19 @@ module _ (g : Margin) (M : Map) (is : List Item) (k : ℕ) (i : Item) (at : slic
       subst (λ (ps : List Named). Ambiguities g M ps (es ++ own)) (sym (take_more_at (all_named is) k (named_of i) named_at))
       (ambiguities_more g M (take k (all_named is)) (named_of i) es own a o)
 
+-- after the last
+pub ambiguities_all : (g : Margin) (M : Map) (is : List Item) (es : List NamedObstacle) (k n : ℕ) → n ≡ length is → n ≤ k →
+    Ambiguities g M (take k (all_named is)) es → Ambiguities g M (all_named is) es
+ambiguities_all g M is es k n all past a =
+    subst (λ (ps : List Named). Ambiguities g M ps es)
+    (take_all k (all_named is) (omega (arith, all, past, length-map is named_of))) a
+
 -- ---- what is known of a path
 
 pub known_at : (g : Margin) (M : Map) (is : List Item) (k : ℕ) (i : Item) → AreEncodings g M is → slice_get is k ≡ Some i →
-    AreKnownWith g M i.path.lines (known_in i.made)
+    AreKnownWith g M i.path.lines (known_in i.results)
 known_at g M is k i a at =
-    let P : Item → Type 0 = λ x. (m : Made) × (x.made ≡ Some m) × IsEncodingOf g M x.path m in
+    let P : Item → Type 0 = λ x. (m : Results) × (x.results ≡ Some m) × IsEncodingOf g M x.path m in
     let e = at_position (AreEncodings g M) P (λ x is h. h) is k i a at in
-    subst (λ (o : Option Made). AreKnownWith g M i.path.lines (known_in o)) (sym e.1)
+    subst (λ (o : Option Results). AreKnownWith g M i.path.lines (known_in o)) (sym e.1)
     (λ j d lt. (e.2.known j d lt).right)

@@ -1,24 +1,23 @@
 -- Opening a batch, and one more change in an open batch, in terms of the definitions of commands.
-use Rattle.olr_register.proofs.Common.{◌≡◌, ℕ, suc, arith, Bool, true, false, List, [], ◌∷◌, ◌++◌, length, map, Some, Result}
-use Rattle.olr_register.proofs.Common.{Ok, Err, refl, sym, ap, ◌∙◌, subst, append_assoc, ◌==◌, ◌&&◌, nat_le, append-nil}
-use Rattle.olr_register.proofs.Common.{list_any-append, flat_map-append, has, map_of, map_before, RoadMap, Work, Named, Content}
-use Rattle.olr_register.proofs.Common.{Fault, full, when, Change, with_change, after, Make, step, takes_memory, may_want}
-use Rattle.olr_register.proofs.Common.{is_reported_first, nodes_of_change, lines_of_change, all_nodes, Margin, command_fault_of}
-use Rattle.olr_register.proofs.Common.{reply_of, Reply, CommandFault, Item, under_batch, content_on, content_under, batch_of}
-use Rattle.olr_register.proofs.Common.{held_of, Answered, AreGiven, MayReport, ByContent, Lacks, HoldsChange, None, Begin}
-use Rattle.olr_register.proofs.Common.{IsContent, ByState, DistanceBounds, AreEncodingsIfAny, Begins, Follows, nodes_of}
-use Rattle.olr_register.proofs.Common.{lines_of, changed_of, follows_self, named_held, AreTouched, IsStateRight, IsHeld}
-use Rattle.olr_register.proofs.Common.{HasBounds, all_named, flat_map, Differences, IsRegister, IsRenewal, eq-eqb, Commit}
-use Rattle.olr_register.proofs.Common.{Batch_full, next, into_batch, length_push, next_ok, after_push, content_with, room_of}
-use Rattle.olr_register.proofs.Common.{all_node_puts, all_line_puts, CanMakeAll, made_all, log_changes, entries_of, Renewed}
-use Rattle.olr_register.proofs.Common.{IsRefusal, RegisterState, IsBatchOf, Batch, Outcome}
+use Rattle.olr_register.proofs.Common.{is_reported_first, AreEncodingsIfAny, command_fault_of, list_any-append, flat_map-append}
+use Rattle.olr_register.proofs.Common.{nodes_of_change, lines_of_change, DistanceBounds, content_under, all_node_puts, append-nil}
+use Rattle.olr_register.proofs.Common.{all_line_puts, RegisterState, append_assoc, takes_memory, CommandFault, follows_self, Bool}
+use Rattle.olr_register.proofs.Common.{IsStateRight, content_with, with_change, under_batch, HoldsChange, Differences, map_before}
+use Rattle.olr_register.proofs.Common.{length_push, log_changes, content_on, changed_of, named_held, AreTouched, IsRegister, true}
+use Rattle.olr_register.proofs.Common.{Batch_full, into_batch, after_push, CanMakeAll, entries_of, all_nodes, MayReport, may_want}
+use Rattle.olr_register.proofs.Common.{ByContent, IsContent, HasBounds, all_named, IsRenewal, IsRefusal, IsBatchOf, reply_of, ◌≡◌}
+use Rattle.olr_register.proofs.Common.{batch_of, Answered, AreGiven, nodes_of, lines_of, flat_map, made_all, RoadMap, Content, []}
+use Rattle.olr_register.proofs.Common.{held_of, ByState, Follows, next_ok, room_of, Renewed, Outcome, length, Result, nat_le, suc}
+use Rattle.olr_register.proofs.Common.{map_of, Change, Margin, Begins, IsHeld, eq-eqb, Commit, arith, false, subst, Named, Fault}
+use Rattle.olr_register.proofs.Common.{after, Reply, Lacks, Begin, Batch, List, ◌++◌, Some, refl, ◌==◌, ◌&&◌, Work, full, when, ℕ}
+use Rattle.olr_register.proofs.Common.{Make, step, Item, None, next, ◌∷◌, map, Err, sym, ◌∙◌, has, Ok, ap}
 use Rattle.olr_register.proofs.Listed.{named_twice, given_at_first}
 use Rattle.olr_register.proofs.Outcomes.{answered_uncounted, answered_refused, Keeps}
 use Rattle.olr_register.proofs.States.{state, register_of, of_parts, in_states, register_moved}
 use Rattle.olr_register.proofs.Touched.{touched_idle}
-use Rattle.olr_register.proofs.Renewed.{made_if_any}
+use Rattle.olr_register.proofs.Renewed.{encoded_if_any}
 use Rattle.olr_commands.specs.Reply as replies
-use Rattle.olr_register.proofs.Renewed.{remade_made}
+use Rattle.olr_register.proofs.Renewed.{reencoded_encoded}
 use Rattle.olr_register.proofs.Replies.{planned_changes}
 
 -- ---- the held changes, with one more
@@ -57,8 +56,8 @@ module _ (roads : RoadMap) (is : List Item) (b : Batch) (js : List Item) (n : Re
   pub renewed_reply : (g : Margin) → IsRegister g roads is (Some b) →
       Differences (content_on g (map_before roads b.log) is) (content_on b.margin (map_of roads) js) (entries_of n)
   renewed_reply g h =
-      planned_changes g b.margin (map_before roads b.log) (map_of roads) is js (entries_of n) h.content h.made
-      (remade_made b.margin (map_of roads) (under_batch is b) js e.remade) e.reported
+      planned_changes g b.margin (map_before roads b.log) (map_of roads) is js (entries_of n) h.content h.encoded
+      (reencoded_encoded b.margin (map_of roads) (under_batch is b) js e.reencoded) e.reported
 
 held_when : (c : Content) (ys : List Change) (b : Bool) (f : Fault) (r : Result Content Fault) →
     when b f (into_batch c ys r) ≡ into_batch c ys (when b f r)
@@ -157,9 +156,9 @@ module _ (g : Margin) (roads : RoadMap) (is : List Item) (b : Batch) (bounds : D
     edits =
         coe 0 1 (i. AreTouched (sym same_before i) (map_of roads) (sym e.nodes i) (sym e.lines i)
         (sym e.changed i)) (touched_idle (map_of roads) [] [] [] refl);
-    made =
+    encoded =
         coe 0 1 (i. AreEncodingsIfAny (sym e.margin i) (sym same_before i) (sym (e.paths is) i))
-        (made_if_any g (map_of roads) is h.register.made);
+        (encoded_if_any g (map_of roads) is h.register.encoded);
     follows = subst (Follows is) (sym (e.paths is)) (follows_self is h.register.content.names);
     begins = λ v on. subst (λ (ks : List Item). Begins ks v) (e.paths is) on;
   }
@@ -181,7 +180,7 @@ module _ (g : Margin) (roads : RoadMap) (is : List Item) (b : Batch) (bounds : D
     lines = λ y. ap (λ (ys : List ℕ). has ys y) e.lines;
     given =
         subst (λ (ks : List Item). AreGiven [] (map held_of ks)) (sym (e.paths is))
-        (given_at_first g (map_of roads) is h.register.made);
+        (given_at_first g (map_of roads) is h.register.encoded);
   }
 
   pub begin_done : (w : Work) (r : Reply) → reply_of r ≡ replies.Paths [] →

@@ -1,19 +1,18 @@
 -- The distance bounds that a register stores: with a source where each coverage query of its list begins, and right on its
 -- map once they are settled, if the nodes that edits touched are reopened before.
-use Rattle.olr_register.proofs.Common.{◌≡◌, ℕ, subst, List, [], Ok, inl, Map, Edit, edited, start, map_of, RoadMap}
-use Rattle.olr_register.proofs.Common.{DistanceBounds, Item, HasBounds, IsFalse, nodes_of, IsTrue, has_node, end, none_differs}
-use Rattle.olr_register.proofs.Common.{slot_of, KeepsSlots, AddsNoNode, IsEdit, IsUnderWay, SameBut, edit_under_way}
-use Rattle.olr_register.proofs.Common.{AreBoundsOf, CanRenewUnder, under_overlay, Overlay, NamesDiffer, CanUpdate, arith, IsMap}
-use Rattle.olr_register.proofs.Common.{cases_eq, has_line}
+use Rattle.olr_register.proofs.Common.{DistanceBounds, edit_under_way, CanRenewUnder, under_overlay, none_differs, AreBoundsOf, ℕ}
+use Rattle.olr_register.proofs.Common.{NamesDiffer, KeepsSlots, AddsNoNode, IsUnderWay, HasBounds, CanUpdate, nodes_of, has_node}
+use Rattle.olr_register.proofs.Common.{cases_eq, has_line, RoadMap, IsFalse, slot_of, SameBut, Overlay, edited, map_of, IsTrue}
+use Rattle.olr_register.proofs.Common.{IsEdit, subst, start, arith, IsMap, List, Edit, Item, ◌≡◌, inl, Map, end, [], Ok}
 use Rattle.olr_spec.proofs.AgreeLemmas.{turned_round}
 use Rattle.olr_renewal.specs.declared.update.MapUpdate.{MapUpdate}
 use Rattle.olr_spec.proofs.EditLemmas.{edit_laws, left_other}
 use Rattle.olr_register.proofs.Listed.{named_to_renew}
 
--- unknown bounds say nothing
-pub bounded_unknown : {roads : RoadMap} {T : List ℕ} {is : List Item} {bounds : DistanceBounds} → IsFalse bounds.known →
+-- invalid bounds say nothing
+pub bounded_invalid : {roads : RoadMap} {T : List ℕ} {is : List Item} {bounds : DistanceBounds} → IsFalse bounds.valid →
     HasBounds roads T is bounds
-bounded_unknown off =
+bounded_invalid off =
     record {
       under_way = λ on. let never : ⊥ = cc (on, off) in absurd never;
       sources = λ v b on. let never : ⊥ = cc (on, off) in absurd never;

@@ -4,7 +4,7 @@ use Rattle.olr_register.proofs.Common.{◌∙◌, subst, IsErrAnd, Change, Conte
 use Rattle.olr_register.proofs.Common.{Margin, MayReport, command_fault_of, content_on, without_answer, ChangeSet, IsContent}
 use Rattle.olr_register.proofs.Common.{IsRenewal, Named, all_named, to_renew, changed_of, length-map, named_of, CountIs}
 use Rattle.olr_register.proofs.Common.{raised_count, Renewed, IsAffected}
-use Rattle.olr_renewal.specs.Changes.{By_name}
+use Rattle.olr_commands.specs.Counts.{By_name}
 use Rattle.olr_register.specs.Built.{Builds}
 use Rattle.olr_register.proofs.Listed.{named_to_renew}
 use Rattle.olr_register.proofs.Touched.{can_set}

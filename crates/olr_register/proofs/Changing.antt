@@ -3,7 +3,7 @@ use Rattle.olr_register.proofs.Common.{arith, Bool, true, false, not, List, filt
 use Rattle.olr_register.proofs.Common.{◌≡◌, Option, is_path, Content, No_path, with_map, set_item, has_name, MapFault, Bad_path}
 use Rattle.olr_register.proofs.Common.{ℕ, with_change, is_reported_first, MatchResult, edit_fault_of, Path_exists, map_fault_of}
 use Rattle.olr_register.proofs.Common.{[], same_name, has_path, Add_path, Set_path, Drop_path, content_on, MayReport, Map_fault}
-use Rattle.olr_register.proofs.Common.{◌∷◌, ◌++◌, map, Ok, Err, IsOk, refl, sym, ap, Map, Path, when, Made, Item}
+use Rattle.olr_register.proofs.Common.{◌∷◌, ◌++◌, map, Ok, Err, IsOk, refl, sym, ap, Map, Path, when, Results, Item}
 use Rattle.olr_map.specs.declared.judging.EditPlan.{EditPlan}
 use Rattle.olr_model.specs.declared.edit.EditFault.{EditFault}
 use Rattle.olr_register.proofs.Listed.{names_add, names_set, names_drop}
@@ -48,15 +48,15 @@ edit_lacks c (Err g) h = absurd cc
 
 -- ---- accepted, with these results of the path
 
-pub add_ok : (g : Margin) (M : Map) (is : List Item) (name : List ℕ) (path : Path) (made : Option Made) → has_name is name ≡ false →
+pub add_ok : (g : Margin) (M : Map) (is : List Item) (name : List ℕ) (path : Path) (results : Option Results) → has_name is name ≡ false →
     is_path path.lines ≡ true → with_change (content_on g M is) (Add_path name path)
-    ≡ Ok (content_on g M (is ++ record { name = name; path = path; made = made } ∷ []))
-add_ok g M is name path made free good = rw (free, good) (ap (content_from g M) (sym (names_add is _)))
+    ≡ Ok (content_on g M (is ++ record { name = name; path = path; results = results } ∷ []))
+add_ok g M is name path results free good = rw (free, good) (ap (content_from g M) (sym (names_add is _)))
 
-pub set_ok : (g : Margin) (M : Map) (is : List Item) (name : List ℕ) (path : Path) (made : Option Made) → has_name is name ≡ true →
+pub set_ok : (g : Margin) (M : Map) (is : List Item) (name : List ℕ) (path : Path) (results : Option Results) → has_name is name ≡ true →
     is_path path.lines ≡ true
-    → with_change (content_on g M is) (Set_path name path) ≡ Ok (content_on g M (map (set_item name path made) is))
-set_ok g M is name path made there good = rw (there, good) (ap (content_from g M) (sym (names_set name path made is)))
+    → with_change (content_on g M is) (Set_path name path) ≡ Ok (content_on g M (map (set_item name path results) is))
+set_ok g M is name path results there good = rw (there, good) (ap (content_from g M) (sym (names_set name path results is)))
 
 pub drop_ok : (g : Margin) (M : Map) (is : List Item) (name : List ℕ) → has_name is name ≡ true →
     with_change (content_on g M is) (Drop_path name) ≡ Ok (content_on g M (filter (λ i. not (same_name i.name name)) is))

@@ -26,16 +26,15 @@ pub use Rattle.olr_commands.specs.declared.fault.CommandFault.TheVariants.{Memor
 pub use Rattle.olr_commands.specs.declared.fault.CommandFault.{CommandFault}
 pub use Rattle.olr_commands.specs.declared.reply.Reply.{Reply}
 pub use Rattle.olr_map.specs.Changes.{AddsNoNode, KeepsSlots, all_line_puts, all_node_puts, room_of}
-pub use Rattle.olr_map.specs.RoadMaps.{CanUndoAll, map_before, map_of, slot_of}
-pub use Rattle.olr_map.specs.RoadMaps.{CanMakeAll, dropped_nodes, log_changes, made_all}
+pub use Rattle.olr_map.specs.RoadMaps.{dropped_nodes, log_changes, CanUndoAll, map_before, CanMakeAll, made_all, slot_of, map_of}
 pub use Rattle.olr_map.specs.declared.road_map.RoadMap.{RoadMap}
 pub use Rattle.olr_model.specs.Edits.{edit_fault_of, edit_of}
 pub use Rattle.olr_paths.proofs.Alls.{all_more, at_position}
 pub use Rattle.olr_paths.proofs.OriginLemmas.{begins_add, begins_drop, begins_set}
 pub use Rattle.olr_paths.proofs.Overlaying.{has_name}
 pub use Rattle.olr_paths.specs.Changes.{AreEncoded, Reported, set_item, to_renew, without_answer}
-pub use Rattle.olr_paths.specs.Items.{AreEncodings, AreEncodingsIfAny, IsEncodingOf, Item, Made, all_named, answer_in, items}
-pub use Rattle.olr_paths.specs.Items.{known_in, made_in, named_of}
+pub use Rattle.olr_paths.specs.Items.{AreEncodings, AreEncodingsIfAny, IsEncodingOf, Item, Results, all_named, answer_in, items}
+pub use Rattle.olr_paths.specs.Items.{known_in, results_in, named_of}
 pub use Rattle.olr_paths.specs.Origins.{Begins}
 pub use Rattle.olr_paths.specs.Overlaid.{under_overlay}
 pub use Rattle.olr_paths.specs.declared.overlay.Overlay.{Overlay}
@@ -54,11 +53,11 @@ pub use Rattle.olr_register.specs.Registered.{Applied, HaveEncodings, PublishedW
 pub use Rattle.olr_register.specs.declared.batch.Batch.{Batch, Batch as Open}
 pub use Rattle.olr_register.specs.declared.register.Register.TheInside.{Inside}
 pub use Rattle.olr_renewal.proofs.BoundLemmas.{edit_under_way}
-pub use Rattle.olr_renewal.proofs.Following.{answer_made, follows_self, follows_without}
+pub use Rattle.olr_renewal.proofs.Following.{answer_if_any, follows_self, follows_without}
 pub use Rattle.olr_renewal.specs.AffectedSearches.{AreBoundsOf}
 pub use Rattle.olr_renewal.specs.Bounds.{IsEdit, IsSource, IsUnderWay, SameBut}
 pub use Rattle.olr_renewal.specs.ChangeSets.{IsAround, changed_of, lines_of, nodes_of}
-pub use Rattle.olr_renewal.specs.Changes.{AreRemade, Follows, IsAffected, IsBefore}
+pub use Rattle.olr_renewal.specs.Changes.{AreReencoded, Follows, IsAffected, IsBefore}
 pub use Rattle.olr_renewal.specs.Reencoded.{CanRenewUnder, IsRenewal, after_renewal, entries_of, to_renew_by}
 pub use Rattle.olr_renewal.specs.declared.change_set.ChangeSet.{ChangeSet}
 pub use Rattle.olr_renewal.specs.declared.distance_bounds.DistanceBounds.{DistanceBounds}

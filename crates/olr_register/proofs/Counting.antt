@@ -1,18 +1,17 @@
 -- How many paths the changes affect, counted by the stored results; none if there are no changes.
 use Rattle.olr_register.proofs.Common.{Bool, false, IsFalse, to_renew, inl, inr, ◌≡◌, ℕ, true, List, [], ◌∷◌, map, Option}
 use Rattle.olr_register.proofs.Common.{arith, None, refl, sym, ap, ◌∙◌, is_none, list_any, has, Named, Content, Change, Affects}
-use Rattle.olr_register.proofs.Common.{By_name, By_node, By_line, all_nodes, all_lines, gives, Made, Item, Map, Margin}
+use Rattle.olr_register.proofs.Common.{By_name, By_node, By_line, all_nodes, all_lines, gives, Results, Item, Map, Margin}
 use Rattle.olr_register.proofs.Common.{named_of, all_named, held_of, AreGiven, Work, without_answer, raised_count, raised_work}
 use Rattle.olr_register.proofs.Common.{CountIs, IsAffected, NoneFalls}
-use Rattle.olr_renewal.specs.Changes as made
 
-none_made : (o : Option Made) → is_none o ≡ true → o ≡ None
-none_made o e = grind arith
+no_results : (o : Option Results) → is_none o ≡ true → o ≡ None
+no_results o e = grind arith
 
 -- ---- the items of a list, and the paths of a content
 
 abbrev Given : List Change → Item → Type 0
-Given xs i = is_none i.made ≡ list_any (gives i.name) xs
+Given xs i = is_none i.results ≡ list_any (gives i.name) xs
 
 module _ (changes : List Change) (P : Item → Type 0) (Q : Named → Type 0)
     (to : (i : Item) → Given changes i → P i → Q (named_of i))
@@ -28,20 +27,20 @@ pub counted_all : (g : Margin) (M : Map) (ns xs : List ℕ) (c : Content) (chang
 counted_all g M ns xs c changes [] n count given = count
 counted_all g M ns xs c changes (i ∷ is) n (inl h) given =
     inl (By_name (sym given.0), (h.1.0, counted_all g M ns xs c changes is h.1.0 h.1.1 given.1, h.1.2))
-counted_all g M ns xs c changes (i ∷ is) n (inr h) given = absurd (h.0 (made.By_name refl))
+counted_all g M ns xs c changes (i ∷ is) n (inr h) given = absurd (h.0 (By_name refl))
 
 module _ (c : Content) (changes : List Change) (ns xs : List ℕ)
     (same_nodes : (v : ℕ) → has ns v ≡ has (all_nodes c changes) v)
     (same_lines : (x : ℕ) → has xs x ≡ has (all_lines changes) x) where
   affects_to : (i : Item) → Given changes i → IsAffected c.margin c.map ns xs i → Affects c changes (named_of i)
-  affects_to i given (made.By_name e) = By_name (sym given ∙ ap (λ (o : Option Made). is_none o) e)
-  affects_to i given (made.By_node v h f) = By_node v (sym (same_nodes v) ∙ h) f
-  affects_to i given (made.By_line x h f) = By_line x (sym (same_lines x) ∙ h) f
+  affects_to i given (By_name e) = By_name (sym given ∙ ap (λ (o : Option Results). is_none o) e)
+  affects_to i given (By_node v h f) = By_node v (sym (same_nodes v) ∙ h) f
+  affects_to i given (By_line x h f) = By_line x (sym (same_lines x) ∙ h) f
 
   affects_back : (i : Item) → Given changes i → Affects c changes (named_of i) → IsAffected c.margin c.map ns xs i
-  affects_back i given (By_name h) = made.By_name (none_made i.made (given ∙ h))
-  affects_back i given (By_node v h f) = made.By_node v (same_nodes v ∙ h) f
-  affects_back i given (By_line x h f) = made.By_line x (same_lines x ∙ h) f
+  affects_back i given (By_name h) = By_name (no_results i.results (given ∙ h))
+  affects_back i given (By_node v h f) = By_node v (same_nodes v ∙ h) f
+  affects_back i given (By_line x h f) = By_line x (same_lines x ∙ h) f
 
   pub counted_changes : (is : List Item) (n : ℕ) → CountIs (IsAffected c.margin c.map ns xs) is n →
       AreGiven changes (map held_of is) → CountIs (Affects c changes) (all_named is) n

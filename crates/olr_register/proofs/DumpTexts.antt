@@ -1,13 +1,14 @@
 -- Dumps: which maps records can encode, and the records of nodes, lines and paths.
-use Rattle.olr_register.proofs.Common.{inl, Bool, true, List, ◌++◌, take, Some, refl, subst, arith, IsMap, start, Line, inr}
-use Rattle.olr_register.proofs.Common.{◌≡◌, ◌+◌, ◌<◌, ◌∷◌, map, sym, ap, ◌∙◌, Map, has, get, All, ℕ, append_assoc, record_line}
-use Rattle.olr_register.proofs.Common.{concat-append, list_all_more, take_more_at, margin_changes, false, length, Option}
-use Rattle.olr_register.proofs.Common.{concat, Content, Change, get_or, nat_cmp, FinMap, IsTrue, no_line, [], AllByRecursion}
-use Rattle.olr_register.proofs.Common.{is_recordable_map, entries_sorted, slice_get-get_or, slice_get, list_all, both_ways}
-use Rattle.olr_register.proofs.Common.{and_parts, dump_lines, unwrap_or, map-append, lines_out, is_some, flat_map, entries}
-use Rattle.olr_register.proofs.Common.{has_node, and_from, has_line, coord_at, no_coord, All-cons, All-contains, cases_Bool}
-use Rattle.olr_register.proofs.Common.{node_change, line_change, path_change, get-entries, list_all_at, is_recordable_line_at}
-use Rattle.olr_register.proofs.Common.{is_recordable_node_at, is_recordable_coord, is_recordable_shape}
+use Rattle.olr_register.proofs.Common.{is_recordable_line_at, is_recordable_node_at, is_recordable_coord, is_recordable_shape, ap}
+use Rattle.olr_register.proofs.Common.{is_recordable_map, slice_get-get_or, slice_get_cases, margin_changes, AllByRecursion, Bool}
+use Rattle.olr_register.proofs.Common.{entries_sorted, concat-append, list_all_more, append_assoc, take_more_at, All-contains, []}
+use Rattle.olr_register.proofs.Common.{record_line, node_change, line_change, path_change, get-entries, list_all_at, dump_lines}
+use Rattle.olr_register.proofs.Common.{map-append, cases_Bool, slice_get, both_ways, and_parts, unwrap_or, lines_out, take_all, ℕ}
+use Rattle.olr_register.proofs.Common.{list_all, flat_map, has_node, and_from, has_line, coord_at, no_coord, All-cons, Content}
+use Rattle.olr_register.proofs.Common.{nat_cmp, no_line, is_some, entries, length, Option, concat, Change, get_or, FinMap, IsTrue}
+use Rattle.olr_register.proofs.Common.{subst, arith, IsMap, start, false, true, List, ◌++◌, take, Some, refl, Line, None, inl}
+use Rattle.olr_register.proofs.Common.{inr, ◌≡◌, ◌+◌, ◌<◌, ◌∷◌, map, sym, ◌∙◌, Map, has, get, All}
+use Rattle.std.specs.Prelude.{◌≤◌}
 use Rattle.std.specs.FinMap.Entries.{find}
 use Rattle.std.proofs.lemmas.List.{flat_map_more}
 use Rattle.std.proofs.lemmas.List.Sums.{AllPass-from_list_all, list_all-from_AllPass}
@@ -53,6 +54,14 @@ pub one_more : {A : Type 0} (q : A → Bool) (xs : List A) (k : ℕ) (d : A) →
 one_more q xs k d lt h before =
     list_all_more q xs k d lt ∙ and_from (list_all q (take k xs)) (q (get_or xs k d)) before
     (sym (h (get_or xs k d) (slice_get-get_or xs k d lt)))
+
+-- before the end there is an element
+pub none_missing : {A : Type 0} (xs : List A) (k n : ℕ) → None ≡ slice_get xs k → n ≡ length xs → k < n → ⊥
+none_missing xs k n none all lt =
+    elim (slice_get_cases xs k).1 [
+      | inl s ↦ let never = none ∙ s.2 in absurd cc
+      | inr p ↦ omega (arith, p.0, all, lt)
+    ]
 
 -- ---- a map, node by node
 
@@ -114,6 +123,17 @@ module _ (M : Map) where
 pub records-at : {A : Type 0} (f : A → List ℕ) (t : List ℕ) (xs : List A) (k : ℕ) (x : A) → slice_get xs k ≡ Some x
     → (t ++ flat_map f (take k xs)) ++ f x ≡ t ++ flat_map f (take (k + 1) xs)
 records-at f t xs k x is = rw (take_more_at xs k x is) (flat_map_more f t (take k xs) x)
+
+pub records_next : {A : Type 0} (f : A → List ℕ) (u v t : List ℕ) (xs : List A) (k : ℕ) (x : A) → k < length xs →
+    x ≡ get_or xs k x → u ≡ t ++ flat_map f (take k xs) → v ≡ u ++ f x → v ≡ t ++ flat_map f (take (k + 1) xs)
+records_next f u v t xs k x lt is before e =
+    let at = slice_get-get_or xs k x lt ∙ ap (λ y. Some y) (sym is) in
+    e ∙ ap (λ (w : List ℕ). w ++ f x) before ∙ records-at f t xs k x at
+
+-- after the last
+pub records_all : {A : Type 0} (f : A → List ℕ) (u t : List ℕ) (xs : List A) (k : ℕ) → length xs ≤ k →
+    u ≡ t ++ flat_map f (take k xs) → u ≡ t ++ flat_map f xs
+records_all f u t xs k past = subst (λ ys. u ≡ t ++ flat_map f ys) (take_all k xs past)
 
 -- the numbers of the entries, and a text of each with the value that is read there
 module _ {X : Type 0} (m : FinMap nat_cmp X) where

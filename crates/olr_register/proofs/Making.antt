@@ -39,7 +39,7 @@ without_answer {new = new} {is = is} {b = b} {r = Err g} f failed undo before sa
     undo = undo h;
     sound = coe 0 1 (i. IsContent (content_on b.margin (sym same i) (sym list i))) h.sound;
     edits = coe 0 1 (i. AreTouched (sym before i) (sym same i) (sym nodes i) (sym lines i) (sym changed i)) h.edits;
-    made = coe 0 1 (i. AreEncodingsIfAny b.margin (sym before i) (sym list i)) h.made;
+    encoded = coe 0 1 (i. AreEncodingsIfAny b.margin (sym before i) (sym list i)) h.encoded;
     follows = subst (Follows is) (sym list) h.follows;
     begins = λ v on. h.begins v (subst (λ (ks : List Item). Begins ks v) list on);
   };
@@ -63,7 +63,7 @@ module _ (roads : RoadMap) (is : List Item) (b : Batch) (l : Overlay) (x : Chang
       (Follows is (under_batch is b) → Follows is ls) →
       ((v : CoverageQuery) → Begins ls v → Begins (under_batch is b) v) →
       Makes roads roads is b (record b { overlay = l }) x (Ok tt)
-  path_made ls same ok placed nodes lines given made follows begins = record {
+  path_made ls same ok placed nodes lines given encoded follows begins = record {
     count = refl;
     before = refl;
     made = subst (λ (js : List Item). IsMade b.margin b.margin roads roads (under_batch is b) js b.touched b.touched x)
@@ -80,7 +80,7 @@ module _ (roads : RoadMap) (is : List Item) (b : Batch) (l : Overlay) (x : Chang
       undo = h.undo;
       sound = changes_keep (content_under roads is b) (content_on b.margin (map_of roads) ls) x h.sound placed ok;
       edits = h.edits;
-      made = made (map_before roads b.log) h.made;
+      encoded = encoded (map_before roads b.log) h.encoded;
       follows = follows h.follows;
       begins = λ v on. h.begins v (begins v on);
     });
@@ -123,7 +123,7 @@ module _ (old new : RoadMap) (is : List Item) (b : Batch) (log : UndoLog) (t : C
               (sym same_before) (touched_more (map_before old b.log) (map_of old) (map_of new) e (nodes_of b.touched)
               (lines_of b.touched) (nodes_of t) (lines_of t) (changed_of b.touched) (changed_of t) h.edits done
               nodes lines changed);
-          made = subst (λ (M : Map). AreEncodingsIfAny b.margin M (under_batch is b)) (sym same_before) h.made;
+          encoded = subst (λ (M : Map). AreEncodingsIfAny b.margin M (under_batch is b)) (sym same_before) h.encoded;
           follows = h.follows;
           begins = h.begins;
         };
@@ -159,7 +159,7 @@ margin_made g most roads is b =
         sound = changes_keep (content_under roads is b) (content_on g (map_of roads) (to_renew true us)) (Set_margin g) h.sound
             most content;
         edits = h.edits;
-        made = without_if_any g (map_before roads b.log) us;
+        encoded = without_if_any g (map_before roads b.log) us;
         follows = follows_without is us;
         begins = λ v on. absurd (begins_none us v on);
       };

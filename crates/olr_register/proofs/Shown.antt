@@ -1,7 +1,8 @@
 -- The paths that depend on nodes, in terms of the definitions of commands.
 use Rattle.olr_register.proofs.Common.{sym, inl, inr, ◌≡◌, ℕ, List, [], ◌∷◌, Some, ap, ◌∙◌, Map, Item, AreEncodings, all_named}
-use Rattle.olr_register.proofs.Common.{content_on, ChangeSet, Margin, nodes_of, lines_of, Picks, Made, IsAround, IsAffected}
-use Rattle.olr_renewal.specs.Changes.{AffectedNames, By_name, By_node, By_line}
+use Rattle.olr_register.proofs.Common.{content_on, ChangeSet, Margin, nodes_of, lines_of, Picks, Results, IsAround, IsAffected}
+use Rattle.olr_commands.specs.Counts.{By_name, By_node, By_line}
+use Rattle.olr_renewal.specs.Changes.{AffectedNames}
 use Rattle.olr_commands.specs.Dependents.{DependsOn, Dependents, On_node, On_line}
 use Rattle.olr_register.proofs.Listed.{names_of_all}
 
@@ -11,10 +12,10 @@ module _ (g : Margin) (M : Map) (vs : List ℕ) (t : ChangeSet) (around : IsArou
   abbrev Affected : Item → Type 0
   Affected = IsAffected g M (nodes_of t) (lines_of t)
 
-  depends : (i : Item) (m : Made) → i.made ≡ Some m → Affected i → DependsOn g M vs i.path
-  depends i m made (By_name none) = let never : ⊥ = cc in absurd never
-  depends i m made (By_node v on foot) = On_node v ((around.nodes v).0 on) foot
-  depends i m made (By_line x on own) = let l = (around.lines x).0 on in On_line x l.0 l.1 own
+  depends : (i : Item) (m : Results) → i.results ≡ Some m → Affected i → DependsOn g M vs i.path
+  depends i m encoded (By_name none) = let never : ⊥ = cc in absurd never
+  depends i m encoded (By_node v on foot) = On_node v ((around.nodes v).0 on) foot
+  depends i m encoded (By_line x on own) = let l = (around.lines x).0 on in On_line x l.0 l.1 own
 
   affected : (i : Item) → DependsOn g M vs i.path → Affected i
   affected i (On_node v on foot) = By_node v ((around.nodes v).1 on) foot

@@ -1,16 +1,15 @@
 -- Changes that are made at once, with no batch open.
-use Rattle.olr_register.proofs.Common.{◌≡◌, ℕ, true, false, not, List, [], ◌∷◌, filter, length, Some, None, Result, Ok, Err}
-use Rattle.olr_register.proofs.Common.{refl, sym, ap, ◌∙◌, ◌==◌, ◌&&◌, IsFalse, IsErrAnd, Map, Edit, edited, touched_nodes}
-use Rattle.olr_register.proofs.Common.{touched_lines, HasCoord, Path, is_path, map_of, RoadMap, Work, Named, Content, same_name}
-use Rattle.olr_register.proofs.Common.{Fault, Change, On_map, Add_path, Set_path, Drop_path, with_change, at_once, Make}
-use Rattle.olr_register.proofs.Common.{HasCoords, Differences, takes_memory, may_want, Affects, By_name, By_node, By_line}
-use Rattle.olr_register.proofs.Common.{reply_of, command_fault_of, Reply, CommandFault, changes_keep, DistanceBounds, Item}
-use Rattle.olr_register.proofs.Common.{AreEncodings, all_named, arith, IsRenewal, nodes_of, lines_of, changed_of, ChangeSet}
-use Rattle.olr_register.proofs.Common.{follows_self, has_name, Registered, content_on, items, state_of, HasBounds, IsStateRight}
-use Rattle.olr_register.proofs.Common.{CanRenew, MayReport, ByContent, Lacks, Answered, IsTouchedBy, encodes, begins_drop}
-use Rattle.olr_register.proofs.Common.{append-nil, Margin, Set_margin, to_renew, is_margin, IsTrue, option_map, batch_of, CanRenewTo}
-use Rattle.olr_register.proofs.Common.{raised_work, entries_of, Renewed, IsState, named_of, length-map, IsPaths, CountIs}
-use Rattle.olr_register.proofs.Common.{paths_raise, Inside, IsRefusal}
+use Rattle.olr_register.proofs.Common.{command_fault_of, DistanceBounds, touched_nodes, touched_lines, takes_memory, CommandFault}
+use Rattle.olr_register.proofs.Common.{changes_keep, AreEncodings, follows_self, IsStateRight, with_change, Differences, IsErrAnd}
+use Rattle.olr_register.proofs.Common.{IsTouchedBy, begins_drop, raised_work, paths_raise, changed_of, Registered, content_on, []}
+use Rattle.olr_register.proofs.Common.{append-nil, Set_margin, option_map, CanRenewTo, entries_of, length-map, same_name, IsFalse}
+use Rattle.olr_register.proofs.Common.{Drop_path, HasCoords, all_named, IsRenewal, ChangeSet, HasBounds, MayReport, ByContent, Ok}
+use Rattle.olr_register.proofs.Common.{is_margin, IsRefusal, HasCoord, Add_path, Set_path, may_want, reply_of, nodes_of, lines_of}
+use Rattle.olr_register.proofs.Common.{has_name, state_of, CanRenew, Answered, to_renew, batch_of, named_of, is_path, RoadMap, ap}
+use Rattle.olr_register.proofs.Common.{Content, at_once, Affects, By_name, By_node, By_line, encodes, Renewed, IsState, IsPaths}
+use Rattle.olr_register.proofs.Common.{CountIs, filter, length, Result, edited, map_of, Change, On_map, Margin, IsTrue, Inside, ℕ}
+use Rattle.olr_register.proofs.Common.{false, Named, Fault, Reply, arith, items, Lacks, true, List, Some, None, refl, ◌==◌, ◌&&◌}
+use Rattle.olr_register.proofs.Common.{Edit, Path, Work, Make, Item, ◌≡◌, not, ◌∷◌, Err, sym, ◌∙◌, Map}
 use Rattle.std.proofs.lemmas.List.{nil_from_length}
 use Rattle.olr_renewal.specs.Encoded.{IsAdded, IsSet}
 use Rattle.olr_register.proofs.Changing.{add_ok, set_ok, drop_ok}
@@ -19,7 +18,7 @@ use Rattle.olr_register.proofs.Listed.{given_all, given_none, given_at_first, ea
 use Rattle.olr_register.proofs.Listed.{named_to_renew}
 use Rattle.olr_register.proofs.Touched.{begins_none, touched_edit, is_before, can_set}
 use Rattle.olr_register.proofs.Outcomes.{answered_counted, answered_refused, Accepts}
-use Rattle.olr_register.proofs.Renewed.{remade_made, made_if_any}
+use Rattle.olr_register.proofs.Renewed.{reencoded_encoded, encoded_if_any}
 use Rattle.olr_register.proofs.Replies.{planned_changes, reported_add, reported_set, reported_drop}
 use Rattle.olr_register.proofs.States.{state, of_parts, register_moved, in_states, right_as}
 use Rattle.olr_commands.specs.Reply as replies
@@ -83,7 +82,7 @@ module _ (r : Inside) {x : Registered} (view : of_parts r.margin r.roads (items 
       Type 0 where
     pub ok : with_change c y ≡ Ok (content_on k (map_of later) js)
     pub placed : HasCoords (Make y)
-    pub made : AreEncodings k (map_of later) js
+    pub encoded : AreEncodings k (map_of later) js
     pub differ : Differences c (content_on k (map_of later) js) es
     pub many : ℕ
     pub raised : CountIs (Affects c (y ∷ [])) (all_named js) many
@@ -121,7 +120,7 @@ module _ (r : Inside) {x : Registered} (view : of_parts r.margin r.roads (items 
     right_now {k} {y} {later} {js} e bounded = rw shut (record {
       register = record {
         content = changes_keep c (content_on k (map_of later) js) y right.register.content e.placed e.ok;
-        made = e.made;
+        encoded = e.encoded;
         held = tt;
         margin = tt;
       };
@@ -141,7 +140,7 @@ module _ (r : Inside) {x : Registered} (view : of_parts r.margin r.roads (items 
       before =
           is_before g right.register.content.margin M N (nodes_of t) (lines_of t) (changed_of t) is
           (touched_edit M N e (nodes_of t) (lines_of t) (changed_of t) done touched.nodes touched.lines touched.changed)
-          right.register.content.map right.register.content.paths (made_if_any g M is right.register.made);
+          right.register.content.map right.register.content.paths (encoded_if_any g M is right.register.encoded);
     }
 
     module _ (e : Edit) (later : RoadMap) (done : edited M e ≡ Ok (map_of later)) (placed : HasCoord e) where
@@ -149,7 +148,7 @@ module _ (r : Inside) {x : Registered} (view : of_parts r.margin r.roads (items 
       bare_made bare = record {
         ok = rw done refl;
         placed = placed;
-        made = rw bare tt;
+        encoded = rw bare tt;
         differ = rw bare refl;
         many = 0;
         raised = rw bare refl;
@@ -162,18 +161,18 @@ module _ (r : Inside) {x : Registered} (view : of_parts r.margin r.roads (items 
           IsMadeNow g (On_map e) later js (entries_of n) (raised_work r.work n.work)
       edit_made {t} touched {js} {n} renewal =
           let count = renewal.counted M (can_edit e t touched (map_of later) done).before in
-          let made = remade_made g (map_of later) is js renewal.remade in
+          let encoded = reencoded_encoded g (map_of later) is js renewal.reencoded in
           record {
             ok = rw (done, renewal.named) refl;
             placed = placed;
-            made = made;
-            differ = planned_changes g g M (map_of later) is js (entries_of n) right.register.content right.register.made made
+            encoded = encoded;
+            differ = planned_changes g g M (map_of later) is js (entries_of n) right.register.content right.register.encoded encoded
                 renewal.reported;
             many = count.0;
             raised = rw renewal.named (counted_changes c (On_map e ∷ []) (nodes_of t) (lines_of t)
                 (λ v. rw (append-nil (touched_nodes M e)) (touched.nodes v))
                 (λ y. rw (append-nil (touched_lines e)) (touched.lines y)) is count.0 count.1
-                (given_none [] (On_map e) is (λ q. refl) (given_at_first g M is right.register.made)));
+                (given_none [] (On_map e) is (λ q. refl) (given_at_first g M is right.register.encoded)));
             rise = rise_on r.work n.work count.0 count.2;
             same = λ off. let no : true ≡ false = off in absurd cc;
           }
@@ -195,12 +194,12 @@ module _ (r : Inside) {x : Registered} (view : of_parts r.margin r.roads (items 
         IsMadeNow k (Set_margin k) r.roads js (entries_of n) (raised_work r.work n.work)
     margin_made {k} most {t} idle {js} {n} renewal =
         let count = renewal.counted M (can_set g k most M is t idle right.register.content).before in
-        let made = remade_made k M (to_renew true is) js renewal.remade in
+        let encoded = reencoded_encoded k M (to_renew true is) js renewal.reencoded in
         record {
           ok = rw (renewal.named, named_to_renew true is) refl;
           placed = most;
-          made = made;
-          differ = planned_changes g k M M is js (entries_of n) right.register.content right.register.made made
+          encoded = encoded;
+          differ = planned_changes g k M M is js (entries_of n) right.register.content right.register.encoded encoded
               renewal.reported;
           many = count.0;
           raised = rw renewal.named (counted_all k M (nodes_of t) (lines_of t) c (Set_margin k ∷ []) is count.0 count.1
@@ -222,8 +221,8 @@ module _ (r : Inside) {x : Registered} (view : of_parts r.margin r.roads (items 
       drop_made there = rw list (record {
         ok = drop_ok g M is name there;
         placed = tt;
-        made = each_left (each_encoded g M) (λ i. not (same_name i.name name)) is right.register.made;
-        differ = reported_drop g M is right.register.content right.register.made name;
+        encoded = each_left (each_encoded g M) (λ i. not (same_name i.name name)) is right.register.encoded;
+        differ = reported_drop g M is right.register.content right.register.encoded name;
         many = 0;
         raised = none_affected c (Drop_path name ∷ []) (drop_affects c name)
             (all_named (filter (λ i. not (same_name i.name name)) is));
@@ -239,11 +238,11 @@ module _ (r : Inside) {x : Registered} (view : of_parts r.margin r.roads (items 
       pub adds : IsAdded g M is js name path n → has_name is name ≡ false → is_path path.lines ≡ true →
           IsMadeNow g (Add_path name path) r.roads js (entries_of n) (raised_work r.work n.work)
       adds e free good =
-          let ok = add_ok g M is name path (Some e.made) free good in rw e.list (record {
+          let ok = add_ok g M is name path (Some e.results) free good in rw e.list (record {
             ok = ok;
             placed = tt;
-            made = each_add (each_encoded g M) is _ (e.made, refl, e.right) right.register.made;
-            differ = reported_add g M is right.register.content right.register.made name free e.right e.entries;
+            encoded = each_add (each_encoded g M) is _ (e.results, refl, e.right) right.register.encoded;
+            differ = reported_add g M is right.register.content right.register.encoded name free e.right e.entries;
             many = 1;
             raised = (paths_raise (state c None) _ name path before refl).0 (ap at_once ok);
             rise = rise_on r.work n.work 1 (omega (arith, e.counted));
@@ -253,12 +252,12 @@ module _ (r : Inside) {x : Registered} (view : of_parts r.margin r.roads (items 
       pub sets : IsSet g M is js name path n → has_name is name ≡ true → is_path path.lines ≡ true →
           IsMadeNow g (Set_path name path) r.roads js (entries_of n) (raised_work r.work n.work)
       sets e there good =
-          let ok = set_ok g M is name path (Some e.made) there good in rw e.list (record {
+          let ok = set_ok g M is name path (Some e.results) there good in rw e.list (record {
             ok = ok;
             placed = tt;
-            made = each_set (each_encoded g M) (each_encoded g M) name path (Some e.made) (λ i p. (e.made, refl, e.right))
-                (λ i k p. p) is right.register.made;
-            differ = reported_set g M is right.register.content right.register.made name there e.right e.entries;
+            encoded = each_set (each_encoded g M) (each_encoded g M) name path (Some e.results) (λ i p. (e.results, refl, e.right))
+                (λ i k p. p) is right.register.encoded;
+            differ = reported_set g M is right.register.content right.register.encoded name there e.right e.entries;
             many = 1;
             raised = (paths_raise (state c None) _ name path before refl).1 (ap at_once ok);
             rise = rise_on r.work n.work 1 (omega (arith, e.counted));

@@ -20,7 +20,7 @@ pub register_moved : (g : Margin) (old new : RoadMap) (is : List Item) (o p : Op
     IsRegister g new is p
 register_moved g old new is o p same held margin h = record {
   content = subst (λ (M : Map). IsContent (content_on g M is)) (sym same) h.content;
-  made = subst (λ (M : Map). AreEncodings g M is) (sym same) h.made;
+  encoded = subst (λ (M : Map). AreEncodings g M is) (sym same) h.encoded;
   held = held;
   margin = margin;
 }

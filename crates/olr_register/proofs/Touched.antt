@@ -1,13 +1,12 @@
 -- What edits touch: the maps before and after them have no other difference.
-use Rattle.olr_register.proofs.Common.{inl, false, List, ◌++◌, refl, subst, arith, IsMap, map_of, Margin, Begins, IsTrue, Batch}
-use Rattle.olr_register.proofs.Common.{inr, ◌≡◌, ℕ, ◌∷◌, Ok, sym, ◌∙◌, ◌||◌, Map, Edit, has, Item, Some, ◌==◌, map, true}
-use Rattle.olr_register.proofs.Common.{nodes_of, lines_of, CanRenew, Contains, is_margin, [], edited, RoadMap, to_renew}
-use Rattle.olr_register.proofs.Common.{ArePaths, IsBefore, AllByRecursion, is_path, without_answer, DistanceBounds}
-use Rattle.olr_register.proofs.Common.{option_to_list, differences_add, all_named, ChangeSet, IsTouchedBy, IsRegister}
-use Rattle.olr_register.proofs.Common.{IsContent, content_on, CanRenewTo, list_any-append, AreEncodingsIfAny, follows_without}
-use Rattle.olr_register.proofs.Common.{IsStateRight, Contains-append_cases, touched_nodes, touched_lines, AreTouched}
-use Rattle.olr_register.proofs.Common.{CoverageQuery, Contains-cases, edit_differs, ChangedLine, changes_of, changed_of}
-use Rattle.olr_register.proofs.Common.{map_before, under_batch, none_differs, NamesDiffer}
+use Rattle.olr_register.proofs.Common.{Contains-append_cases, AreEncodingsIfAny, differences_add, list_any-append, AllByRecursion}
+use Rattle.olr_register.proofs.Common.{follows_without, without_answer, DistanceBounds, option_to_list, Contains-cases, is_margin}
+use Rattle.olr_register.proofs.Common.{touched_nodes, touched_lines, CoverageQuery, IsStateRight, edit_differs, none_differs, inl}
+use Rattle.olr_register.proofs.Common.{IsTouchedBy, ChangedLine, under_batch, NamesDiffer, IsRegister, content_on, CanRenewTo, Ok}
+use Rattle.olr_register.proofs.Common.{AreTouched, changes_of, changed_of, map_before, all_named, ChangeSet, IsContent, nodes_of}
+use Rattle.olr_register.proofs.Common.{lines_of, CanRenew, Contains, to_renew, ArePaths, IsBefore, or_right, RoadMap, is_path, []}
+use Rattle.olr_register.proofs.Common.{or_left, map_of, Margin, Begins, IsTrue, edited, false, subst, arith, IsMap, Batch, List}
+use Rattle.olr_register.proofs.Common.{◌++◌, refl, ◌||◌, Edit, Item, Some, ◌==◌, true, inr, ◌≡◌, ◌∷◌, sym, ◌∙◌, Map, has, map, ℕ}
 use Rattle.olr_map.specs.declared.judging.EditPlan.{EditPlan}
 use Rattle.olr_map.specs.EditPlans.{IsEditPlan, planned_changes}
 use Rattle.olr_register.proofs.Listed.{named_to_renew}
@@ -18,7 +17,7 @@ none_contained : {X : Type 0} (x : X) → ¬ Contains [] x
 none_contained x c = let h = c.1 in absurd (omega arith)
 
 only_one : (d c : ChangedLine) → Contains (d ∷ []) c → d ≡ c
-only_one d c k = grind (arith, Contains-cases d c [] k, none_contained)
+only_one d c k = elim (Contains-cases d c [] k) [ inl e ↦ e | inr never ↦ absurd (none_contained c never) ]
 
 starts_of : (M : Map) (e : Edit) (c : ChangedLine) → Contains (changes_of M e) c → has (touched_nodes M e) c.from ≡ true
 starts_of M e c k = grind (arith, only_one, none_contained, k)
@@ -59,7 +58,13 @@ touched_more L M N e ns xs ms ys cs ds was ok nodes lines changes =
         there = all.there;
         here = all.here;
       };
-      starts = λ c k. grind (arith, Contains-append_cases cs (changes_of M e) c k, nodes c.from, was.starts c, starts_of M e c);
+      starts = λ c k.
+          let ours = has ns c.from in
+          let its = has (touched_nodes M e) c.from in
+          nodes c.from ∙ elim (Contains-append_cases cs (changes_of M e) c k) [
+            | inl old ↦ or_left ours its (was.starts c old)
+            | inr now ↦ or_right ours its (starts_of M e c now)
+          ];
     })
 
 -- a single edit
@@ -89,14 +94,14 @@ are_paths (i ∷ is) p = (p.0, are_paths is p.1)
 
 pub is_before : (g : Margin) → IsTrue (is_margin g) → (M N : Map) (T X : List ℕ) (C : List ChangedLine) (is : List Item) →
     AreTouched M N T X C → IsMap M → ArePaths (all_named is) → AreEncodingsIfAny g M is → IsBefore g M N T X C is
-is_before g most M N T X C is touched sound paths made =
+is_before g most M N T X C is touched sound paths results =
     record {
       margin = most;
       sound = sound;
       difference = touched.difference;
       starts = touched.starts;
       paths = are_paths is paths;
-      made = made;
+      results = results;
     }
 
 -- what a commit renews
@@ -109,7 +114,7 @@ can_commit g roads is b h =
       follows = held.follows;
       before =
           is_before b.margin held.sound.margin (map_before roads b.log) (map_of roads) (nodes_of b.touched)
-          (lines_of b.touched) (changed_of b.touched) (under_batch is b) held.edits h.content.map held.sound.paths held.made;
+          (lines_of b.touched) (changed_of b.touched) (under_batch is b) held.edits h.content.map held.sound.paths held.encoded;
     }
 
 pub can_renew_batch : {g : Margin} {roads : RoadMap} {is : List Item} {b : Batch} {f : DistanceBounds} →

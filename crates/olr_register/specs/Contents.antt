@@ -7,7 +7,7 @@
 --     HasBounds roads T is bounds      each coverage query of the list is a source of the bounds, and once they are settled
 --         they are right on the map, if the nodes T are reopened before
 --     IsStateRight      what is true of the whole
---     CanRenew g M N is ls t      the list ls, which the changes of a batch made of the list is, can be renewed after
+--     CanRenew g M N is ls t      the list ls, to which the changes of a batch lead from the list is, can be renewed after
 --         edits t that led from M to N
 --     CanRenewTo g roads t bounds is ls      the same, where the bounds are still those before the edits
 --     CanUpdate u bounds is ls      the same after the update u
@@ -38,7 +38,7 @@ use Rattle.olr_register.specs.declared.batch.Batch.{Batch}
 -- ---- in terms of the definitions of commands, over the register's list
 
 abbrev pub held_of : Item → states.Held
-held_of i = record { name = i.name; path = i.path; given = is_none i.made }
+held_of i = record { name = i.name; path = i.path; given = is_none i.results }
 
 abbrev pub content_on : Margin → Map → List Item → Content
 content_on g M is = record { map = M; paths = all_named is; margin = g }
@@ -88,7 +88,7 @@ pub record IsHeldAs (g : Margin) (roads : RoadMap) (before ls : List Item) (log 
     pub sound : IsContent (content_on g (map_of roads) ls)
     pub edits : AreTouched (map_before roads log) (map_of roads) (nodes_of touched) (lines_of touched)
         (changed_of touched)
-    pub made : AreEncodingsIfAny g (map_before roads log) ls
+    pub encoded : AreEncodingsIfAny g (map_before roads log) ls
     pub follows : Follows before ls
     pub begins : (l : CoverageQuery) → Begins ls l → Begins before l
 
@@ -100,7 +100,7 @@ KeepsMargin g b = IsFalse b.all → b.margin ≡ g
 
 pub record IsRegister (g : Margin) (roads : RoadMap) (is : List Item) (batch : Option Batch) : Type 0 where
   pub content : IsContent (content_on g (accepted_map roads batch) is)
-  pub made : AreEncodings g (accepted_map roads batch) is
+  pub encoded : AreEncodings g (accepted_map roads batch) is
   pub held : IfSome batch (IsHeld roads is)
   pub margin : IfSome batch (KeepsMargin g)
 

@@ -1,6 +1,6 @@
 -- A register as its callers see it, and what its calls promise of whole commands.
 --     Registered      the state that it represents, and the counts of its work
---     PublishedWhole c name made      what is published under a name, with traversed nodes and coverage queries
+--     PublishedWhole c name results      what is published under a name, with traversed nodes and coverage queries
 --     HaveEncodings g M ps xs      the names of the paths in order, each with an encoding of the path on the map.
 --     AllPublished c xs      the same for all paths of a content
 --     Applied old c o new      from each state that old represents, the command leads with this outcome to a state
@@ -16,7 +16,7 @@ use Rattle.olr_route.specs.Counts.{no_work, raised_count}
 use Rattle.olr_commands.specs.State.{State, Content, Named, no_content, path_named, Command}
 use Rattle.olr_commands.specs.Reply.{Outcome, IsOutcome}
 use Rattle.olr_commands.specs.Counts.{Raises}
-use Rattle.olr_paths.specs.Items.{Made, IsEncodingOf}
+use Rattle.olr_paths.specs.Items.{Results, IsEncodingOf}
 use Rattle.olr_register.specs.RegisterState.{RegisterState, Represents, coded_register_state}
 
 pub record Registered : Type 0 where
@@ -42,17 +42,17 @@ nothing_registered =
     }
 
 -- an encoding of the path on the map
-abbrev pub PublishedWhole : Content → List ℕ → Option Made → Type 0
-PublishedWhole c name made =
-    MatchOption (path_named c.paths name) (made ≡ None) (λ P. IsSomeAnd made (IsEncodingOf c.margin c.map P))
+abbrev pub PublishedWhole : Content → List ℕ → Option Results → Type 0
+PublishedWhole c name results =
+    MatchOption (path_named c.paths name) (results ≡ None) (λ P. IsSomeAnd results (IsEncodingOf c.margin c.map P))
 
-abbrev pub HaveEncodings : Margin → Map → List Named → List (List ℕ × Option Made) → Type 0
+abbrev pub HaveEncodings : Margin → Map → List Named → List (List ℕ × Option Results) → Type 0
 HaveEncodings g M [] xs = xs ≡ []
 HaveEncodings g M (p ∷ ps) xs =
-    (m : Made) × (rest : List (List ℕ × Option Made)) × IsEncodingOf g M p.path m × HaveEncodings g M ps rest
+    (m : Results) × (rest : List (List ℕ × Option Results)) × IsEncodingOf g M p.path m × HaveEncodings g M ps rest
     × (xs ≡ (p.name, Some m) ∷ rest)
 
-abbrev pub AllPublished : Content → List (List ℕ × Option Made) → Type 0
+abbrev pub AllPublished : Content → List (List ℕ × Option Results) → Type 0
 AllPublished c xs = HaveEncodings c.margin c.map c.paths xs
 
 abbrev pub Applied : Registered → Command → Outcome → Registered → Type 0

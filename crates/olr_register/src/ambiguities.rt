@@ -1,16 +1,17 @@
 //! The ambiguities of strings.
-ghost use Rattle.std.specs.Prelude.{◌≡◌, ◌++◌, ◌+◌, option_map, IfOk, IfSome, IsTrue, OnOk, map as list_map};
+ghost use Rattle.std.specs.Prelude.{◌≡◌, ◌++◌, ◌+◌, ℕ, List, option_map, IfOk, IfSome, IsTrue, OnOk, map as list_map};
 ghost use Rattle.olr_ambiguity.specs.Grids.{IsGrid};
 ghost use Rattle.olr_answers.specs.Ambiguities.{found_of};
 ghost use Rattle.olr_answers.specs.Answers.{answer_of};
 ghost use Rattle.olr_commands.specs.Ambiguities.{Ambiguities, Ambiguity, named, obstacles_of};
 ghost use Rattle.olr_commands.specs.Words.{named_obstacle_of};
 ghost use Rattle.olr_map.specs.RoadMaps.{map_of};
-ghost use Rattle.olr_paths.specs.Items.{AreEncodings, all_named, items, known_in, made_of};
+ghost use Rattle.olr_paths.specs.Items.{AreEncodings, all_named, items, known_in, results_of};
 ghost use Rattle.olr_refs.specs.Referring.{IsEncoding};
 ghost use Rattle.olr_spec.specs.Ambiguity.{obstacles};
 ghost use Rattle.olr_spec.specs.Extension.{Path, is_path};
 ghost use Rattle.olr_spec.specs.Margins.{Margin};
+ghost use Rattle.olr_spec.specs.Queries.{AreKnownWith};
 
 use crate::register::Register;
 use olr_ambiguity::{Grid, obstacles, obstacles_near};
@@ -68,9 +69,31 @@ fn found_in(
     }
 }
 
+/// What is found at the LRPs of the string of a path, which is encoded again, without searches for the coverage queries
+/// that are known.
+fn found_on(
+    alloc: Global,
+    roads: &RoadMap,
+    grid: Option<&Grid>,
+    path: &Path,
+    margin: Margin,
+    known: &[KnownQuery],
+    search: &mut Dijkstra,
+) -> Result<Vec<Found>, AllocError>
+    requires grid { IfSome grid (λ g. IsGrid (map_of roads.now) g.now.nodes.items) }
+    requires known { AreKnownWith margin (map_of roads.now) path.now.lines known.now }
+    ensures { IfOk result (λ found. (name : List ℕ) → Ambiguity margin (map_of roads.now)
+        (record { name = name; path = path.now }) (list_map (named name) (list_map found_of found.items))) }
+{
+    let encoding = encode_again(alloc, roads, path, margin, known, search)?;
+    let found = found_in(alloc, roads, grid, &encoding);
+    drop(encoding);
+    found
+}
+
 /// The known coverage queries of what is published; none if nothing is.
 fn known_of(published: Option<&Published>) -> &[KnownQuery]
-    ensures { result.now ≡ known_in (option_map (λ p. made_of p.now) published.entry) }
+    ensures { result.now ≡ known_in (option_map (λ p. results_of p.now) published.entry) }
 {
     match published {
         Some(published) => published.known(),
@@ -89,7 +112,7 @@ fn all_ambiguities(
     search: &mut Dijkstra,
 ) -> Result<Vec<NamedObstacle>, AllocError>
     requires grid { IsGrid (map_of roads.now) grid.now.nodes.items }
-    requires made { AreEncodings margin (map_of roads.now) (items paths.now) }
+    requires encoded { AreEncodings margin (map_of roads.now) (items paths.now) }
     ensures { IfOk result (λ all. Ambiguities margin (map_of roads.now) (all_named (items paths.now))
         (list_map named_obstacle_of all.items)) }
 {
@@ -99,8 +122,7 @@ fn all_ambiguities(
             unreachable!()
         };
         let known = known_of(published);
-        let encoding = encode_again(alloc, roads, path, margin, known, search)?;
-        let found = found_in(alloc, roads, Some(grid), &encoding)?;
+        let found = found_on(alloc, roads, Some(grid), path, margin, known, search)?;
         push_found(alloc, &mut all, name, &found)?;
     }
     Ok(all)
@@ -118,8 +140,7 @@ fn own_ambiguity(
     ensures { IfOk result (λ own. Ambiguity margin (map_of roads.now) (record { name = name.now; path = path.now })
         (list_map named_obstacle_of own.items)) }
 {
-    let encoding = encode_again(alloc, roads, path, margin, &[], search)?;
-    let found = found_in(alloc, roads, None, &encoding)?;
+    let found = found_on(alloc, roads, None, path, margin, &[], search)?;
     let mut own = Vec::new(alloc);
     push_found(alloc, &mut own, name, &found)?;
     Ok(own)

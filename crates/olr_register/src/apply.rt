@@ -13,7 +13,7 @@ use olr_map::Edit;
 use std::alloc::{AllocError, Global};
 
 impl Register {
-    ghost use Rattle.std.specs.Prelude.{◌≡◌, is_some, OnOk, OnErr, IsFalse};
+    ghost use Rattle.std.specs.Prelude.{◌≡◌, None, is_some, OnOk, OnErr, IsFalse};
     ghost use Rattle.olr_commands.specs.State.{IsContent, Make, On_map};
     ghost use Rattle.olr_model.specs.Edits.{edit_of};
     ghost use Rattle.olr_register.specs.BatchChanges.{change_of};
@@ -29,6 +29,14 @@ impl Register {
         if let Some(batch) = &mut self.batch {
             return batch.hold(self.alloc, &mut self.roads, &self.paths, change);
         }
+        self.change_now(change)
+    }
+
+    /// Makes a change at once.
+    fn change_now(&mut self, change: Change) -> Result<Reply, CommandFault>
+        requires { self.old.state.batch ≡ None }
+        ensures { Answered self.old (Make (change_of change)) result self.new }
+    {
         match change {
             Change::Edit(edit) => self.edit_now(edit),
             Change::AddPath(name, parts) => self.add_now(name, parts),

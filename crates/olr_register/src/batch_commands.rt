@@ -83,7 +83,7 @@ impl Register {
     }
 
     /// Drops all held changes: the map is again the one before the batch. Never out of memory: if the nodes that the
-    /// batch touched can't be reopened, the distance bounds are unknown.
+    /// batch touched can't be reopened, the distance bounds are invalid.
     #[inline(never)]
     pub(crate) fn abort(&mut self) -> Result<Reply, CommandFault>
         ensures { Answered self.old Abort result self.new }

@@ -21,7 +21,7 @@ use olr_renewal::{
 };
 use std::alloc::{AllocError, Global};
 
-/// Makes the bounds right on the map after edits that touched these nodes. If an allocation fails, they are unknown, and
+/// Makes the bounds right on the map after edits that touched these nodes. If an allocation fails, they are invalid, and
 /// searches go as far as they may.
 fn make_right_after(bounds: &mut DistanceBounds, roads: &RoadMap, touched: &ChangeSet)
     ensures { (is : List Item) → HasBounds roads.now (nodes_of touched.now) is bounds.old
@@ -32,13 +32,13 @@ fn make_right_after(bounds: &mut DistanceBounds, roads: &RoadMap, touched: &Chan
 }
 
 /// Adds coverage queries, whose lines are followed when the bounds are settled. If an allocation fails, the bounds are
-/// unknown.
+/// invalid.
 fn add_sources(bounds: &mut DistanceBounds, queries: &[CoverageQuery])
     ensures under_way { (M : Map) (slot : ℕ → ℕ) (T : List ℕ) → IsUnderWay M slot T bounds.old → IsUnderWay M slot T bounds.new }
     ensures before { (s w : ℕ) → IsSource bounds.old s w → IsSource bounds.new s w }
     ensures sources { (l : QueryRecord) → Contains queries.now l → IsSource bounds.new l.from l.within }
 {
-    if !bounds.is_known() {
+    if !bounds.is_valid() {
         return;
     }
     for query in queries {
@@ -47,7 +47,7 @@ fn add_sources(bounds: &mut DistanceBounds, queries: &[CoverageQuery])
 }
 
 /// Begins the bounds from scratch, with a source where each coverage query of the list begins. If an allocation fails,
-/// they are unknown.
+/// they are invalid.
 #[inline(never)]
 fn bounds_from_scratch(alloc: Global, bounds: &mut DistanceBounds, paths: &PathList)
     ensures { (roads : Roads) (T : List ℕ) → HasBounds roads T (items paths.now) bounds.new }
@@ -62,7 +62,7 @@ fn bounds_from_scratch(alloc: Global, bounds: &mut DistanceBounds, paths: &PathL
 }
 
 /// Adds sources to the bounds where new coverage queries of the list begin, or begins the bounds from scratch if they are
-/// unknown, or if searches that found no path have cost more than that would. The next edit settles them.
+/// invalid, or if searches that found no path have cost more than that would. The next edit settles them.
 pub(crate) fn renew_bounds(
     alloc: Global,
     bounds: &mut DistanceBounds,
@@ -80,7 +80,7 @@ pub(crate) fn renew_bounds(
 
 /// Encodes the affected paths again after edits that led to the map, with the changes of an overlay, and adds their new
 /// coverage queries to the bounds; if the margin was set, all paths, and the bounds begin from scratch. If an allocation
-/// fails, the list is unchanged, and the bounds are unknown.
+/// fails, the list is unchanged, and the bounds are invalid.
 #[inline(never)]
 pub(crate) fn renew(
     update: &MapUpdate<'_, RoadMap>,
@@ -93,7 +93,7 @@ pub(crate) fn renew(
         (under_overlay (items paths.old) overlay.now) (items paths.new)) }
     ensures bounded { OnOk result (HasBounds update.now.map.now [] (items paths.new) searches.new.bounds) }
     ensures err { OnErr result (items paths.new ≡ items paths.old) }
-    ensures unknown { OnErr result (IsFalse searches.new.bounds.known) }
+    ensures invalid { OnErr result (IsFalse searches.new.bounds.valid) }
 {
     make_right_after(&mut searches.bounds, update.map, update.touched);
     match renew_over(paths, update, overlay, searches) {
@@ -132,7 +132,7 @@ pub(crate) fn preview(
     Ok(new_results.renewal.renewed)
 }
 
-/// Undoes the edits of a log, which touched these nodes and lines, and reopens the nodes. The bounds are unknown after that
+/// Undoes the edits of a log, which touched these nodes and lines, and reopens the nodes. The bounds are invalid after that
 /// if an edit dropped a node, which may now be in another slot, or if an allocation fails.
 pub(crate) fn undo_edits(
     roads: &mut RoadMap,

@@ -3,7 +3,7 @@ ghost use Rattle.std.specs.Prelude.{◌≡◌, ◌↔◌, ℕ, Contains, is_some
 ghost use Rattle.std.specs.Result.{IfOk, IfErr};
 ghost use Rattle.olr_spec.specs.Footprint.{FootWith};
 ghost use Rattle.olr_commands.specs.State.{path_named};
-ghost use Rattle.olr_paths.specs.Items.{made_of};
+ghost use Rattle.olr_paths.specs.Items.{results_of};
 
 use crate::register::Register;
 use olr_commands::CommandFault;
@@ -18,7 +18,7 @@ impl Register {
     /// What is published of the path of that name, with the traversed nodes and the coverage queries of its encoding on
     /// the map. None if no path has the name. An open batch is ignored.
     pub fn published_of(&self, name: &str) -> Option<&Published>
-        ensures { PublishedWhole self.now.state.content name.now (option_map (λ p. made_of p.now) result) }
+        ensures { PublishedWhole self.now.state.content name.now (option_map (λ p. results_of p.now) result) }
     {
         self.paths.published_of(name)
     }

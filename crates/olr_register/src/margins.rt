@@ -13,7 +13,7 @@ impl Register {
     ghost use Rattle.olr_register.specs.Answered.{Answered};
 
     /// Sets the margin, and encodes each path again. All answers are made before anything is stored: if an allocation
-    /// fails, nothing changes but the distance bounds, which are unknown then.
+    /// fails, nothing changes but the distance bounds, which are invalid then.
     #[inline(never)]
     pub(crate) fn set_margin_now(&mut self, margin: Margin) -> Result<Reply, CommandFault>
         requires { self.old.state.batch ≡ None }

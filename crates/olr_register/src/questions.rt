@@ -11,7 +11,9 @@ use std::alloc::{AllocError, Global};
 fn one_entry(alloc: Global, entry: Entry) -> Result<Vec<Entry>, AllocError>
     ensures { IfOk result (λ v. v.items ≡ entry ∷ []) }
 {
-    Ok(vec![in alloc; entry]?)
+    let mut entries = Vec::new(alloc);
+    entries.push(entry)?;
+    Ok(entries)
 }
 
 /// The fault of a text that encodes no reference, or `Memory` if the text was not decoded because an allocation failed.

@@ -1,18 +1,20 @@
 -- What is closed and met, as bounds become less and as maps are edited, and where bounds come from.
 use Rattle.olr_renewal.proofs.Common.{◌≡◌, ℕ, ◌+◌, ◌<◌, ◌≤◌, ◌⊎◌, List, [], ◌∷◌, ◌++◌, Option, Some, None, IsTrue, refl, sym}
-use Rattle.olr_renewal.proofs.Common.{◌∙◌, ◌↔◌, subst, inl, inr, arith, is_some, min, cases_Bool, eqb-true, Map, IsMap}
+use Rattle.olr_renewal.proofs.Common.{◌∙◌, ◌↔◌, ap, Bool, length, vec_len, subst, inl, inr, arith, is_some, min, cases_Bool, eqb-true, Map, IsMap}
 use Rattle.olr_renewal.proofs.Common.{SameLine, has, has_node, start, end, dm, IsRoute, dm_of, GREATEST_LIMIT, Near}
 use Rattle.olr_renewal.proofs.Common.{IsRoute-append, dm_of-append, route_start, AreBounds, Against, IsSource, IsRight}
 use Rattle.olr_renewal.proofs.Common.{label_of, frontier_len, IsQueued, IsAlike, Moves, CoversSlots, alike_labels, source_of}
 use Rattle.olr_renewal.proofs.Common.{bound_at, AreClosed, AreMet, AreRight, IsDue, AreUnderWay, IsUnderWay, IsEdit}
 use Rattle.olr_renewal.proofs.Common.{IsUnbounded, IsLed, AreLed, IsFollowed, DistanceBounds, list_any-append}
+use Rattle.std.proofs.lemmas.Bool.{or_left, or_right}
 use Rattle.olr_spec.proofs.AgreeLemmas.{turned_round, by_leaving, same_known, same_start, same_end, same_dm}
 use Rattle.olr_route.specs.declared.frontier.Frontier.{Frontier}
 
 -- ---- the open nodes
 
 pub in_both : (xs ys : List ℕ) (v : ℕ) → IsTrue (has ys v) ⊎ IsTrue (has xs v) → IsTrue (has (xs ++ ys) v)
-in_both xs ys v h = grind (arith, list_any-append)
+in_both xs ys v (inl h) = rw list_any-append (or_right _ _ h)
+in_both xs ys v (inr h) = rw list_any-append (or_left _ _ h)
 
 in_last : (xs : List ℕ) (w v : ℕ) → IsTrue (has (xs ++ w ∷ []) v) → IsTrue (has xs v) ⊎ (v ≡ w)
 in_last xs w v h = grind (arith, list_any-append, eqb-true)
@@ -30,6 +32,21 @@ node_there M s p None is there = absurd cc
 pub moves_none : (f : Frontier) → Moves f f
 moves_none f = grind arith
 
+no_more : (xs : List ℕ) → length xs ≡ 0 → xs ≡ []
+no_more [] e = refl
+no_more (x ∷ xs) e = absurd cc
+
+-- where no node is open, the bounds are settled
+pub settled_at_once : (f : DistanceBounds) → vec_len f.opened ≡ 0 → (M : Map) (s : ℕ → ℕ) → IsUnderWay M s [] f → IsRight M s f
+settled_at_once f empty M s u valid =
+    let none : f.opened.items ≡ [] = no_more f.opened.items (omega (arith, empty)) in
+    let closed : (v : ℕ) → IsDue [] f v → ⊥ =
+    λ v d. elim d [ inl o ↦ cc (o) | inr o ↦ let never = subst (λ (vs : List ℕ). IsTrue (has vs v)) none o in cc (never) ] in
+    record {
+      closed = λ x line short. elim ((u valid).closed x line short) [ inl c ↦ c | inr d ↦ absurd (closed _ d) ];
+      sources = λ v d at there. elim ((u valid).sources v d at there) [ inl le ↦ le | inr o ↦ absurd (closed v o) ];
+    }
+
 -- ---- edits
 
 module _ (M N : Map) (s r : ℕ → ℕ) (T : List ℕ) (f : DistanceBounds) (e : IsEdit T M s N r) where
@@ -37,11 +54,24 @@ module _ (M N : Map) (s r : ℕ → ℕ) (T : List ℕ) (f : DistanceBounds) (e 
       (touched : (v : ℕ) → IsTrue (has T v) → IsUnbounded M s f v ⊎ Q v) where
     closed_on : AreClosed M s (bound_at f) P → AreClosed N r (bound_at f) Q
     closed_on closed x line short = elim (cases_Bool (has T (start N x))) [
-      | inl on ↦ grind (arith, bound_at)
+      | inl on ↦ elim (touched (start N x) on) [
+        | inl far ↦
+            let same = ap (bound_at f) (e.slots (start N x) (e.starts x line) (e.sound.starts x line)) in
+            let beyond = far.bound (e.starts x line) in absurd (omega (arith, same, beyond, short))
+        | inr q ↦ inr q
+      ]
       | inr off ↦
           let is : SameLine N M x =
           by_leaving N M (start N x) x (turned_round M N (start N x) (e.alike (start N x) off)) line refl in
-          grind (arith, same_known, same_start, same_end, same_dm)
+          let starts : start N x ≡ start M x = same_start N M x is in
+          let from : r (start N x) ≡ s (start M x) = e.slots (start N x) (e.starts x line) (e.sound.starts x line) ∙ ap s starts in
+          let to : r (end N x) ≡ s (end M x) = e.slots (end N x) (e.ends x line) (e.sound.ends x line) ∙ ap s (same_end N M x is) in
+          let long : dm N x ≡ dm M x = same_dm N M x is in
+          let there = subst (λ (b : Bool). IsTrue b) (same_known N M x is) line in
+          elim (closed x there (rw (from, long) at short)) [
+            | inl c ↦ inl (rw (to, from, long) c)
+            | inr p ↦ inr (more (start N x) (subst P (sym starts) p))
+          ]
     ]
 
     met_on : AreMet M s (source_of f) (bound_at f) P → AreMet N r (source_of f) (bound_at f) Q
@@ -72,7 +102,7 @@ module _ (M N : Map) (s r : ℕ → ℕ) (T : List ℕ) (f : DistanceBounds) (e 
     bound_along right u v b (x ∷ xs) known there low way short on =
         grind (arith, bound_at, has, bound_along right (end N x) v (b + dm N x) xs)
 
-    pub far_apart : IsTrue f.known → IsRight N r f → (v w : ℕ) → IsSource f v w → ¬ Near N T v (min w GREATEST_LIMIT)
+    pub far_apart : IsTrue f.valid → IsRight N r f → (v w : ℕ) → IsSource f v w → ¬ Near N T v (min w GREATEST_LIMIT)
     far_apart is right v w source near = go near.route near.leads near.within
       where
         go : (xs : List ℕ) → IsRoute N v near.node xs → dm_of N xs ≤ min w GREATEST_LIMIT → ⊥
@@ -201,21 +231,46 @@ module _ (M : Map) (m : IsMap M) (s : ℕ → ℕ) (S : ℕ → Option ℕ) wher
 pub record IsSettling (M : Map) (s : ℕ → ℕ) (old : DistanceBounds) (xs : List ℕ) (f : DistanceBounds) : Type 0 where
   pub room : CoversSlots M s f.bounds
   pub sources : (v : ℕ) → source_of f v ≡ source_of old v
-  pub known : f.known ≡ old.known
+  pub valid : f.valid ≡ old.valid
   pub settling : AreUnderWay M s [] old → AreSettling M s (source_of old) xs f.bounds
   pub led : AreLed M s (source_of old) (bound_at old) (bound_at f)
 
 pub settling_on : (M : Map) → IsMap M → (s : ℕ → ℕ) →
     ((v w : ℕ) → IsTrue (has_node M v) → IsTrue (has_node M w) → s v ≡ s w → v ≡ w) → (old : DistanceBounds)
-    (xs ys : List ℕ) (f g : DistanceBounds) → ((v : ℕ) → source_of g v ≡ source_of f v) → g.known ≡ f.known →
+    (xs ys : List ℕ) (f g : DistanceBounds) → ((v : ℕ) → source_of g v ≡ source_of f v) → g.valid ≡ f.valid →
     frontier_len g.bounds ≡ frontier_len f.bounds →
     (AreSettling M s (source_of old) xs f.bounds → AreSettling M s (source_of old) ys g.bounds) →
     AreLed M s (source_of f) (bound_at f) (bound_at g) → IsSettling M s old xs f → IsSettling M s old ys g
 settling_on M m s apart old xs ys f g sources known len next led was = record {
   room = λ v there. let lt = was.room v there in omega arith;
   sources = λ v. sources v ∙ was.sources v;
-  known = known ∙ was.known;
+  valid = known ∙ was.valid;
   settling = λ u. next (was.settling u);
   led = led_then M m s (source_of old) apart (bound_at old) (bound_at f) (bound_at g) was.led
       (coe 0 1 (i. AreLed M s (λ v. was.sources v i) (bound_at f) (bound_at g)) led);
 }
+
+-- the bounds as they are, with room for each node
+pub settling_begun : (M : Map) (s : ℕ → ℕ) (f : DistanceBounds) (h : Frontier) → ((p : ℕ) → label_of h p ≡ bound_at f p) →
+    CoversSlots M s h → IsSettling M s f f.opened.items (record f { bounds = h })
+settling_begun M s f h labels room =
+    let same : bound_at f ≡ label_of h = λ i p. sym (labels p) i in
+    let due : (v : ℕ) → IsDue [] f v → IsTrue (has f.opened.items v) = λ v d. elim d [ inl none ↦ absurd cc | inr o ↦ o ] in
+    record {
+      room = room;
+      sources = λ v. refl;
+      valid = refl;
+      settling = λ u. record {
+        closed = subst (λ (L : ℕ → ℕ). AreClosed M s L (λ v. IsTrue (has f.opened.items v) ⊎ IsQueued h (label_of h (s v)) (s v))) same
+            (λ x line short. elim (u.closed x line short) [ inl c ↦ inl c | inr d ↦ inr (inl (due (start M x) d)) ]);
+        sources = subst (λ (L : ℕ → ℕ). AreMet M s (source_of f) L (λ v. IsTrue (has f.opened.items v))) same
+            (λ v d at there. elim (u.sources v d at there) [ inl le ↦ inl le | inr o ↦ inr (due v o) ]);
+      };
+      led = λ p. inl (labels p);
+    }
+
+-- no node is open
+pub settling_emptied : {M : Map} {s : ℕ → ℕ} {old : DistanceBounds} {f : DistanceBounds} →
+    IsSettling M s old f.opened.items f → vec_len f.opened ≡ 0 → IsSettling M s old [] f
+settling_emptied {M} {s} {old} {f} w none =
+    subst (λ (ys : List ℕ). IsSettling M s old ys f) (no_more f.opened.items (omega (arith, none))) w

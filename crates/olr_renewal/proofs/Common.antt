@@ -1,17 +1,17 @@
 -- The names that most proofs of olr_renewal cite, passed on from one place. Declares nothing.
 pub use Rattle.olr_commands.proofs.NameLemmas.{not_named}
-pub use Rattle.olr_commands.specs.Counts.{CountIs, Picks}
+pub use Rattle.olr_commands.specs.Counts.{By_line, By_name, By_node, CountIs, Picks}
 pub use Rattle.olr_commands.specs.State.{Named}
 pub use Rattle.olr_paths.proofs.Alls.{at_position, all_more, in_from, has_from, Contains-map, Contains-unmap, shared}
 pub use Rattle.olr_paths.proofs.Changed.{changed, overlaid_from, first_only, not_there, change_left, none_removed_by}
 pub use Rattle.olr_paths.proofs.Changed.{put_on_overlaid, put_on_without, grown_differ}
-pub use Rattle.olr_paths.proofs.Common.{Item, Made, items, holds, Near, Path, limit, dm_of, Bool, List, ap, arith, false, subst}
+pub use Rattle.olr_paths.proofs.Common.{Item, Results, items, holds, Near, Path, limit, dm_of, Bool, List, ap, arith, false, subst}
 pub use Rattle.olr_paths.proofs.Common.{NamesDiffer, LineTouched, all_named, LackQueries, RemovesNone, path_ids_of, shown_items}
 pub use Rattle.olr_paths.proofs.Common.{QueryTouched, TraversedTouched, overlay_changes, slice_get_within, IsStrictlyIncreasing}
 pub use Rattle.olr_paths.proofs.Common.{answer_in, Begins, change_at, slice_get, true≢false, length-map, map-append, option_map}
 pub use Rattle.olr_paths.proofs.Common.{entry, Global, IsTrue, Option, String, get_or, length, IfSome, vec_len, eq-eqb, All-nil}
 pub use Rattle.olr_paths.proofs.Common.{entry_of, Reported, named_of, BeginsIn, Answer, Contains, cases_lt, nat_tests, take_all}
-pub use Rattle.olr_paths.proofs.Common.{flipped, Entry, made_of, made_in, Changes, all_put, puts_of, ascends, is_some, All-push}
+pub use Rattle.olr_paths.proofs.Common.{flipped, Entry, results_of, results_in, Changes, all_put, puts_of, ascends, is_some, All-push}
 pub use Rattle.olr_paths.proofs.Common.{has, All, None, Some, inl, inr, map, refl, suc, sym, take, true, zero, ◌++◌, ◌==◌, ◌||◌}
 pub use Rattle.olr_paths.proofs.Common.{path_named, AreEncoded, changes_in, Put, shown_item, KnownQuery, append-nil, cases_Bool}
 pub use Rattle.olr_paths.proofs.Common.{same_name, without_answer, under_changes, CoverageQuery, get_or_default, AllByRecursion}
@@ -34,10 +34,9 @@ pub use Rattle.olr_renewal.specs.Bounds.{AreUnderWay, IsUnderWay, IsEdit, IsUnbo
 pub use Rattle.olr_renewal.specs.Bounds.{IsRight, IsSource, source_of, bound_at, AreClosed, AreMet, AreRight, IsDue}
 pub use Rattle.olr_renewal.specs.Candidates.{Covers, CoversSearched, Finds, FindsChanged, Includes}
 pub use Rattle.olr_renewal.specs.ChangeSets.{changed_of, lines_of, nodes_of, IsLineAround}
-pub use Rattle.olr_renewal.specs.Changes.{IsAffected, IsBefore, Follows, By_name, By_node, By_line, with_made, AreRemade}
-pub use Rattle.olr_renewal.specs.Changes.{IsRemade, AffectedNames}
+pub use Rattle.olr_renewal.specs.Changes.{AffectedNames, with_results, AreReencoded, IsReencoded, IsAffected, IsBefore, Follows}
 pub use Rattle.olr_renewal.specs.Reencoded.{IsRenewal, IsStep, WasBefore, AreAffectedNames, AreRenewed, IsRenewed, IsPutIn}
-pub use Rattle.olr_renewal.specs.Reencoded.{after_renewal, made_at, IsGiven, ReportsIfOther, encodings_of, entries_of}
+pub use Rattle.olr_renewal.specs.Reencoded.{after_renewal, results_at, IsGiven, ReportsIfOther, encodings_of, entries_of}
 pub use Rattle.olr_renewal.specs.declared.actions.Action.TheVariants.{Skip, Retain, Encode}
 pub use Rattle.olr_renewal.specs.declared.actions.Action.{Action}
 pub use Rattle.olr_renewal.specs.declared.change_set.ChangeSet.{ChangeSet}

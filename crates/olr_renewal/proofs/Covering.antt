@@ -2,10 +2,10 @@
 use Rattle.olr_renewal.proofs.Common.{take, length, get_or, Option, IsTrue, Covers, or_left, Entries, item_of, in_from, changed}
 use Rattle.olr_renewal.proofs.Common.{all_more, cases_Bool, option_map, AreLengths, ChangeSet, Published, NamedPath, first_only}
 use Rattle.olr_renewal.proofs.Common.{All, append_assoc, All-contains, FindsChanged, QueryTouched, under_changes, overlaid_from}
-use Rattle.olr_renewal.proofs.Common.{inl, inr, ◌≡◌, ◌==◌, ◌||◌, List, ◌++◌, Some, None, refl, Item, items, Path, Made, First}
+use Rattle.olr_renewal.proofs.Common.{inl, inr, ◌≡◌, ◌==◌, ◌||◌, List, ◌++◌, Some, None, refl, Item, items, Path, Results, First}
 use Rattle.olr_renewal.proofs.Common.{◌≢◌, ℕ, ◌+◌, ◌<◌, ◌≤◌, ◌⊎◌, ◌∷◌, sym, ap, ◌∙◌, min, Map, has, Rc}
 use Rattle.olr_renewal.proofs.Common.{false, Includes, has_node, label_at, nodes_of, change_at, same_name, all_named, same_flip}
-use Rattle.olr_renewal.proofs.Common.{[], Against, made_of, lines_of, BeginsIn, PathList, Changes, Dijkstra, items_of}
+use Rattle.olr_renewal.proofs.Common.{[], Against, results_of, lines_of, BeginsIn, PathList, Changes, Dijkstra, items_of}
 use Rattle.olr_renewal.proofs.Common.{slice_get, slice_get_within, CoverageQuery, GREATEST_LIMIT, IsSearchedFor, CoversSearched}
 use Rattle.olr_renewal.proofs.Common.{subst, arith, IsMap, holds, Index, Finds, AreFar, Begins, Finder, ToSkip, String, Global}
 use Rattle.olr_renewal.proofs.Common.{nat_tests, LackQueries, RemovesNone, under_change, NamesDiffer, path_ids_of, begins_there}
@@ -85,11 +85,11 @@ module _ (N : Map) (t : ChangeSet) (l : PathList) (off_held : l.held ≡ false) 
         let on = All-contains (λ (u : ℕ). Finds ms i u found) vs v are (in_from vs v touched) k lower held in
         cc (on, off)
 
-    stays_there : ¬ QueryTouched N (nodes_of t) (made_of p.value).queries →
-        ToSkip N (nodes_of t) (lines_of t) (item_of e).made e.1.path.value
+    stays_there : ¬ QueryTouched N (nodes_of t) (results_of p.value).queries →
+        ToSkip N (nodes_of t) (lines_of t) (item_of e).results e.1.path.value
     stays_there unqueried = (
-      made_of p.value,
-      ap (option_map (λ (q : Rc Published Global). made_of q.value)) some,
+      results_of p.value,
+      ap (option_map (λ (q : Rc Published Global). results_of q.value)) some,
       (λ h. let noted = noted_as f (get_or ms k 0) e.1 p some (l.noted k e at) indexed in elim h [
         | inl o ↦ missed f.traversed (nodes_of t) traversed o.0 o.1
             (All-contains (λ (v : ℕ). IsTrue (holds f.traversed v (get_or ms k 0))) p.value.traversed o.0 noted.0 o.2)
@@ -105,27 +105,27 @@ module _ (N : Map) (t : ChangeSet) (l : PathList) (off_held : l.held ≡ false) 
   -- where none of its queries is touched
   stays_by : (k : ℕ) (i : Item) → slice_get (items l) k ≡ Some i → has found k ≡ false →
       ((e : String Global × NamedPath) (p : Rc Published Global) → slice_get l.paths.entries k ≡ Some e →
-      e.1.published ≡ Some p → i.made ≡ Some (made_of p.value) → ¬ QueryTouched N (nodes_of t) (made_of p.value).queries) →
-      ToSkip N (nodes_of t) (lines_of t) i.made i.path
+      e.1.published ≡ Some p → i.results ≡ Some (results_of p.value) → ¬ QueryTouched N (nodes_of t) (results_of p.value).queries) →
+      ToSkip N (nodes_of t) (lines_of t) i.results i.path
   stays_by k i at off unqueried =
       let b = back l.paths.entries k i at in
       let p = is_there b.0.1.published (l.encoded off_held k b.0 b.1) in
-      subst (λ (x : Item). ToSkip N (nodes_of t) (lines_of t) x.made x.path) b.2
+      subst (λ (x : Item). ToSkip N (nodes_of t) (lines_of t) x.results x.path) b.2
       (stays_there k b.0 b.1 p.0 p.1 off (unqueried b.0 p.0 b.1 p.1
-      (ap (λ (x : Item). x.made) (sym b.2) ∙ ap (option_map (λ (q : Rc Published Global). made_of q.value)) p.1)))
+      (ap (λ (x : Item). x.results) (sym b.2) ∙ ap (option_map (λ (q : Rc Published Global). results_of q.value)) p.1)))
 
   -- where it is known that they are far from all queries
   pub covers_far : AreFar N (nodes_of t) (items l) → Covers N (nodes_of t) (lines_of t) (items l) found
-  covers_far far k i at off = stays_by k i at off (λ e p there some made q.
-      far q.0 (begins_there (items l) k i q.0 at (rw made q.1)) q.2)
+  covers_far far k i at off = stays_by k i at off (λ e p there some results q.
+      far q.0 (begins_there (items l) k i q.0 at (rw results q.1)) q.2)
 
   module _ (n : IsMap N) (slot : ℕ → ℕ) (near : Dijkstra) (from : AreFound ms f.by_query_origin (nodes_of t) found)
       (reached : (begun : List (ℕ × ℕ)) → AreLengths N slot Against begun near → (v : ℕ) → IsTrue (has_node N v) →
       label_at near (slot v) ≤ GREATEST_LIMIT → Finds ms f.by_query_origin v found) where
     never_query : (k : ℕ) (e : String Global × NamedPath) (at : slice_get l.paths.entries k ≡ Some e)
         (p : Rc Published Global) (some : e.1.published ≡ Some p) (off : has found k ≡ false) →
-        IsSearchedFor N slot t near (BeginsIn (Some (made_of p.value))) →
-        ¬ QueryTouched N (nodes_of t) (made_of p.value).queries
+        IsSearchedFor N slot t near (BeginsIn (Some (results_of p.value))) →
+        ¬ QueryTouched N (nodes_of t) (results_of p.value).queries
     never_query k e at p some off s h =
         let v : ℕ = h.0.from in
         let held = All-contains (λ (l : CoverageQuery). IsTrue (holds f.by_query_origin l.from (get_or ms k 0))) _ h.0
@@ -141,8 +141,8 @@ module _ (N : Map) (t : ChangeSet) (l : PathList) (off_held : l.held ≡ false) 
         ]
 
     pub covers_by : CoversSearched N slot t near (items l) found
-    covers_by k i at off one = stays_by k i at off (λ e p there some made.
-        never_query k e there p some off (subst (λ (o : Option Made). IsSearchedFor N slot t near (BeginsIn o)) made one))
+    covers_by k i at off one = stays_by k i at off (λ e p there some results.
+        never_query k e there p some off (subst (λ (o : Option Results). IsSearchedFor N slot t near (BeginsIn o)) results one))
 
 -- ---- for a list under changes
 
@@ -156,9 +156,9 @@ module _ (cs : Changes) (is ys : List Item) (none_removed : RemovesNone cs) wher
   covers_overlaid N slot t near found covers given behind searched k j at off = elim (overlaid_from cs is ys none_removed k j at) [
     | inl a ↦
         let same : j ≡ a.0 = a.2 ∙ ap (λ (c : Option (Option Path)). changed c a.0) (given k a.0 a.1 off) in
-        subst (λ (i : Item). ToSkip N (nodes_of t) (lines_of t) i.made i.path) (sym same)
+        subst (λ (i : Item). ToSkip N (nodes_of t) (lines_of t) i.results i.path) (sym same)
         (covers k a.0 a.1 off
-        (subst (λ (i : Item). IsSearchedFor N slot t near (BeginsIn i.made)) same
+        (subst (λ (i : Item). IsSearchedFor N slot t near (BeginsIn i.results)) same
         (searched_at N slot t near (under_changes cs is ++ ys) k j at searched)))
     | inr b ↦
         let low = slice_get_within ys b.0 j b.2 in
@@ -167,7 +167,7 @@ module _ (cs : Changes) (is ys : List Item) (none_removed : RemovesNone cs) wher
   ]
 
 begins_changed : (c : Option (Option Path)) (i : Item) (js : List Item) (l : CoverageQuery) →
-    Begins (under_change c i ++ js) l → BeginsIn i.made l ⊎ Begins js l
+    Begins (under_change c i ++ js) l → BeginsIn i.results l ⊎ Begins js l
 begins_changed c i js l h = grind arith
 
 -- no path has a coverage query, if none of either list has one

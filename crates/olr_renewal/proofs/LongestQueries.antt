@@ -1,10 +1,9 @@
 -- With a margin a coverage query is at most as long as the farthest one may be.
-use Rattle.olr_renewal.proofs.Common.{CoverageQuery, IsTrue, List, Map, None, Path, QueriesOfWith}
-use Rattle.olr_renewal.proofs.Common.{[], ap, arith, cases_Bool, extended_path, false, inl, inr, query_from_with}
-use Rattle.olr_renewal.proofs.Common.{ℕ, ◌+◌, ◌∷◌, ◌<◌, ◌≡◌, ◌≤◌, ◌⊎◌, has, Margin, is_margin, and_parts, ◌*◌, ◌==◌}
-use Rattle.olr_renewal.proofs.Common.{mul-le-mul_left, Contains, eqb-true, nat_tests, farthest}
-use Rattle.olr_renewal.proofs.Common.{dm_of-append, path_fault, has_line, dm, counted, counted_dm, counted_dm_of}
-use Rattle.olr_renewal.proofs.Common.{QueriesOfExtendedWith, query_to_with, IsQueryWith, Needed, dm_of, limit}
+use Rattle.olr_renewal.proofs.Common.{QueriesOfExtendedWith, query_from_with, mul-le-mul_left, CoverageQuery, QueriesOfWith, List}
+use Rattle.olr_renewal.proofs.Common.{extended_path, counted_dm_of, query_to_with, dm_of-append, IsQueryWith, cases_Bool, counted}
+use Rattle.olr_renewal.proofs.Common.{path_fault, counted_dm, is_margin, and_parts, nat_tests, Contains, eqb-true, farthest, None}
+use Rattle.olr_renewal.proofs.Common.{has_line, IsTrue, Margin, Needed, arith, false, dm_of, limit, Path, ◌==◌, Map, inl, inr, []}
+use Rattle.olr_renewal.proofs.Common.{◌+◌, ◌∷◌, ◌<◌, ◌≡◌, ◌≤◌, ◌⊎◌, has, ◌*◌, ap, dm, ℕ}
 use Rattle.olr_spec.proofs.CountedLemmas.{get_counted, counted_zero, counted_other, counted_own}
 use Rattle.olr_spec.proofs.JoinLemmas.{empty_stretch}
 use Rattle.olr_spec.proofs.QueryLemmas.{stretch_parts}

@@ -16,7 +16,7 @@ module _ {A : Type 0} (P : A → Type 0) where
 module _ {g : Margin} {N : Map} (n : IsMap N) {T X : List ℕ} {C : List ChangedLine} {is : List Item}
     (q : IsBefore g N N T X C is)
     (p : ℕ) (i : Item) (at : slice_get is p ≡ Some i) (names : List (List ℕ)) where
-  pub names_left : ToSkip N T X i.made i.path → AffectedNames g N T X (take p is) names →
+  pub names_left : ToSkip N T X i.results i.path → AffectedNames g N T X (take p is) names →
       AffectedNames g N T X (take (p + 1) is) names
   names_left f h = rw (take_more_at is p i at) (
     h.0,
@@ -24,7 +24,7 @@ module _ {g : Margin} {N : Map} (n : IsMap N) {T X : List ℕ} {C : List Changed
     h.2,
   )
 
-  pub names_taken : ToName N T X i.made i.path → AffectedNames g N T X (take p is) names →
+  pub names_taken : ToName N T X i.results i.path → AffectedNames g N T X (take p is) names →
       AffectedNames g N T X (take (p + 1) is) (names ++ i.name ∷ [])
   names_taken f h = rw (take_more_at is p i at) (
     h.0 ++ i ∷ [],

@@ -1,6 +1,6 @@
 -- Results that are right on a map are right on the next one, if no change can affect them.
 use Rattle.olr_renewal.proofs.Common.{AreEncodingsIfAny, AreKnownWith, By_line, By_name, By_node, ChangedLine, CoverageQuery}
-use Rattle.olr_renewal.proofs.Common.{IsAffected, IsBefore, IsEncodingOf, IsMap, IsTrue, Item, List, Made, Map, Margin, Option}
+use Rattle.olr_renewal.proofs.Common.{IsAffected, IsBefore, IsEncodingOf, IsMap, IsTrue, Item, List, Results, Map, Margin, Option}
 use Rattle.olr_renewal.proofs.Common.{Path, Some, arith, cases_Bool, false, get_or, has, inl, inr, refl, None, is_margin}
 use Rattle.olr_renewal.proofs.Common.{is_path, min, slice_get, subst, ℕ, All, ◌≡◌, ◌≤◌, at_position, farthest, AreShort}
 use Rattle.olr_renewal.proofs.Common.{BeginsIn, ToName, Retains, IsActionFor, Action, Skip, Retain, Encode, IsGiven, known_in}
@@ -29,28 +29,28 @@ module _ {g : Margin} {M N : Map} (n : IsMap N) {T X : List ℕ} {C : List Chang
   lines_off : ¬ LineTouched X P → (x : ℕ) → has X x ≡ true → has P.lines x ≡ false
   lines_off free x on = elim (cases_Bool (has P.lines x)) [ inl e ↦ absurd (free (x, on, e)) | inr e ↦ e ]
 
-  module _ {m : Made} (some : i.made ≡ Some m) where
-    made : IsEncodingOf g M P m
-    made = subst (λ (o : Option Made). IfSome o (IsEncodingOf g M P)) some
-        (at_position (AreEncodingsIfAny g M) (λ j. IfSome j.made (IsEncodingOf g M j.path)) (λ x xs h. h) is k i q.made at)
+  module _ {m : Results} (some : i.results ≡ Some m) where
+    results : IsEncodingOf g M P m
+    results = subst (λ (o : Option Results). IfSome o (IsEncodingOf g M P)) some
+        (at_position (AreEncodingsIfAny g M) (λ j. IfSome j.results (IsEncodingOf g M j.path)) (λ x xs h. h) is k i q.results at)
 
     within : (l : CoverageQuery) → Contains m.queries l → l.within ≤ GREATEST_LIMIT
-    within l on = omega (arith, within_farthest g q.margin M P m.queries made.queries l on, farthest_most g)
+    within l on = omega (arith, within_farthest g q.margin M P m.queries results.queries l on, farthest_most g)
 
     nodes_off : ¬ TraversedTouched T m → (v : ℕ) → has T v ≡ true → ¬ TraversedOf M P v
-    nodes_off free v on o = free (v, on, (made.traversed v).1 o)
+    nodes_off free v on o = free (v, on, (results.traversed v).1 o)
 
     stays_clear : ¬ TraversedTouched T m → ¬ LineTouched X P → All (IsClear N C) m.queries → IsEncodingOf g N P m
     stays_clear nodes_free lines_free clear =
         let d = q.difference in
         let lines = lines_off lines_free in
         let traversed = nodes_off nodes_free in
-        let k = untouched_retained_with g M N q.sound n T X C d P path lines traversed m.queries made.queries clear in
+        let k = untouched_retained_with g M N q.sound n T X C d P path lines traversed m.queries results.queries clear in
         record {
-          answer = k.0 m.answer made.answer;
-          traversed = λ v. ((λ o. (k.1 v).0 ((made.traversed v).0 o)), (λ o. (made.traversed v).1 ((k.1 v).1 o)));
+          answer = k.0 m.answer results.answer;
+          traversed = λ v. ((λ o. (k.1 v).0 ((results.traversed v).0 o)), (λ o. (results.traversed v).1 ((k.1 v).1 o)));
           queries = k.2;
-          known = known_kept g M N C d.there d.here P.lines m.queries clear m.known made.known;
+          known = known_kept g M N C d.there d.here P.lines m.queries clear m.known results.known;
         }
 
     -- a detour begins with a route to a touched node
@@ -82,18 +82,18 @@ module _ {g : Margin} {M N : Map} (n : IsMap N) {T X : List ℕ} {C : List Chang
 
     pub affected_by : Touches N T X m P → IsAffected g M T X i
     affected_by (inl t) =
-        let f = (foot_affected_with g M N q.sound T q.difference.nodes P path m.queries made.queries).1
-        (inl (t.0, t.1, (made.traversed t.0).0 t.2)) in By_node f.0 f.1 f.2
+        let f = (foot_affected_with g M N q.sound T q.difference.nodes P path m.queries results.queries).1
+        (inl (t.0, t.1, (results.traversed t.0).0 t.2)) in By_node f.0 f.1 f.2
     affected_by (inr (inl t)) = By_line t.0 t.1 t.2
     affected_by (inr (inr t)) =
-        let f = (foot_affected_with g M N q.sound T q.difference.nodes P path m.queries made.queries).1
+        let f = (foot_affected_with g M N q.sound T q.difference.nodes P path m.queries results.queries).1
         (inr (t.0, t.1, near_wider (min t.0.within GREATEST_LIMIT) t.0.within (omega arith) t.2)) in By_node f.0 f.1 f.2
 
     pub touched_by : IsAffected g M T X i → Touches N T X m P
     touched_by (By_name none) = absurd cc
     touched_by (By_node v on foot) =
-        elim ((foot_affected_with g M N q.sound T q.difference.nodes P path m.queries made.queries).0 (v, on, foot)) [
-          | inl traversed ↦ inl (traversed.0, traversed.1, (made.traversed traversed.0).1 traversed.2)
+        elim ((foot_affected_with g M N q.sound T q.difference.nodes P path m.queries results.queries).0 (v, on, foot)) [
+          | inl traversed ↦ inl (traversed.0, traversed.1, (results.traversed traversed.0).1 traversed.2)
           | inr query ↦
               let l : CoverageQuery = query.0 in
               let short = within l query.1 in
@@ -101,29 +101,29 @@ module _ {g : Margin} {M N : Map} (n : IsMap N) {T X : List ℕ} {C : List Chang
         ]
     touched_by (By_line x on line) = inr (inl (x, on, line))
 
-  known_right : (o : Option Made) → i.made ≡ o → AreKnownWith g M P.lines (known_in o)
+  known_right : (o : Option Results) → i.results ≡ o → AreKnownWith g M P.lines (known_in o)
   known_right None none = λ k d lt. absurd (omega arith)
-  known_right (Some m) some = λ k d lt. ((made some).known k d lt).right
+  known_right (Some m) some = λ k d lt. ((results some).known k d lt).right
 
   -- of its coverage queries along its own lines, those that stay right are given to the encoding
-  pub given_known : (a : Action) → IsActionFor N T X C i.made P a → IsGiven N g P.lines a
+  pub given_known : (a : Action) → IsActionFor N T X C i.results P a → IsGiven N g P.lines a
   given_known Skip f = tt
   given_known Retain f = tt
-  given_known (Encode ks) f = f.1 g M P.lines q.difference.there q.difference.here (known_right i.made refl)
+  given_known (Encode ks) f = f.1 g M P.lines q.difference.there q.difference.here (known_right i.results refl)
 
-  pub named_affected : ToName N T X i.made i.path → IsAffected g M T X i
+  pub named_affected : ToName N T X i.results i.path → IsAffected g M T X i
   named_affected (inl none) = By_name none
   named_affected (inr f) = affected_by f.1 f.2
 
 -- so no coverage query of the list is longer than the farthest one may be
 short_by : (g : Margin) → IsTrue (is_margin g) → (M : Map) (is : List Item) → AreEncodingsIfAny g M is → AreShort g is
 short_by g most M [] h l b = absurd b
-short_by g most M (i ∷ is) h l (inl b) = of i.made h.0 b where
-  of : (o : Option Made) → IfSome o (IsEncodingOf g M i.path) → BeginsIn o l → l.within ≤ farthest g
+short_by g most M (i ∷ is) h l (inl b) = of i.results h.0 b where
+  of : (o : Option Results) → IfSome o (IsEncodingOf g M i.path) → BeginsIn o l → l.within ≤ farthest g
   of None e b = absurd b
   of (Some m) e b = within_farthest g most M i.path m.queries e.queries l b
 short_by g most M (i ∷ is) h l (inr b) = short_by g most M is h.1 l b
 
 pub are_short : {g : Margin} {M N : Map} {T X : List ℕ} {C : List ChangedLine} {is : List Item} →
     IsBefore g M N T X C is → AreShort g is
-are_short {g} {M} {N} {T} {X} {C} {is} q = short_by g q.margin M is q.made
+are_short {g} {M} {N} {T} {X} {C} {is} q = short_by g q.margin M is q.results

@@ -6,7 +6,7 @@ use Rattle.olr_renewal.proofs.Common.{ChangeSet, Dijkstra, begins_there, IsSearc
 use Rattle.olr_renewal.proofs.Distances.{near_labelled, near_found}
 
 -- no source is beyond bounds that are right
-pub source_under : (M : Map) (slot : ℕ → ℕ) (f : DistanceBounds) (v w d : ℕ) → IsTrue f.known → IsRight M slot f →
+pub source_under : (M : Map) (slot : ℕ → ℕ) (f : DistanceBounds) (v w d : ℕ) → IsTrue f.valid → IsRight M slot f →
     IsSource f v w → IsTrue (has_node M v) → d ≤ min w GREATEST_LIMIT → IsUnder f.bounds (slot v) d
 source_under M slot f v w d known right source there le =
     let k = source known in
@@ -22,8 +22,8 @@ module _ (N : Map) (slot : ℕ → ℕ) (t : ChangeSet) (near : Dijkstra) where
 
   -- for those of one path
   pub searched_at : (is : List Item) (k : ℕ) (i : Item) → slice_get is k ≡ Some i → IsSearchedFor N slot t near (Begins is) →
-      IsSearchedFor N slot t near (BeginsIn i.made)
-  searched_at is k i at = searched_less (Begins is) (BeginsIn i.made) (λ l b. begins_there is k i l at b)
+      IsSearchedFor N slot t near (BeginsIn i.results)
+  searched_at is k i at = searched_less (Begins is) (BeginsIn i.results) (λ l b. begins_there is k i l at b)
 
   -- from no node, where it is known that no query reaches one
   pub searched_from_none : (Q : CoverageQuery → Type 0) → IsSearch N slot Against [] near →

@@ -19,7 +19,7 @@
 --         begins
 --     AreLed M s S L K      each of the bounds K is that of L, or it was led there
 --     IsFollowed M s f v      the lines from v are closed, or its slot is queued at its bound
--- Where the bounds are unknown nothing is said.
+-- Where the bounds are invalid nothing is said.
 use Rattle.std.specs.Prelude.{◌≡◌, ◌≢◌, ℕ, ◌+◌, ◌-◌, ◌≤◌, ◌<◌, ◌⊎◌, List, Option, Some, None, IsTrue, IsFalse, nat_eq}
 use Rattle.std.specs.Prelude.{min}
 use Rattle.std.specs.HashMap.{get}
@@ -44,7 +44,7 @@ pub record Within (S : ℕ → Option ℕ) (v d : ℕ) : Type 0 where
   pub low : number ≤ d
 
 abbrev pub IsSource : DistanceBounds → ℕ → ℕ → Type 0
-IsSource f v w = IsTrue f.known → Within (source_of f) v (GREATEST_LIMIT - w)
+IsSource f v w = IsTrue f.valid → Within (source_of f) v (GREATEST_LIMIT - w)
 
 -- ---- what the bounds say of a map
 
@@ -63,7 +63,7 @@ pub record AreRight (M : Map) (s : ℕ → ℕ) (f : DistanceBounds) : Type 0 wh
   pub sources : (v d : ℕ) → source_of f v ≡ Some d → IsTrue (has_node M v) → bound_at f (s v) ≤ d
 
 abbrev pub IsRight : Map → (ℕ → ℕ) → DistanceBounds → Type 0
-IsRight M s f = IsTrue f.known → AreRight M s f
+IsRight M s f = IsTrue f.valid → AreRight M s f
 
 abbrev pub IsDue : List ℕ → DistanceBounds → ℕ → Type 0
 IsDue T f v = IsTrue (has T v) ⊎ IsTrue (has f.opened.items v)
@@ -73,7 +73,7 @@ pub record AreUnderWay (M : Map) (s : ℕ → ℕ) (T : List ℕ) (f : DistanceB
   pub sources : AreMet M s (source_of f) (bound_at f) (IsDue T f)
 
 abbrev pub IsUnderWay : Map → (ℕ → ℕ) → List ℕ → DistanceBounds → Type 0
-IsUnderWay M s T f = IsTrue f.known → AreUnderWay M s T f
+IsUnderWay M s T f = IsTrue f.valid → AreUnderWay M s T f
 
 -- ---- edits
 
@@ -104,7 +104,7 @@ pub record IsLowered (f g : DistanceBounds) (v d : ℕ) : Type 0 where
 
 pub record IsReopened (f g : DistanceBounds) : Type 0 where
   pub bounds : g.bounds ≡ f.bounds
-  pub known : g.known ≡ f.known
+  pub valid : g.valid ≡ f.valid
   pub kept : (v : ℕ) → IsTrue (has f.opened.items v) → IsTrue (has g.opened.items v)
   pub fresh : (v : ℕ) → (source_of g v ≡ source_of f v) ⊎ IsTrue (has g.opened.items v)
 

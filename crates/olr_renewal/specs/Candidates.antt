@@ -27,12 +27,12 @@ Finds path_ids i v found = (k : ℕ) → k < length path_ids → IsTrue (holds i
     IsTrue (has found k)
 
 abbrev pub Covers : Map → List ℕ → List ℕ → List Item → List ℕ → Type 0
-Covers N T X is found = (k : ℕ) (i : Item) → slice_get is k ≡ Some i → has found k ≡ false → ToSkip N T X i.made i.path
+Covers N T X is found = (k : ℕ) (i : Item) → slice_get is k ≡ Some i → has found k ≡ false → ToSkip N T X i.results i.path
 
 abbrev pub CoversSearched : Map → (ℕ → ℕ) → ChangeSet → Dijkstra → List Item → List ℕ → Type 0
 CoversSearched N slot t near is found =
-    (k : ℕ) (i : Item) → slice_get is k ≡ Some i → has found k ≡ false → IsSearchedFor N slot t near (BeginsIn i.made) →
-    ToSkip N (nodes_of t) (lines_of t) i.made i.path
+    (k : ℕ) (i : Item) → slice_get is k ≡ Some i → has found k ≡ false → IsSearchedFor N slot t near (BeginsIn i.results) →
+    ToSkip N (nodes_of t) (lines_of t) i.results i.path
 
 abbrev pub FindsChanged : Changes → List Item → List ℕ → Type 0
 FindsChanged cs is found =

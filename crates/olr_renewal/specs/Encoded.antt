@@ -8,24 +8,24 @@ use Rattle.olr_spec.specs.Margins.{Margin}
 use Rattle.olr_spec.specs.Extension.{Path}
 use Rattle.olr_commands.specs.Reply.{entry}
 use Rattle.olr_paths.specs.Changes.{set_item}
-use Rattle.olr_paths.specs.Items.{Made, Item, IsEncodingOf}
+use Rattle.olr_paths.specs.Items.{Results, Item, IsEncodingOf}
 use Rattle.olr_paths.specs.Origins.{AreNewQueries}
 use Rattle.olr_renewal.specs.Reencoded.{ReportsIfOther, entries_of}
 use Rattle.olr_renewal.specs.declared.renewal.Renewed.{Renewed}
 
 module _ (g : Margin) (M : Map) (is js : List Item) (name : List ℕ) (P : Path) (r : Renewed) where
   pub record IsAdded : Type 0 where
-    pub made : Made
-    pub right : IsEncodingOf g M P made
-    pub list : js ≡ is ++ record { name = name; path = P; made = Some made } ∷ []
-    pub entries : entries_of r ≡ entry name made.answer ∷ []
+    pub results : Results
+    pub right : IsEncodingOf g M P results
+    pub list : js ≡ is ++ record { name = name; path = P; results = Some results } ∷ []
+    pub entries : entries_of r ≡ entry name results.answer ∷ []
     pub counted : r.work.encodings ≡ 1
     pub queries : AreNewQueries r.queries.items is js
 
   pub record IsSet : Type 0 where
-    pub made : Made
-    pub right : IsEncodingOf g M P made
-    pub list : js ≡ map (set_item name P (Some made)) is
-    pub entries : ReportsIfOther is name made.answer [] (entries_of r)
+    pub results : Results
+    pub right : IsEncodingOf g M P results
+    pub list : js ≡ map (set_item name P (Some results)) is
+    pub entries : ReportsIfOther is name results.answer [] (entries_of r)
     pub counted : r.work.encodings ≡ 1
     pub queries : AreNewQueries r.queries.items is js

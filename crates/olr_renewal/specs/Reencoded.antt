@@ -1,5 +1,5 @@
--- Which results of a list of named paths were made again, and what is reported and counted.
---     made_at r      the results that were made.
+-- Which paths of a list are encoded again, and what is reported and counted.
+--     results_at r      the new results.
 --     encodings_of r      how many encodings are counted
 --     IsStep      the effect of the action for a path
 --     IsGiven N g ls action      the coverage queries that are not searched again are right on the map
@@ -7,7 +7,7 @@
 --         where its results were right;  r reports the answers that are not those of the list before, and counts an
 --         encoding for each path that was affected
 --     to_renew_by u is      the list or, if the margin was set, the list of which no path is encoded yet
---     CanRenewOver map slot u bounds before is      the list is, which changes made of the list before, can be renewed after the
+--     CanRenewOver map slot u bounds before is      the list is, to which changes led from the list before, can be renewed after the
 --         map update u: map and slot are those of its map
 --     CanRenewUnder map slot u f is o      the list is can be renewed under the changes of an overlay, and no name occurs twice
 --     AreRenewed map u before is js r      the list js is the list is, renewed after the update
@@ -28,7 +28,7 @@ use Rattle.olr_commands.specs.Words.{entry_of}
 use Rattle.olr_spec.specs.Encoding.{Answer}
 use Rattle.olr_commands.specs.Reply.{Entry, entry}
 use Rattle.olr_commands.specs.State.{NamesDiffer}
-use Rattle.olr_paths.specs.Items.{Made, Item, IsEncodingOf, answer_in, all_named}
+use Rattle.olr_paths.specs.Items.{Results, Item, IsEncodingOf, answer_in, all_named}
 use Rattle.olr_paths.specs.Origins.{AreNewQueries}
 use Rattle.olr_paths.specs.Changes.{Reported, to_renew}
 use Rattle.olr_renewal.specs.AffectedSearches.{AreBoundsOf}
@@ -40,19 +40,19 @@ use Rattle.olr_renewal.specs.ChangeSets.{nodes_of, lines_of, changed_of}
 use Rattle.olr_renewal.specs.declared.actions.Action.{Action}
 use Rattle.olr_renewal.specs.declared.actions.Action.TheVariants.{Skip, Retain, Encode}
 use Rattle.olr_renewal.specs.declared.change_set.ChangeSet.{ChangeSet}
-use Rattle.olr_renewal.specs.Changes.{Follows, IsBefore, IsAffected, AreRemade, AffectedNames}
+use Rattle.olr_renewal.specs.Changes.{Follows, IsBefore, IsAffected, AreReencoded, AffectedNames}
 use Rattle.olr_renewal.specs.declared.renewal.Renewal.{Renewal}
 use Rattle.olr_renewal.specs.declared.renewal.Renewed.{Renewed}
 use Rattle.olr_renewal.specs.declared.update.MapUpdate.{MapUpdate}
 
-abbrev pub made_at : Renewal → List Put
-made_at r = puts_of r.fresh.items
+abbrev pub results_at : Renewal → List Put
+results_at r = puts_of r.fresh.items
 
 abbrev pub entries_of : Renewed → List Entry
 entries_of r = map entry_of r.entries.items
 
 abbrev pub after_renewal : Renewal → List Item → List Item
-after_renewal r is = all_put is (made_at r)
+after_renewal r is = all_put is (results_at r)
 
 abbrev pub ReportsIfOther : List Item → List ℕ → Answer → List Entry → List Entry → Type 0
 ReportsIfOther before name A es fs =
@@ -63,16 +63,20 @@ ReportsIfOther before name A es fs =
 abbrev pub encodings_of : Renewal → ℕ
 encodings_of r = r.renewed.work.encodings
 
+-- the path is encoded again
+abbrev pub IsEncodedAt : Margin → Map → List Item → Item → ℕ → Renewal → Renewal → Type 0
+IsEncodedAt g N before i k r s =
+    (m : Results) × IsEncodingOf g N i.path m
+    × (results_at s ≡ results_at r ++ record { position = k; path = i.path; results = Some m } ∷ [])
+    × ReportsIfOther before i.name m.answer (entries_of r.renewed) (entries_of s.renewed)
+    × (encodings_of s ≡ raised_count (encodings_of r) 1)
+
 abbrev pub IsStep : Margin → Map → List Item → Item → ℕ → Action → Renewal → Renewal → Type 0
 IsStep g N before i k Skip r s = s ≡ r
 IsStep g N before i k Retain r s =
-    (made_at s ≡ made_at r) × (entries_of s.renewed ≡ entries_of r.renewed)
+    (results_at s ≡ results_at r) × (entries_of s.renewed ≡ entries_of r.renewed)
     × (encodings_of s ≡ raised_count (encodings_of r) 1)
-IsStep g N before i k (Encode ks) r s =
-    (m : Made) × IsEncodingOf g N i.path m
-    × (made_at s ≡ made_at r ++ record { position = k; path = i.path; made = Some m } ∷ [])
-    × ReportsIfOther before i.name m.answer (entries_of r.renewed) (entries_of s.renewed)
-    × (encodings_of s ≡ raised_count (encodings_of r) 1)
+IsStep g N before i k (Encode ks) r s = IsEncodedAt g N before i k r s
 
 abbrev pub IsGiven : Map → Margin → List ℕ → Action → Type 0
 IsGiven N g ls (Encode ks) = AreKnownWith g N ls ks.items
@@ -85,7 +89,7 @@ abbrev pub WasBefore : Margin → Map → Map → ChangeSet → List Item → Ty
 WasBefore g L N t is = IsBefore g L N (nodes_of t) (lines_of t) (changed_of t) is
 
 pub record IsRenewal (g : Margin) (N : Map) (t : ChangeSet) (before is js : List Item) (r : Renewed) : Type 0 where
-  pub remade : AreRemade g N is js
+  pub reencoded : AreReencoded g N is js
   pub named : all_named js ≡ all_named is
   pub reported : Reported before js (entries_of r)
   pub counted : (L : Map) → WasBefore g L N t is → (n : ℕ) × CountIs (IsAffected g L (nodes_of t) (lines_of t)) is n

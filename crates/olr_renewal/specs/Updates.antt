@@ -41,11 +41,11 @@ module _ {M : Type 0} (map : M → Map) (slot : M → ℕ → ℕ) (u : MapUpdat
 
 module _ {M : Type 0} (map : M → Map) (u : MapUpdate M) where
   abbrev pub Skips : Item → Type 0
-  Skips i = ToSkip (map u.map.now) (nodes_of u.touched.now) (lines_of u.touched.now) i.made i.path
+  Skips i = ToSkip (map u.map.now) (nodes_of u.touched.now) (lines_of u.touched.now) i.results i.path
 
   abbrev pub Names : Item → Type 0
-  Names i = ToName (map u.map.now) (nodes_of u.touched.now) (lines_of u.touched.now) i.made i.path
+  Names i = ToName (map u.map.now) (nodes_of u.touched.now) (lines_of u.touched.now) i.results i.path
 
   abbrev pub IsAction : Item → Action → Type 0
   IsAction i a =
-      IsActionFor (map u.map.now) (nodes_of u.touched.now) (lines_of u.touched.now) (changed_of u.touched.now) i.made i.path a
+      IsActionFor (map u.map.now) (nodes_of u.touched.now) (lines_of u.touched.now) (changed_of u.touched.now) i.results i.path a

@@ -30,7 +30,7 @@ pub(crate) fn is_affected<M: MapRead>(
     near: &Dijkstra,
     shown: PathView<'_>,
 ) -> bool
-    requires { Searched M.map M.node_slot update.now near.now (BeginsIn (shown_item shown).made) }
+    requires { Searched M.map M.node_slot update.now near.now (BeginsIn (shown_item shown).results) }
     ensures stays { IsFalse result → Skips M.map update.now (shown_item shown.entry) }
     ensures affected { IsTrue result → Names M.map update.now (shown_item shown.entry) }
 {
@@ -48,7 +48,7 @@ pub(crate) fn decide<M: MapRead>(
     detours: &mut Detours,
     shown: PathView<'_>,
 ) -> Result<Action, AllocError>
-    requires searched { Searched M.map M.node_slot update.now near.now (BeginsIn (shown_item shown).made) }
+    requires searched { Searched M.map M.node_slot update.now near.now (BeginsIn (shown_item shown).results) }
     requires detours { AreReadyIfFew M.map M.node_slot update.now detours.old }
     ensures action { IfOk result (IsAction M.map update.now (shown_item shown.entry)) }
     ensures detours { OnOk result (AreReadyIfFew M.map M.node_slot update.now detours.new) }

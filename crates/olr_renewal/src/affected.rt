@@ -3,7 +3,7 @@ ghost use Rattle.std.specs.Prelude.{◌≡◌, ◌↔◌, ◌⊎◌, ℕ, min, C
 ghost use Rattle.std.specs.List.{list_any};
 ghost use Rattle.olr_spec.specs.Map.{has};
 ghost use Rattle.olr_spec.specs.Detours.{Near};
-ghost use Rattle.olr_paths.specs.Items.{made_of, items};
+ghost use Rattle.olr_paths.specs.Items.{results_of, items};
 ghost use Rattle.olr_paths.specs.Views.{shown_items};
 ghost use Rattle.olr_paths.specs.Changes.{LineTouched, QueryTouched, TraversedTouched};
 ghost use Rattle.olr_paths.specs.Origins as origins;
@@ -33,7 +33,6 @@ fn farthest(margin: Margin) -> u32
 }
 
 /// Whether it is known that no path of a list has a coverage query.
-#[tactic(auto, using(olr_paths::proofs::NotedPositions::lack_by))]
 fn lacks_queries(list: &PathList) -> bool
     ensures { IsTrue result → LackQueries (items list.now) }
 {
@@ -48,7 +47,7 @@ fn is_without_queries(overlaid: OverlaidList<'_>) -> bool
     lacks_queries(overlaid.list) && lacks_queries(&overlaid.overlay.added)
 }
 
-/// Searches against the lines from the touched nodes, as far as the distance bounds let it or, if they are unknown, the
+/// Searches against the lines from the touched nodes, as far as the distance bounds let it or, if they are invalid, the
 /// length of coverage queries with the margin; from none of the nodes, if no coverage query can reach one: the bounds show
 /// so, or no path has a query.
 fn search_touched<M: MapRead>(
@@ -66,7 +65,7 @@ fn search_touched<M: MapRead>(
         return Ok(());
     }
     begin_at(update.alloc, map, Direction::Against, nodes, near)?;
-    if bounds.is_known() {
+    if bounds.is_valid() {
         near.settle_under(map, &bounds.bounds)?;
         return Ok(());
     }
@@ -129,7 +128,7 @@ fn is_line_touched(touched: &ChangeSet, lines: &[LineId]) -> bool
 
 /// Whether one of a path's traversed nodes or of its lines was touched.
 pub(crate) fn is_path_touched(touched: &ChangeSet, path: &Path, published: &Published) -> bool
-    ensures { IsTrue result ↔ TraversedTouched (nodes_of touched.now) (made_of published.now)
+    ensures { IsTrue result ↔ TraversedTouched (nodes_of touched.now) (results_of published.now)
         ⊎ LineTouched (lines_of touched.now) path.now }
 {
     is_traversed_touched(touched, published.traversed()) || is_line_touched(touched, path.lines())

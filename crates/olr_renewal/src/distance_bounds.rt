@@ -23,7 +23,7 @@ const LEAST_WASTED: usize = 65_536;
 /// Bounds are stored by the slots of the nodes, see `MapRead::slot_of`. All calls must be given the same map, before or
 /// after edits: a node that stays must keep its slot, and a node that is added must have no lines at first.
 ///
-/// If an allocation fails, the bounds are unknown until `clear`.
+/// If an allocation fails, the bounds are invalid until `clear`.
 pub struct DistanceBounds {
     alloc: Global,
     /// By node number, the bound that the queries from the node require there: the limit less the longest one's length.
@@ -32,7 +32,7 @@ pub struct DistanceBounds {
     pub(crate) bounds: Frontier,
     /// The nodes whose sources and lines are to be looked at again.
     opened: Vec<NodeId>,
-    known: bool,
+    valid: bool,
     /// How many nodes were labelled by searches that found no affected path, since the bounds were begun.
     wasted_labels: usize,
 }
@@ -45,7 +45,7 @@ impl Drop for DistanceBounds {
             sources,
             bounds,
             opened,
-            known: _,
+            valid: _,
             wasted_labels: _,
         } = self;
         drop(sources);
@@ -111,7 +111,7 @@ impl DistanceBounds {
 
     /// No sources and no bounds. Does not allocate.
     pub fn new(alloc: Global) -> DistanceBounds
-        ensures known { IsTrue result.known }
+        ensures valid { IsTrue result.valid }
         ensures under_way { (M : Map) (s : ℕ → ℕ) (T : List ℕ) → IsUnderWay M s T result }
         ensures sources { (v : ℕ) → source_of result v ≡ None }
         ensures bounds { (p : ℕ) → GREATEST_LIMIT < bound_at result p }
@@ -121,21 +121,21 @@ impl DistanceBounds {
             sources: HashMap::with_hasher(alloc, BuildHasherDefault::new()),
             bounds: Frontier::new(alloc),
             opened: Vec::new(alloc),
-            known: true,
+            valid: true,
             wasted_labels: 0,
         }
     }
 
-    /// Whether the bounds are known.
-    pub fn is_known(&self) -> bool
-        ensures { result ≡ self.now.known }
+    /// Whether the bounds are valid.
+    pub fn is_valid(&self) -> bool
+        ensures { result ≡ self.now.valid }
     {
-        self.known
+        self.valid
     }
 
     /// Discards all sources and bounds, and starts from scratch. Does not allocate.
     pub fn clear(&mut self)
-        ensures known { IsTrue self.new.known }
+        ensures valid { IsTrue self.new.valid }
         ensures under_way { (M : Map) (s : ℕ → ℕ) (T : List ℕ) → IsUnderWay M s T self.new }
         ensures sources { (v : ℕ) → source_of self.new v ≡ None }
         ensures bounds { (p : ℕ) → GREATEST_LIMIT < bound_at self.new p }
@@ -145,30 +145,30 @@ impl DistanceBounds {
         }
         self.bounds.clear();
         self.opened.clear();
-        self.known = true;
+        self.valid = true;
         self.wasted_labels = 0;
     }
 
-    /// Makes the bounds unknown, and frees their memory.
+    /// Makes the bounds invalid, and frees their memory.
     pub fn forget(&mut self)
-        ensures { IsFalse self.new.known }
+        ensures { IsFalse self.new.valid }
     {
         self.sources = HashMap::with_hasher(self.alloc, BuildHasherDefault::new());
         self.bounds = Frontier::new(self.alloc);
         self.opened = Vec::new(self.alloc);
-        self.known = false;
+        self.valid = false;
         self.wasted_labels = 0;
     }
 
     /// Adds labels of a search that found no affected path; nothing else changes. True if the bounds are to begin from
-    /// scratch: they are unknown, or these labels are more in all than it costs to do so for a number of paths.
+    /// scratch: they are invalid, or these labels are more in all than it costs to do so for a number of paths.
     pub fn add_wasted_labels(&mut self, labels: usize, paths: usize) -> bool
         ensures { self.new ≡ record self.old { wasted_labels = self.new.wasted_labels } }
     {
         self.wasted_labels = self.wasted_labels.saturating_add(labels);
         let bounded = self.bounds.labelled_slots().len();
         let cost = bounded.saturating_add(paths).saturating_mul(4);
-        !self.known || self.wasted_labels > cost.saturating_add(LEAST_WASTED)
+        !self.valid || self.wasted_labels > cost.saturating_add(LEAST_WASTED)
     }
 
     /// Whether the bounds are settled: no node is to be looked at again.
@@ -191,7 +191,7 @@ impl DistanceBounds {
     /// Whether it is known that no query reaches one of the nodes. If so, edits that touch no other nodes leave the bounds
     /// as right as they are. The map may be the one before the edits, or the one after them.
     pub fn are_unbounded<M: MapRead>(&self, map: &M, nodes: &[NodeId]) -> bool
-        ensures exact { IsTrue result ↔ (IsTrue self.now.known × ((v : ℕ) → IsTrue (has nodes.now v)
+        ensures exact { IsTrue result ↔ (IsTrue self.now.valid × ((v : ℕ) → IsTrue (has nodes.now v)
             → IsUnbounded (M.map map.now) (M.node_slot map.now) self.now v)) }
         ensures unbounded { IsTrue result → (N : Map) (r : ℕ → ℕ) (s w : ℕ)
             → IsEdit nodes.now (M.map map.now) (M.node_slot map.now) N r → IsRight N r self.now
@@ -200,7 +200,7 @@ impl DistanceBounds {
             → IsEdit nodes.now (M.map map.now) (M.node_slot map.now) N r
             → IsUnderWay (M.map map.now) (M.node_slot map.now) [] self.now → IsUnderWay N r [] self.now }
     {
-        if !self.known {
+        if !self.valid {
             return false;
         }
         if self.bounds.labelled_slots().is_empty() && self.sources.is_empty() {
@@ -215,11 +215,11 @@ impl DistanceBounds {
     }
 
     /// Adds a query of a length in decimetres that begins at the source, which is then to be looked at again. If an
-    /// allocation fails, the bounds are unknown.
+    /// allocation fails, the bounds are invalid.
     pub fn add(&mut self, source: NodeId, within: u32)
         ensures source { IsSource self.new source within }
-        ensures lowered { IsTrue self.new.known → IsLowered self.old self.new source (GREATEST_LIMIT - within) }
-        ensures bounds { IsTrue self.new.known → (p : ℕ) → bound_at self.new p ≡ bound_at self.old p }
+        ensures lowered { IsTrue self.new.valid → IsLowered self.old self.new source (GREATEST_LIMIT - within) }
+        ensures bounds { IsTrue self.new.valid → (p : ℕ) → bound_at self.new p ≡ bound_at self.old p }
         ensures sources { (v w : ℕ) → IsSource self.old v w → IsSource self.new v w }
         ensures under_way { (M : Map) (s : ℕ → ℕ) (T : List ℕ) → IsUnderWay M s T self.old
             → IsUnderWay M s T self.new }
@@ -233,10 +233,10 @@ impl DistanceBounds {
     }
 
     /// Has these nodes looked at again when the bounds are settled: required of the nodes that edits touched. If an
-    /// allocation fails, the bounds are unknown.
+    /// allocation fails, the bounds are invalid.
     pub fn reopen(&mut self, nodes: &[NodeId])
         ensures sources { (v w : ℕ) → IsSource self.old v w → IsSource self.new v w }
-        ensures bounds { IsTrue self.new.known → (p : ℕ) → bound_at self.new p ≡ bound_at self.old p }
+        ensures bounds { IsTrue self.new.valid → (p : ℕ) → bound_at self.new p ≡ bound_at self.old p }
         ensures under_way { (M : Map) (s : ℕ → ℕ) → IsUnderWay M s nodes.now self.old → IsUnderWay M s [] self.new }
     {
         match self.opened.extend_from_slice(nodes) {
@@ -246,13 +246,13 @@ impl DistanceBounds {
     }
 
     /// Looks at the open nodes again, and follows lines until the bounds are right. If an allocation fails, the bounds are
-    /// unknown.
+    /// invalid.
     pub fn settle<M: MapRead>(&mut self, map: &M)
         ensures sources { (v w : ℕ) → IsSource self.old v w → IsSource self.new v w }
-        ensures same { IsTrue self.new.known → (v : ℕ) → source_of self.new v ≡ source_of self.old v }
+        ensures same { IsTrue self.new.valid → (v : ℕ) → source_of self.new v ≡ source_of self.old v }
         ensures right { IsUnderWay (M.map map.now) (M.node_slot map.now) [] self.old
             → IsRight (M.map map.now) (M.node_slot map.now) self.new }
-        ensures reached { IsTrue self.new.known → AreLed (M.map map.now) (M.node_slot map.now) (source_of self.old)
+        ensures reached { IsTrue self.new.valid → AreLed (M.map map.now) (M.node_slot map.now) (source_of self.old)
             (bound_at self.old) (bound_at self.new) }
     {
         if self.settle_open(map).is_err() {
@@ -279,7 +279,7 @@ impl DistanceBounds {
     /// Looks at the open nodes again, and follows the lines from each node whose bound becomes less.
     fn settle_open<M: MapRead>(&mut self, map: &M) -> Result<(), AllocError>
         ensures same { OnOk result ((v : ℕ) → source_of self.new v ≡ source_of self.old v) }
-        ensures known { OnOk result (self.new.known ≡ self.old.known) }
+        ensures valid { OnOk result (self.new.valid ≡ self.old.valid) }
         ensures right { OnOk result (IsUnderWay (M.map map.now) (M.node_slot map.now) [] self.old
             → IsRight (M.map map.now) (M.node_slot map.now) self.new) }
         ensures reached { OnOk result (AreLed (M.map map.now) (M.node_slot map.now) (source_of self.old)

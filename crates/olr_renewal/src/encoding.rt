@@ -1,6 +1,7 @@
 //! What is published of an encoding.
 ghost use Rattle.std.specs.Prelude.{◌≡◌, IfOk};
-ghost use Rattle.olr_paths.specs.Items.{IsEncodingOf, made_of};
+ghost use Rattle.olr_answers.specs.Answers.{answer_of};
+ghost use Rattle.olr_paths.specs.Items.{IsEncodingOf, results_of};
 ghost use Rattle.olr_spec.specs.Queries.{AreKnownWith};
 
 use olr_answers::KnownQuery;
@@ -11,18 +12,21 @@ use olr_route::{Dijkstra, Work};
 use std::alloc::{AllocError, Global};
 use std::rc::Rc;
 
-/// Encodes a path, without searches for the coverage queries that are known. Returns what is published, and the work.
-pub(crate) fn encode<M: MapRead>(
-    alloc: Global,
-    map: &M,
-    path: &Path,
-    margin: Margin,
-    known: &[KnownQuery],
-    query: &mut Dijkstra,
-) -> Result<(Rc<Published>, Work), AllocError>
-    requires { AreKnownWith margin (M.map map.now) path.now.lines known.now }
-    ensures made { IfOk result (λ r. IsEncodingOf margin (M.map map.now) path.now (made_of r.0.value)) }
-    ensures counted { IfOk result (λ r. r.1.encodings ≡ 1) }
+/// What is published of a path that was encoded, and the work.
+#[derive(Drop)]
+pub(crate) struct EncodedPath {
+    pub(crate) published: Rc<Published>,
+    pub(crate) work: Work,
+}
+
+/// What is published of an encoding.
+fn published_of(alloc: Global, encoding: Encoding) -> Result<Published, AllocError>
+    ensures { IfOk result (λ p. results_of p ≡ record {
+      answer = answer_of encoding.answer;
+      traversed = encoding.traversed;
+      queries = encoding.queries.items;
+      known = encoding.known.items;
+    }) }
 {
     let Encoding {
         answer,
@@ -30,10 +34,27 @@ pub(crate) fn encode<M: MapRead>(
         traversed,
         queries,
         known,
-        work,
-    } = encode_again(alloc, map, path, margin, known, query)?;
+        work: _,
+    } = encoding;
     drop(own);
-    let published = Published::new(alloc, answer, traversed, queries, known)?;
-    let published = Rc::new(alloc, published)?;
-    Ok((published, work))
+    Published::new(alloc, answer, traversed, queries, known)
+}
+
+/// Encodes a path, without searches for the coverage queries that are known.
+pub(crate) fn encode<M: MapRead>(
+    alloc: Global,
+    map: &M,
+    path: &Path,
+    margin: Margin,
+    known: &[KnownQuery],
+    query: &mut Dijkstra,
+) -> Result<EncodedPath, AllocError>
+    requires { AreKnownWith margin (M.map map.now) path.now.lines known.now }
+    ensures results { IfOk result (λ r. IsEncodingOf margin (M.map map.now) path.now (results_of r.published.value)) }
+    ensures counted { IfOk result (λ r. r.work.encodings ≡ 1) }
+{
+    let encoding = encode_again(alloc, map, path, margin, known, query)?;
+    let work = encoding.work;
+    let published = Rc::new(alloc, published_of(alloc, encoding)?)?;
+    Ok(EncodedPath { published, work })
 }

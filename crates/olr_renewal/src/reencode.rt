@@ -22,6 +22,7 @@ use crate::update::MapUpdate;
 use olr_model::MapRead;
 use olr_paths::{OverlaidList, Overlay, PathList, fresh_queries, put_in};
 use std::alloc::{AllocError, Global};
+use std::mem;
 
 /// The renewal of a list under changes, before it is put in place.
 #[derive(Drop)]
@@ -154,7 +155,16 @@ pub fn renew_over<M: MapRead>(
     };
     let none = Overlay::new(update.alloc);
     let renewed = put_results(&mut copy, update, &none, renewal)?;
-    *list = copy;
-    list.index(update.alloc);
+    drop(none);
+    replace_by(list, update.alloc, copy);
     Ok(renewed)
+}
+
+/// Replaces the list by another, and adds the index entries of its paths.
+#[inline(never)]
+fn replace_by(list: &mut PathList, alloc: Global, other: PathList)
+    ensures { items list.new ≡ items other }
+{
+    drop(mem::replace(list, other));
+    list.index(alloc);
 }

@@ -1,20 +1,24 @@
 //! Encodes again the paths whose answer a change of the map may have changed.
-ghost use Rattle.std.specs.Prelude.{◌≡◌, ◌<◌, Some, map as list_map, true, IfOk, OnOk};
+ghost use Rattle.std.specs.Prelude.{◌≡◌, ◌<◌, Some, map as list_map, true, length, IfOk, OnOk};
 ghost use Rattle.olr_spec.specs.Map.{Map};
+ghost use Rattle.olr_spec.specs.Queries.{AreKnownWith};
 ghost use Rattle.olr_commands.specs.Words.{entry_of};
-ghost use Rattle.olr_paths.specs.Items.{made_of, items};
+ghost use Rattle.olr_paths.specs.Items.{results_of, items};
 ghost use Rattle.olr_paths.specs.Views.{shown_items, shown_item};
 ghost use Rattle.olr_paths.specs.Changes.{to_renew};
-ghost use Rattle.olr_renewal.specs.Reencoded.{after_renewal, ReportsIfOther, IsStep, IsGiven, WasBefore};
+ghost use Rattle.olr_renewal.specs.Changes.{Follows};
+ghost use Rattle.olr_renewal.specs.Reencoded.{after_renewal, ReportsIfOther, IsEncodedAt, IsStep, IsGiven, WasBefore};
 ghost use Rattle.olr_renewal.specs.Reencoded.{IsRenewal, IsRenewable, CanRenewOver, IsRenewed};
+ghost use Rattle.olr_renewal.specs.Updates.{AreReadyIfFew, FindsCandidates};
 ghost use Rattle.olr_renewal.specs.declared.change_set.ChangeSet.{ChangeSet as Touched};
 
 use crate::actions::{Action, decide};
 use crate::affected::find_candidates;
-use crate::detours::begin_detours;
-use crate::encoding::encode;
+use crate::detours::{Detours, begin_detours};
+use crate::encoding::{EncodedPath, encode};
 use crate::searches::Searches;
 use crate::update::MapUpdate;
+use olr_answers::KnownQuery;
 use olr_commands::Entry;
 use olr_model::MapRead;
 use olr_paths::{NamedPath, OverlaidList, PathList, PathView, Published};
@@ -30,7 +34,7 @@ pub(crate) fn push_if_changed(
     published: &Published,
     entries: &mut Vec<Entry>,
 ) -> Result<(), AllocError>
-    ensures { OnOk result (ReportsIfOther (items before.now) name.now (made_of published.now).answer
+    ensures { OnOk result (ReportsIfOther (items before.now) name.now (results_of published.now).answer
         (list_map entry_of entries.old.items) (list_map entry_of entries.new.items)) }
 {
     if let Some(earlier) = before.published_of(name)
@@ -85,8 +89,33 @@ impl Renewal {
         }
     }
 
-    /// Takes the action for the path at that position: leaves it, or counts it as retained, or encodes it again and
-    /// reports it if its answer differs from the earlier one of its name.
+    /// Encodes the path at that position again, and reports it if its answer differs from the earlier one of its name.
+    fn encode_at<M: MapRead>(
+        &mut self,
+        update: &MapUpdate<'_, M>,
+        before: &PathList,
+        position: usize,
+        shown: PathView<'_>,
+        known: &[KnownQuery],
+        query: &mut Dijkstra,
+    ) -> Result<(), AllocError>
+        requires { AreKnownWith update.now.margin (M.map update.now.map.now) (shown_item shown).path.lines known.now }
+        ensures { OnOk result (IsEncodedAt update.now.margin (M.map update.now.map.now) (items before.now)
+            (shown_item shown.entry) position self.old self.new) }
+    {
+        let alloc = update.alloc;
+        let encoded = encode(alloc, update.map, shown.path, update.margin, known, query)?;
+        let EncodedPath { published, work } = encoded;
+        let entries = &mut self.renewed.entries;
+        push_if_changed(alloc, before, shown.name, &published, entries)?;
+        let path = shown.path.clone()?;
+        let published = Some(published);
+        self.fresh.push((position, NamedPath { path, published }))?;
+        self.renewed.work = self.renewed.work.plus(work);
+        Ok(())
+    }
+
+    /// Takes the action for the path at that position: leaves it, or counts it as retained, or encodes it again.
     #[inline(never)]
     fn advance<M: MapRead>(
         &mut self,
@@ -110,20 +139,40 @@ impl Renewal {
                 });
             }
             Action::Encode(known) => {
-                let (alloc, map, margin) = (update.alloc, update.map, update.margin);
-                let (published, work) = encode(alloc, map, shown.path, margin, &known, query)?;
-                let entries = &mut self.renewed.entries;
-                push_if_changed(alloc, before, shown.name, &published, entries)?;
-                let named = NamedPath {
-                    path: shown.path.clone()?,
-                    published: Some(published),
-                };
-                self.fresh.push((position, named))?;
-                self.renewed.work = self.renewed.work.plus(work);
+                self.encode_at(update, before, position, shown, &known, query)?;
             }
         }
         Ok(())
     }
+}
+
+/// The renewal of a list under changes, whose candidates are found, and for which the searches for detours have begun.
+fn renewal_by<M: MapRead>(
+    update: &MapUpdate<'_, M>,
+    overlaid: OverlaidList<'_>,
+    positions: &[usize],
+    near: &Dijkstra,
+    detours: &mut Detours,
+    query: &mut Dijkstra,
+) -> Result<Renewal, AllocError>
+    requires candidates { FindsCandidates M.map M.node_slot update.now near.now (shown_items overlaid) positions.now }
+    requires detours { 0 < length positions.now → AreReadyIfFew M.map M.node_slot update.now detours.old }
+    requires follows { Follows (items overlaid.before.now) (shown_items overlaid) }
+    requires before { (L : Map) × WasBefore update.now.margin L (M.map update.now.map.now) update.now.touched.now
+        (shown_items overlaid) }
+    ensures { IfOk result (λ r. IsRenewal update.now.margin (M.map update.now.map.now) update.now.touched.now
+        (items overlaid.entry.before.now) (shown_items overlaid.entry) (after_renewal r (shown_items overlaid.entry))
+        r.renewed) }
+{
+    let mut renewal = Renewal::none(update.alloc);
+    for position in positions {
+        let Some(shown) = overlaid.at(*position) else {
+            continue;
+        };
+        let action = decide(update, near, detours, shown)?;
+        renewal.advance(update, overlaid.before, *position, shown, action, query)?;
+    }
+    Ok(renewal)
 }
 
 /// The renewal of a list under changes, each of whose paths is encoded again, without known coverage queries.
@@ -163,23 +212,18 @@ fn renewal_of_some<M: MapRead>(
     ensures bounds { searches.new.bounds ≡ searches.old.bounds }
 {
     let found = find_candidates(update, overlaid, &searches.bounds, &mut searches.near)?;
-    let (near, detours) = (&searches.near, &mut searches.detours);
-    begin_detours(update, &found, detours)?;
-    let query = &mut searches.query;
-    let mut renewal = Renewal::none(update.alloc);
-    for position in &found {
-        let Some(shown) = overlaid.at(*position) else {
-            continue;
-        };
-        let action = decide(update, near, detours, shown)?;
-        renewal.advance(update, overlaid.before, *position, shown, action, query)?;
+    begin_detours(update, &found, &mut searches.detours)?;
+    let mut renewal = renewal_by(
+        update,
+        overlaid,
+        &found,
+        &searches.near,
+        &mut searches.detours,
+        &mut searches.query,
+    )?;
+    if overlaid.len() > 0 && renewal.renewed.work.encodings == 0 {
+        renewal.renewed.wasted_labels = searches.near.labelled_slots().len();
     }
-    let wasted = if overlaid.len() > 0 && renewal.renewed.work.encodings == 0 {
-        near.labelled_slots().len()
-    } else {
-        0
-    };
-    renewal.renewed.wasted_labels = wasted;
     Ok(renewal)
 }
 

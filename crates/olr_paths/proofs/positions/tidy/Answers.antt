@@ -1,5 +1,4 @@
-use Rattle.olr_paths.proofs.Common.{◌≡◌, Some, String, Global, slice_get, sym, arith, slice_get_within, NamedPath, IsNoted}
-use Rattle.olr_paths.proofs.Common.{subst}
+use Rattle.olr_paths.proofs.Common.{slice_get_within, slice_get, NamedPath, IsNoted, String, Global, arith, subst, Some, ◌≡◌, sym}
 use Rattle.olr_paths.proofs.PathIdLemmas.{noted_but}
 use Rattle.olr_paths.proofs.NotedPositions.{One}
 use Rattle.olr_paths.proofs.positions.tidy.Goals as goal

@@ -2,13 +2,13 @@ use Rattle.olr_register.proofs.Common.{◌≡◌, false, All, List, take, subst,
 use Rattle.olr_register.proofs.Common.{All-contains, All-weaker, all_more}
 use Rattle.olr_register.proofs.bounds.add_sources.Goals as goal
 
-pub returns-then-not-is_known : goal.returns-then-not-is_known
-returns-then-not-is_known c = record {
+pub returns-then-not-is_valid : goal.returns-then-not-is_valid
+returns-then-not-is_valid c = record {
   under_way = λ M s T h. h;
   before = λ s w h. h;
   sources = λ l on known.
-      let off : c.is_known.result ≡ false = cc in
-      let never : ⊥ = cc (c.is_known.ensures, off, known) in
+      let off : c.is_valid.result ≡ false = cc in
+      let never : ⊥ = cc (c.is_valid.ensures, off, known) in
       absurd never;
 }
 

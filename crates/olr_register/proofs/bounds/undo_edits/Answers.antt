@@ -1,11 +1,11 @@
 use Rattle.olr_register.proofs.Common.{◌≡◌, sym, subst, arith, Map, map_of, slot_of, nodes_of, dropped_nodes, SameBut}
-use Rattle.olr_register.proofs.Bounded.{bounded_unknown, bounds_undone}
+use Rattle.olr_register.proofs.Bounded.{bounded_invalid, bounds_undone}
 use Rattle.olr_register.proofs.bounds.undo_edits.Goals as goal
 
 pub returns-then-drops_nodes : goal.returns-then-drops_nodes
 returns-then-drops_nodes c = record {
   map = c.undo_all.ensures.map;
-  bounded = λ is h. bounded_unknown c.forget.ensures;
+  bounded = λ is h. bounded_invalid c.forget.ensures;
 }
 
 pub returns : goal.returns

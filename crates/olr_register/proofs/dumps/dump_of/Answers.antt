@@ -30,3 +30,9 @@ returns c =
       )
           (dump_text (content_on c.args.margin M (items c.args.paths.now)) []),
     )
+
+pub push_nodes-requires-clause-recordable : goal.push_nodes-requires-clause-recordable
+push_nodes-requires-clause-recordable c = c.requires.recordable
+
+pub push_lines-requires-clause-recordable : goal.push_lines-requires-clause-recordable
+push_lines-requires-clause-recordable c = c.requires.recordable

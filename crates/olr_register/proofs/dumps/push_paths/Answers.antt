@@ -1,15 +1,12 @@
-use Rattle.olr_register.proofs.Common.{sym, arith, ◌∙◌, record_line, path_change, items, all_named, named_of, inl, inr}
-use Rattle.olr_register.proofs.Common.{length-map, slice_get_cases}
-use Rattle.olr_register.proofs.DumpTexts.{records-at}
+use Rattle.olr_register.proofs.Common.{record_line, path_change, length-map, all_named, named_of, items, sym, ◌∙◌}
+use Rattle.olr_register.proofs.DumpTexts.{none_missing, records-at}
 use Rattle.olr_register.proofs.dumps.push_paths.Goals as goal
 
 pub unreachable-requires : goal.unreachable-requires
 unreachable-requires c =
     let is = items c.args.paths.now in
-    elim (slice_get_cases (all_named is) c.loop-k.k).1 [
-      | inl s ↦ let never = c.in_default.ensures ∙ s.2 in absurd cc
-      | inr p ↦ omega (arith, p.0, c.loop-k-test.true, length-map is named_of, c.len-k-end.ensures.len)
-    ]
+    none_missing (all_named is) c.loop-k.k _ c.in_default.ensures
+    (c.len-k-end.ensures.len ∙ sym (length-map is named_of)) c.loop-k-test.true
 
 pub loop-k-preserved : goal.loop-k-preserved
 loop-k-preserved c =

@@ -1,5 +1,4 @@
-use Rattle.olr_renewal.proofs.Common.{min, ap, arith, subst, IsTrue, ◌↔◌, GREATEST_LIMIT, label_at, nodes_of, CoverageQuery}
-use Rattle.olr_renewal.proofs.Common.{Near}
+use Rattle.olr_renewal.proofs.Common.{GREATEST_LIMIT, CoverageQuery, label_at, nodes_of, IsTrue, arith, subst, Near, min, ◌↔◌, ap}
 use Rattle.olr_renewal.proofs.Distances.{near_absent}
 use Rattle.olr_renewal.proofs.affected.is_near.Goals as goal
 

@@ -19,13 +19,13 @@ returns-then-are_unbounded g c =
     ])
 
 -- as far as the bounds let it
-pub returns-then-is_known : goal.returns-then-is_known
-returns-then-is_known g c =
+pub returns-then-is_valid : goal.returns-then-is_valid
+returns-then-is_valid g c =
     let N = g.M.MapRead.map c.args.update.now.map.now in
     let f = c.args.bounds.now in
     let from = sources c.args.update.now.touched.now in
     let begun = rw c.nodes-nodes.ensures at c.in_ok-begin_at.ensures in
-    let known : IsTrue f.known = sym c.is_known.ensures ∙ c.if-is_known.true in
+    let known : IsTrue f.valid = sym c.is_valid.ensures ∙ c.if-is_valid.true in
     searched_from_touched _ _ _ c.settle_under.new.self (g.met.M.MapRead.sound c.args.update.now.map.now)
     (Begins (shown_items c.args.overlaid)) (c.in_ok-settle_under.ensures.labelled Against from begun)
     (λ l b d le there way. c.in_ok-settle_under.ensures.settled Against from begun (c.requires.bounds.right known).closed

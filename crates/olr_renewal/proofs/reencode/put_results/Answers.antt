@@ -1,6 +1,6 @@
 use Rattle.olr_renewal.proofs.Common.{overlay_changes, after_renewal, AreEncoded, RemovesNone, items, Reported, Renewal}
 use Rattle.olr_renewal.proofs.Common.{all_put, puts_of, Begins, Entry, subst, refl, List, ◌++◌, Item, ◌∷◌, inr, sym, ◌≡◌, ◌∙◌}
-use Rattle.olr_renewal.proofs.Common.{inl, [], to_renew, false, made_at, Bool, true, put_on_overlaid, put_on_without}
+use Rattle.olr_renewal.proofs.Common.{inl, [], to_renew, false, results_at, Bool, true, put_on_overlaid, put_on_without}
 use Rattle.olr_renewal.proofs.Common.{grown_differ, begins_all_put, under_overlay, entries_of, Put}
 use Rattle.olr_paths.specs.declared.overlay.Overlay.{Overlay}
 use Rattle.olr_renewal.proofs.reencode.put_results.Goals as goal
@@ -22,7 +22,7 @@ module _ (all : Bool) (is : List Item) (o : Overlay) (r : Renewal) (new : List I
     (reported : (before : List Item) × Reported before (after_renewal r (to_renew all (under_overlay is o))) (entries_of r.renewed))
     (put : new ≡ all_put (is ++ items o.added) (puts_of r.fresh.items)) where
   alike : after_renewal r (under_overlay is o) ≡ after_renewal r (to_renew all (under_overlay is o))
-  alike = put_on_to_renew all reported.0 (under_overlay is o) (made_at r) (entries_of r.renewed) reported.1
+  alike = put_on_to_renew all reported.0 (under_overlay is o) (results_at r) (entries_of r.renewed) reported.1
 
   renewed : new ≡ after_renewal r (to_renew all (under_overlay is o))
   renewed = put ∙ put_on_overlaid (overlay_changes o) reported.0 is (items o.added) (puts_of r.fresh.items)

@@ -7,7 +7,7 @@ use Rattle.olr_renewal.proofs.reencode.renew_over.Goals as goal
 put : {M : Type 0} (map : M → Map) (u : MapUpdate M) (before is js : List Item) (r : Renewal) (s : Renewed) →
     IsRenewed map u before is r → IsPutIn u is r js s → AreRenewed map u before is js s
 put map u before is js r s h t = record {
-  remade = rw t.items h.remade;
+  reencoded = rw t.items h.reencoded;
   named = rw t.items h.named;
   reported = rw (t.items, t.entries) h.reported;
   counted = λ L q. let k = h.counted L q in (k.0, k.1, rw t.work k.2);
@@ -39,11 +39,11 @@ put_results-requires-2 g c =
 
 pub returns-clause-renewed : goal.returns-clause-renewed
 returns-clause-renewed g c =
-    rw c.index-2.ensures (put g.M.MapRead.map c.args.update.now _ _ _ _ _ c.in_ok-renewal.ensures.renewed
+    rw c.replace_by.ensures (put g.M.MapRead.map c.args.update.now _ _ _ _ _ c.in_ok-renewal.ensures.renewed
     (rw (rw c.in-Some.is at c.in_ok-renewal.ensures.copied) at (rw (c.new-none.ensures (items c.in-Some.copy)) at
     c.in_ok-renewed-2.ensures.put)))
 
 pub returns-clause-queries : goal.returns-clause-queries
 returns-clause-queries g c =
-    rw c.index-2.ensures (rw (rw c.in-Some.is at c.in_ok-renewal.ensures.copied) at
+    rw c.replace_by.ensures (rw (rw c.in-Some.is at c.in_ok-renewal.ensures.copied) at
     (rw (c.new-none.ensures (items c.in-Some.copy)) at c.in_ok-renewed-2.ensures.put).queries)

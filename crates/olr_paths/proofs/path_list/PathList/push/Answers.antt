@@ -1,8 +1,7 @@
-use Rattle.olr_paths.proofs.Common.{◌≢◌, ℕ, None, List, ◌∙◌, ◌++◌, ◌∷◌, [], arith, ap, map-append, string_eq, insert_entry}
-use Rattle.olr_paths.proofs.Common.{IsNoted, subst, length_push, ascends_push}
+use Rattle.olr_paths.proofs.Common.{insert_entry, ascends_push, length_push, map-append, true≢false, string_eq, IsNoted, arith, ℕ}
+use Rattle.olr_paths.proofs.Common.{subst, false, None, List, ◌++◌, ◌≢◌, ◌∙◌, ◌∷◌, ◌≡◌, sym, [], ap}
 use Rattle.olr_paths.proofs.NamedEntries.{Entries, item_of}
 use Rattle.olr_paths.proofs.PathIdLemmas.{NamedNoted, insert_last, noted_below, each_push}
-use Rattle.olr_paths.proofs.Common.{◌≡◌, false, true≢false, sym}
 use Rattle.olr_paths.proofs.NotedPositions.{is_published}
 use Rattle.olr_paths.proofs.path_list.PathList.push.Goals.{then-self, else-self}
 use Rattle.olr_paths.proofs.path_list.PathList.push.Goals as goal

@@ -1,8 +1,7 @@
-use Rattle.olr_paths.proofs.Common.{◌≢◌, ◌<◌, None, length, sym, ◌∙◌, arith, slice_get_within, IsNoted, subst}
-use Rattle.olr_paths.proofs.Common.{length-set_value_at}
+use Rattle.olr_paths.proofs.Common.{length-set_value_at, slice_get_within, true≢false, IsNoted, length, arith, subst, false, None}
+use Rattle.olr_paths.proofs.Common.{◌≢◌, ◌<◌, sym, ◌∙◌, ◌≡◌}
 use Rattle.olr_paths.proofs.NamedEntries.{first_at, names_differ, set_absent, set_items}
 use Rattle.olr_paths.proofs.PathIdLemmas.{each_set, noted_at, noted_but, noted_set}
-use Rattle.olr_paths.proofs.Common.{◌≡◌, false, true≢false}
 use Rattle.olr_paths.proofs.NotedPositions.{is_published}
 use Rattle.olr_paths.proofs.path_list.PathList.replace.Goals.{then-self, else-self}
 use Rattle.olr_paths.proofs.path_list.PathList.replace.Goals as goal

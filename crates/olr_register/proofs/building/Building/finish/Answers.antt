@@ -1,7 +1,7 @@
 use Rattle.olr_register.proofs.Common.{refl, true, to_renew, items, map_of}
 use Rattle.olr_register.proofs.Built.{each_encoded_once, same_content}
 use Rattle.olr_register.proofs.Touched.{begins_none, can_set}
-use Rattle.olr_register.proofs.Renewed.{remade_made}
+use Rattle.olr_register.proofs.Renewed.{reencoded_encoded}
 use Rattle.olr_register.proofs.building.Building.finish.Goals as goal
 
 pub renew-requires : goal.renew-requires
@@ -29,7 +29,7 @@ invariant_of-result c =
     record {
       register = record {
         content = rw (same_content r.margin M is js _ _ renewal) c.self.invariant;
-        made = remade_made r.margin M (to_renew true is) js renewal.remade;
+        encoded = reencoded_encoded r.margin M (to_renew true is) js renewal.reencoded;
         held = tt;
         margin = tt;
       };

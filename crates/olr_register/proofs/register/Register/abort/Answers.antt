@@ -1,4 +1,4 @@
-use Rattle.olr_register.proofs.Common.{Some, None, map, refl, sym, Abort, items, ByState, content_on, batch_of, map_before}
+use Rattle.olr_register.proofs.Common.{Some, None, refl, sym, Abort, items, ByState, content_on, batch_of, map_before}
 use Rattle.olr_register.proofs.Common.{RegisterState}
 use Rattle.olr_register.proofs.States.{state, register_moved, in_states, right_as}
 use Rattle.olr_register.proofs.Outcomes.{answered_refused, answered_uncounted, Keeps}

@@ -14,8 +14,8 @@ returns-in_err-grid c =
     shut_refused c.self.inside c.self.view_is c.if-is_some.ensures No_memory c.from_residual-in_err-grid.ensures.1
     (Lacks_memory refl refl)
 
-pub all_ambiguities-requires-clause-made : goal.all_ambiguities-requires-clause-made
-all_ambiguities-requires-clause-made c = (shut_right c.self.inside c.if-is_some.ensures c.self.invariant).register.made
+pub all_ambiguities-requires-clause-encoded : goal.all_ambiguities-requires-clause-encoded
+all_ambiguities-requires-clause-encoded c = (shut_right c.self.inside c.if-is_some.ensures c.self.invariant).register.encoded
 
 pub returns-in_err-all : goal.returns-in_err-all
 returns-in_err-all c =

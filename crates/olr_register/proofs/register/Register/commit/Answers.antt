@@ -1,11 +1,11 @@
-use Rattle.olr_register.proofs.Common.{◌≡◌, true, false, Some, None, Ok, map, length, refl, ap, ◌∙◌, ne_eqb, map_of, map_before}
+use Rattle.olr_register.proofs.Common.{◌≡◌, true, false, Some, None, Ok, length, refl, ap, ◌∙◌, ne_eqb, map_of, map_before}
 use Rattle.olr_register.proofs.Common.{Content, Commit, ByState, may_want, items, under_overlay, nodes_of, lines_of, Registered}
 use Rattle.olr_register.proofs.Common.{content_on, batch_of, raised_work, No_memory, Lacks_memory}
 use Rattle.olr_register.proofs.BatchSteps.{right_count, renewed_content, renewed_reply}
 use Rattle.olr_register.proofs.Counting.{counted_held, rise_on}
 use Rattle.olr_register.proofs.Touched.{can_commit, can_renew_batch}
 use Rattle.olr_register.proofs.Outcomes.{answered_counted, answered_refused, Accepts}
-use Rattle.olr_register.proofs.Renewed.{remade_made}
+use Rattle.olr_register.proofs.Renewed.{reencoded_encoded}
 use Rattle.olr_register.proofs.States.{state, of_parts, in_states, right_as}
 use Rattle.olr_commands.specs.declared.reply.Reply.TheVariants as reply
 use Rattle.olr_register.proofs.register.Register.commit.Goals as goal
@@ -30,7 +30,7 @@ invariant_of-self-2 c =
     rw c.take.ensures.after (record {
       register = record {
         content = rw e.renewed.named right.register.held.sound;
-        made = remade_made _ (map_of s.roads) _ _ e.renewed.remade;
+        encoded = reencoded_encoded _ (map_of s.roads) _ _ e.renewed.reencoded;
         held = tt;
         margin = tt;
       };

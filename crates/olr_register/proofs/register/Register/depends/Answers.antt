@@ -2,7 +2,7 @@ use Rattle.olr_register.proofs.Common.{refl, sym, ◌∙◌, map_of, items, BySt
 use Rattle.olr_register.proofs.Common.{Lacks_memory}
 use Rattle.olr_register.proofs.Bounded.{settled_bounds}
 use Rattle.olr_register.proofs.Touched.{touched_idle, is_before}
-use Rattle.olr_register.proofs.Renewed.{made_if_any}
+use Rattle.olr_register.proofs.Renewed.{encoded_if_any}
 use Rattle.olr_register.proofs.Shown.{dependents}
 use Rattle.olr_register.proofs.WithoutBatch.{open_refused, shut_answered, shut_refused, shut_right}
 use Rattle.olr_register.proofs.register.Register.depends.Goals as goal
@@ -27,7 +27,7 @@ affected_names-requires-clause-before c =
     let h = (shut_right r c.if-is_some.ensures c.self.invariant).register in
     is_before r.margin h.content.margin (map_of r.roads) (map_of r.roads) (nodes_of t) (lines_of t) (changed_of t) (items r.paths)
     (touched_idle (map_of r.roads) (nodes_of t) (lines_of t) (changed_of t) c.in_ok-around.ensures.changed)
-    h.content.map h.content.paths (made_if_any r.margin (map_of r.roads) (items r.paths) h.made)
+    h.content.map h.content.paths (encoded_if_any r.margin (map_of r.roads) (items r.paths) h.encoded)
 
 pub affected_names-requires-clause-bounds : goal.affected_names-requires-clause-bounds
 affected_names-requires-clause-bounds c =
@@ -70,5 +70,5 @@ returns c =
     rw (← c.self.view_is) (shut_answered r refl c.if-is_some.ensures refl (
       rw (sym c.are_nodes.ensures ∙ c.if-not-are_nodes.false),
       dependents r.margin (map_of r.roads) c.args.nodes.now c.in_ok-around.around c.in_ok-around.ensures (items r.paths) _
-          (shut_right r c.if-is_some.ensures c.self.invariant).register.made c.in_ok-names.ensures.names,
+          (shut_right r c.if-is_some.ensures c.self.invariant).register.encoded c.in_ok-names.ensures.names,
     ))

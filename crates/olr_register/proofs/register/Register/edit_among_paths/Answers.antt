@@ -1,6 +1,6 @@
 use Rattle.olr_register.proofs.Common.{items, map_of, slot_of, content_on, length, refl, ap, edit_of, at_once, ByState, ne_eqb}
 use Rattle.olr_register.proofs.Common.{No_memory, ◌∙◌, nodes_of, AreBoundsOf}
-use Rattle.olr_register.proofs.Bounded.{bounded_unknown, bounds_edited, bounds_stay, is_edit, settled_bounds}
+use Rattle.olr_register.proofs.Bounded.{bounded_invalid, bounds_edited, bounds_stay, is_edit, settled_bounds}
 use Rattle.olr_register.proofs.Changing.{edit_refused, edit_lacks}
 use Rattle.olr_register.proofs.Singles.{refused_now, same_map, may_refuse_now, same_right, bounds_right}
 use Rattle.olr_register.proofs.Singles.{can_edit, edit_made, right_now, done_now}
@@ -65,7 +65,7 @@ pub invariant_of-self-in-Err-renew : goal.invariant_of-self-in-Err-renew
 invariant_of-self-in-Err-renew c =
     let e = c.in-Err-renew.ensures in
     same_right c.self.inside c.self.view_is c.requires.open c.self.invariant
-    (c.undo.ensures ∙ c.in_ok-undo.ensures.before) e.err (bounded_unknown e.unknown)
+    (c.undo.ensures ∙ c.in_ok-undo.ensures.before) e.err (bounded_invalid e.invalid)
 
 pub returns : goal.returns
 returns c =

@@ -9,4 +9,4 @@ pub returns : goal.returns
 returns c =
     let r = c.self.inside in
     rw (← c.self.view_is, c.iter.ensures)
-    (all_published r.margin (accepted_map r.roads r.batch) (items r.paths) c.self.invariant.register.made)
+    (all_published r.margin (accepted_map r.roads r.batch) (items r.paths) c.self.invariant.register.encoded)

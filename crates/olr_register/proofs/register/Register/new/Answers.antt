@@ -10,7 +10,7 @@ pub invariant_of-result : goal.invariant_of-result
 invariant_of-result c = record {
   register = record {
     content = rw (c.new.ensures, c.new-2.ensures, c.none.ensures) start_sound.content;
-    made = rw c.new-2.ensures tt;
+    encoded = rw c.new-2.ensures tt;
     held = tt;
     margin = tt;
   };

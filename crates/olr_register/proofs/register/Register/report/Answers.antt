@@ -13,7 +13,7 @@ returns c =
     rw (← c.self.view_is) (answered_same _ _ _ refl (λ xs. refl) (λ o. (
       refl,
       reported_all r.margin (accepted_map r.roads r.batch) (items r.paths) _
-          c.self.invariant.register.made c.in_ok-entries.ensures.reported,
+          c.self.invariant.register.encoded c.in_ok-entries.ensures.reported,
     )))
 
 pub returns-in_err-entries : goal.returns-in_err-entries

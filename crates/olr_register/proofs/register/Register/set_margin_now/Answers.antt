@@ -1,5 +1,5 @@
 use Rattle.olr_register.proofs.Common.{refl, items, No_memory, Lacks_memory}
-use Rattle.olr_register.proofs.Bounded.{bounded_unknown}
+use Rattle.olr_register.proofs.Bounded.{bounded_invalid}
 use Rattle.olr_register.proofs.Singles.{refused_now, same_right, margin_requires, margin_made, right_now, done_now}
 use Rattle.olr_register.proofs.register.Register.set_margin_now.Goals as goal
 
@@ -11,7 +11,7 @@ renew-requires c =
 pub invariant_of-self : goal.invariant_of-self
 invariant_of-self c =
     let e = c.in_err-renewed.ensures in
-    same_right c.self.inside c.self.view_is c.requires c.self.invariant refl e.err (bounded_unknown e.unknown)
+    same_right c.self.inside c.self.view_is c.requires c.self.invariant refl e.err (bounded_invalid e.invalid)
 
 pub returns-in_err-renewed : goal.returns-in_err-renewed
 returns-in_err-renewed c =

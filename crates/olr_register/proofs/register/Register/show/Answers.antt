@@ -14,7 +14,7 @@ entry-requires c =
     let r = c.self.inside in
     record {
       encoded = some_answer_in r.margin (accepted_map r.roads r.batch) (items r.paths) c.args.name.now
-          c.self.invariant.register.made (sym c.if-not-has.ensures);
+          c.self.invariant.register.encoded (sym c.if-not-has.ensures);
     }
 
 pub returns-in_err-entry : goal.returns-in_err-entry
@@ -30,7 +30,7 @@ returns c =
       rw (← c.if-not-has.ensures),
       (
         returned.0,
-        (answer_held r.margin (accepted_map r.roads r.batch) (items r.paths) h.content h.made c.args.name.now returned.0).1 returned.1,
+        (answer_held r.margin (accepted_map r.roads r.batch) (items r.paths) h.content h.encoded c.args.name.now returned.0).1 returned.1,
         rw (c.in_ok-one_entry.ensures, returned.2),
       ),
     )))

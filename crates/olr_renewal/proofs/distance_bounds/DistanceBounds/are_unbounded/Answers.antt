@@ -13,12 +13,12 @@ all_unbounded g c v on =
 
 pub returns-clause-exact : goal.returns-clause-exact
 returns-clause-exact g c =
-    let known : c.args.self.now.known ≡ true = cc in
+    let known : c.args.self.now.valid ≡ true = cc in
     (λ yes. (known, all_unbounded g c), λ all. refl)
 
 pub returns-clause-unbounded : goal.returns-clause-unbounded
 returns-clause-unbounded g c = λ yes N r s w e right source.
-    let known : c.args.self.now.known ≡ true = cc in
+    let known : c.args.self.now.valid ≡ true = cc in
     far_apart _ N _ r _ _ e (all_unbounded g c) known right s w source
 
 pub returns-clause-spared : goal.returns-clause-spared

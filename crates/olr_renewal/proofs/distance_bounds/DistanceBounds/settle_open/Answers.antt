@@ -1,6 +1,6 @@
-use Rattle.olr_renewal.proofs.Common.{List, ℕ, [], ◌∙◌, refl, subst, sym, label_of, AreLed, source_of}
+use Rattle.olr_renewal.proofs.Common.{List, ℕ, [], ◌∙◌, arith, refl, subst, sym, bound_at, label_of, AreLed, source_of}
 use Rattle.olr_route.specs.Notes.{label_in}
-use Rattle.olr_renewal.proofs.BoundLemmas.{settling_looked, settling_on, settling_popped, settled}
+use Rattle.olr_renewal.proofs.BoundLemmas.{settling_begun, settling_emptied, settling_looked, settling_on, settling_popped, settled}
 use Rattle.olr_renewal.proofs.distance_bounds.DistanceBounds.settle_open.Goals as goal
 
 pub loop-node-preserved : goal.loop-node-preserved
@@ -38,5 +38,28 @@ returns-clause-right g c = λ u known.
     let r =
     settled _ (g.met.M.MapRead.sound c.args.map.now)
     _ _ c.loop-next.self.bounds c.pop_within.new.self
-    e.alike (λ n q w. e.far n q (e.same n q w)) (inv.settling (u (sym inv.known ∙ known))) in
+    e.alike (λ n q w. e.far n q (e.same n q w)) (inv.settling (u (sym inv.valid ∙ known))) in
     record { closed = r.0; sources = λ v d at. r.1 v d (sym (inv.sources v) ∙ at) }
+
+pub loop-node-init : goal.loop-node-init
+loop-node-init g c =
+    let m = g.met.M.MapRead.placed c.args.map.now in
+    settling_begun _ _ c.args.self.now c.make_room.new.self c.make_room.ensures.labels
+    (λ v there. let lt = m.below v there in omega (arith, lt, c.slot_count.ensures, c.in_ok-make_room.ensures.room))
+
+pub loop-next-init : goal.loop-next-init
+loop-next-init g c =
+    let w = settling_emptied c.loop-node.invariant c.in_default.ensures.cases.0 in
+    record { room = w.room; sources = w.sources; valid = w.valid; settling = w.settling; led = w.led }
+
+pub returns-clause-same : goal.returns-clause-same
+returns-clause-same g c = c.loop-next.invariant.sources
+
+pub returns-clause-valid : goal.returns-clause-valid
+returns-clause-valid g c = c.loop-next.invariant.valid
+
+pub returns-clause-reached : goal.returns-clause-reached
+returns-clause-reached g c =
+    let e = c.in_default-pop_within.ensures.alike in
+    subst (λ (t : List ℕ). AreLed (g.M.MapRead.map c.args.map.now) (g.M.MapRead.node_slot c.args.map.now)
+    (source_of c.args.self.now) (bound_at c.args.self.now) (label_in t)) (sym e.table) c.loop-next.invariant.led
