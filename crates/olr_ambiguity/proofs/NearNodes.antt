@@ -1,10 +1,9 @@
 -- The nodes in the windows of a reference's LRPs.
-use Rattle.olr_ambiguity.proofs.Common.{◌≡◌, ◌∙◌, ◌<◌, subst, ℕ, ℤ, List, Option, Some, sym, ap}
-use Rattle.olr_ambiguity.proofs.Common.{slice_get, length, unwrap_or, Contains, IsTrue, IsFalse, le-leb, get_or, list_any_at}
-use Rattle.olr_ambiguity.proofs.Common.{is_some, Coord, Map, IsMap, Reference, coord_at, has_node, leg, coordinate_on, no_coord}
-use Rattle.olr_ambiguity.proofs.Common.{arith, and_from, slice_get-get_or, slice_get_within, get, list_any}
-use Rattle.olr_ambiguity.proofs.Common.{some_of, decoded_coord, is_farther, is_rival, side_at, usual_slack, Window, AreNodes}
-use Rattle.olr_ambiguity.proofs.Common.{AreWindows, IsWindow, is_in}
+use Rattle.olr_ambiguity.proofs.Common.{slice_get-get_or, slice_get_within, coordinate_on, decoded_coord, list_any_at, is_farther}
+use Rattle.olr_ambiguity.proofs.Common.{usual_slack, AreWindows, slice_get, unwrap_or, Reference, Contains, coord_at, has_node, ℕ}
+use Rattle.olr_ambiguity.proofs.Common.{no_coord, and_from, list_any, is_rival, AreNodes, IsWindow, IsFalse, is_some, some_of, ap}
+use Rattle.olr_ambiguity.proofs.Common.{side_at, Option, length, IsTrue, le-leb, get_or, Window, subst, Coord, IsMap, arith, List}
+use Rattle.olr_ambiguity.proofs.Common.{is_in, Some, ◌≡◌, ◌∙◌, ◌<◌, sym, Map, leg, get, ℤ}
 use Rattle.olr_ambiguity.proofs.Lists.{close, rival_known}
 
 in_window : (p : ℤ × ℤ) (c d : Coord) (w : Window) → IsWindow p c w → IsFalse (is_farther usual_slack p c d) → IsTrue (is_in w d)

@@ -12,9 +12,8 @@ pub use Rattle.olr_input.specs.Journals.{IsFront, MayHaveStored, Only, is_empty,
 pub use Rattle.olr_input.specs.LineRecords.{HasNoEnd, formless, if_any, is_rejected, line_left, unmarked}
 pub use Rattle.olr_input.specs.Lines.{BetweenRecords, is_line_end}
 pub use Rattle.olr_input.specs.Machine.{csv_state, is_quoted, state_after}
-pub use Rattle.olr_input.specs.Sessions.{AllOrFront, Answer, Compacted, Event, HasNone, History, IsOfTaking, IsPlain}
-pub use Rattle.olr_input.specs.Sessions.{Known, StaysPlain, TakesLeft, TakesOne, Took, Writes, Wrote, csv_left}
-pub use Rattle.olr_input.specs.Sessions.{csv_records}
+pub use Rattle.olr_input.specs.Sessions.{csv_records, AllOrFront, IsOfTaking, StaysPlain, Compacted, TakesLeft, TakesOne, HasNone}
+pub use Rattle.olr_input.specs.Sessions.{csv_left, History, IsPlain, Answer, Writes, Event, Known, Wrote, Took}
 pub use Rattle.olr_input.specs.StoredLines.{IsLineFor, Turns, effect_by, has_line, is_clean, line_of, turned, word_effect}
 pub use Rattle.olr_input.specs.declared.buffered.Buffered.{Buffered}
 pub use Rattle.olr_input.specs.declared.ends.RunFault.TheVariants.{Write}

@@ -1,8 +1,7 @@
 -- Histories of sessions, and the reads of a csv reader.
-use Rattle.olr_input.proofs.Common.{◌≡◌, ℕ, Bool, Ok, inl, inr, true, false, List, [], ◌∷◌, ◌++◌, Option, Some, None}
-use Rattle.olr_input.proofs.Common.{◌∙◌, refl, sym, subst, arith, Read, next_record, default_config, strip_bom, State}
-use Rattle.olr_input.proofs.Common.{cases_Bool, option_map, IfSome, Known, Event, History}
-use Rattle.olr_input.proofs.Common.{IsPlain, StaysPlain, TakesLeft, csv_left, csv_records}
+use Rattle.olr_input.proofs.Common.{default_config, next_record, csv_records, cases_Bool, option_map, StaysPlain, strip_bom, Bool}
+use Rattle.olr_input.proofs.Common.{TakesLeft, csv_left, History, IsPlain, Option, IfSome, false, subst, arith, State, Known, ◌≡◌}
+use Rattle.olr_input.proofs.Common.{Event, true, List, ◌++◌, Some, None, refl, Read, inl, inr, ◌∷◌, ◌∙◌, sym, Ok, [], ℕ}
 use Rattle.std.specs.Prelude.{MatchOption}
 use Rattle.csv.specs.Reading.{AreRecords, is_flexible, ExplainsRead, stops_reader, source_of, buffered_of, reader_source, reader_state}
 use Rattle.csv.specs.Reading.{has_failed, reader_trim, took_first, unread_of, NextIs, ReadRecord, ReadsNext, Ready}

@@ -8,8 +8,7 @@ use Rattle.memchr.specs.Find.{IsFirstByte, IsLastByte, NoneAfter, is_byte}
 use Rattle.olr_input.proofs.Common.{Bool, None, Option, Some, length-take, list_any, unwrap_or}
 use Rattle.olr_input.proofs.LineRecords.{none_pass}
 use Rattle.csv.specs.declared.parser.State.TheVariants as st
-use Rattle.olr_input.proofs.LineRecords.{IsEnd, after, end_of, gives_one, no_end_more, plain, plain_not_quoted}
-use Rattle.olr_input.proofs.LineRecords.{skips, step_plain}
+use Rattle.olr_input.proofs.LineRecords.{plain_not_quoted, no_end_more, step_plain, gives_one, end_of, IsEnd, after, plain, skips}
 use Rattle.olr_input.proofs.Writing.{rest_is}
 
 -- a line without quotes, its end, and what follows

@@ -1,12 +1,11 @@
 -- Empty tables, and tables with more capacity.
-use Rattle.olr_map.proofs.Common.{map, option_map, option_map_or, IsRelinked, spare_numbers, IsRoomWithin, common_steps, ◌≡◌}
-use Rattle.olr_map.proofs.Common.{unwrap_or, node_slots, links_room, HasRoomFor, tables_map, IsReserved, ◌==◌, ◌&&◌}
-use Rattle.olr_map.proofs.Common.{true, cond, Some, None, refl, subst, arith, Coord, IsMap, SlotIndex, Links, ℕ, ◌<◌, ◌≤◌, []}
-use Rattle.olr_map.proofs.Common.{sym, ap, ◌∙◌, Map, Line, held, Room, Side, Out, In, pairs_of, spare_of, all_held}
-use Rattle.olr_map.proofs.Common.{links_at, lines_on, lines_at, links_in, map_from, length, FinMap, lookup, eq-eqb, slot_by}
-use Rattle.olr_map.proofs.Common.{in_slot, IsListed, room_of, room_at, RoadMap, eqb-true, node_room, node_slot}
-use Rattle.olr_map.proofs.Common.{IsIndexed, AreTables, NodeSlots, NumberTable, from_entries, empty_map, empty_sound, coord_in}
-use Rattle.olr_map.proofs.Common.{and_parts, IsRoomier}
+use Rattle.olr_map.proofs.Common.{option_map_or, spare_numbers, IsRoomWithin, common_steps, from_entries, NumberTable, option_map}
+use Rattle.olr_map.proofs.Common.{empty_sound, IsRelinked, node_slots, links_room, HasRoomFor, tables_map, IsReserved, unwrap_or}
+use Rattle.olr_map.proofs.Common.{SlotIndex, node_room, node_slot, IsIndexed, AreTables, NodeSlots, empty_map, and_parts, slot_by}
+use Rattle.olr_map.proofs.Common.{IsRoomier, pairs_of, spare_of, all_held, links_at, lines_on, lines_at, links_in, map_from, ◌==◌}
+use Rattle.olr_map.proofs.Common.{IsListed, eqb-true, coord_in, in_slot, room_of, room_at, RoadMap, length, FinMap, lookup, subst}
+use Rattle.olr_map.proofs.Common.{eq-eqb, arith, Coord, IsMap, Links, ◌&&◌, true, cond, Some, None, refl, Line, held, Room, Side}
+use Rattle.olr_map.proofs.Common.{map, ◌≡◌, ◌<◌, ◌≤◌, sym, ◌∙◌, Map, Out, [], ap, In, ℕ}
 use Rattle.std.specs.Ordering.{nat_cmp}
 use Rattle.olr_map.proofs.ColumnLemmas.{few_nodes}
 use Rattle.olr_map.proofs.Lookups.{all_get, same_answers}

@@ -1,13 +1,12 @@
 -- A line is added, removed and set.
-use Rattle.olr_map.proofs.Common.{has-lines_where, spare_numbers, IsRoomWithin, common_steps, option_map}
-use Rattle.olr_map.proofs.Common.{TableChange, node_slots, IsRelinked, links_room, tables_map, HasRoomFor, cond-true, ℕ}
-use Rattle.olr_map.proofs.Common.{same_Some, node_room, node_slot, IsIndexed, AreTables, SlotIndex, NodeSlots, eqb-true}
-use Rattle.olr_map.proofs.Common.{NumberTable, has_line, all_held, links_at, lines_on, lines_at, links_in, map_from, ◌==◌}
-use Rattle.olr_map.proofs.Common.{IsListed, TakeLine, line_at, some_of, back_of, slot_by, is_some, node_in, ap}
-use Rattle.olr_map.proofs.Common.{room_of, room_at, LineEnd, RoadMap, PutLine, SetLine, Option, length, FinMap, eq-eqb, false}
-use Rattle.olr_map.proofs.Common.{subst, arith, IsMap, IsPut, sides, Links, true, cond, Some, None, refl, Line, held, near}
-use Rattle.olr_map.proofs.Common.{Room, Side, ◌≡◌, ◌+◌, ◌<◌, ◌≤◌, sym, ◌∙◌, get, Map, has, far, Out, In, change_edit, CanMake}
-use Rattle.olr_map.proofs.Common.{IsWhole, map_after, room_after, line_puts, CanPutEnd}
+use Rattle.olr_map.proofs.Common.{has-lines_where, spare_numbers, IsRoomWithin, common_steps, TableChange, NumberTable, cond-true}
+use Rattle.olr_map.proofs.Common.{change_edit, option_map, node_slots, IsRelinked, links_room, tables_map, HasRoomFor, room_after}
+use Rattle.olr_map.proofs.Common.{same_Some, node_room, node_slot, IsIndexed, AreTables, SlotIndex, NodeSlots, map_after, line_at}
+use Rattle.olr_map.proofs.Common.{line_puts, CanPutEnd, eqb-true, has_line, all_held, links_at, lines_on, lines_at, links_in, ◌≡◌}
+use Rattle.olr_map.proofs.Common.{map_from, IsListed, TakeLine, some_of, back_of, slot_by, is_some, node_in, room_of, room_at, ap}
+use Rattle.olr_map.proofs.Common.{LineEnd, RoadMap, PutLine, SetLine, CanMake, IsWhole, Option, length, FinMap, eq-eqb, false, In}
+use Rattle.olr_map.proofs.Common.{subst, arith, IsMap, IsPut, sides, Links, ◌==◌, true, cond, Some, None, refl, Line, held, near}
+use Rattle.olr_map.proofs.Common.{Room, Side, ◌+◌, ◌<◌, ◌≤◌, sym, ◌∙◌, get, Map, has, far, Out, ℕ}
 use Rattle.std.specs.List.Sorted.{IsStrictlyIncreasing}
 use Rattle.std.specs.Ordering.{nat_cmp}
 use Rattle.olr_map.proofs.ColumnLemmas.{few_nodes}

@@ -22,31 +22,29 @@ pub use Rattle.olr_route.specs.declared.distances.Direction.TheVariants.{Against
 pub use Rattle.olr_route.specs.declared.distances.Direction.{Direction}
 pub use Rattle.olr_route.specs.declared.work.Work.{Work}
 pub use Rattle.olr_spec.proofs.AnswerLemmas.{all_first, all_last, no_unknown, path_also, path_nonempty, sound_lines}
-pub use Rattle.olr_spec.proofs.Common.{Coord, abs24, Tried, first, limit, IsMap, start, fit16, length, nat_le, lt-leb, AllZip}
-pub use Rattle.olr_spec.proofs.Common.{EncodingWith, LongestStart, IsPermutation, [], append_assoc, length-append, All-contains}
-pub use Rattle.olr_spec.proofs.Common.{FootWith, coord_at, has_line, has_node, lines_in, Greatest, NextWith, To_valid, querying}
-pub use Rattle.olr_spec.proofs.Common.{IsReference, EncodesWith, first_break, LongestEnd, taken_start, CoveredWith, TraversedOf}
-pub use Rattle.olr_spec.proofs.Common.{Leg, Map, end, has, List, None, Some, cond, drop, refl, take, true, zero, ◌++◌, ◌==◌}
-pub use Rattle.olr_spec.proofs.Common.{MayFollow, taken_end, lines_out, Traversed, Reference, last_kept, and_parts, map-append}
-pub use Rattle.olr_spec.proofs.Common.{MayPrecede, first_where, kept_points, MatchOption, length-drop, cases_order, get_or-take}
-pub use Rattle.olr_spec.proofs.Common.{Path, from_start, FollowWith, NoNextWith, OfPathWith, KnownQuery, attrs_with, dm_between}
-pub use Rattle.olr_spec.proofs.Common.{Points, EndRun, Needed, NodeOf, Middle, leg_at, no_leg, offset, Option, Result, get_or}
-pub use Rattle.olr_spec.proofs.Common.{Sees, Line, Attrs, First, Last, legs, dm_of, Bool, arith, false, is_ok, rules, subst, ℤ}
-pub use Rattle.olr_spec.proofs.Common.{answer_by_points_with, QueriesOfExtendedWith, TraversedOfExtended, Contains-append_right}
-pub use Rattle.olr_spec.proofs.Common.{dm, ValidCandidateWith, Contains-append_left, IsBinarySearchResult, IsStrictlyIncreasing}
-pub use Rattle.olr_spec.proofs.Common.{dm_along, last_two, position, Contains, cases_eq, cases_lt, or_parts, or_right, drop-map}
-pub use Rattle.olr_spec.proofs.Common.{extended_path, CandidateWith, last_position, CoverageQuery, QueriesOfWith, query_to_with}
-pub use Rattle.olr_spec.proofs.Common.{first_unknown, AreJoined, reference_with, UniqueShortest, get_or_default, reverse-append}
-pub use Rattle.olr_spec.proofs.Common.{is_path, passing, is_good, line_at, ℕ, drop_all, take-map, take_all, All-cons, All-push}
-pub use Rattle.olr_spec.proofs.Common.{last, first_kept, from_front, last_point, last_where, cases_Bool, get_or-map, length-map}
-pub use Rattle.olr_spec.proofs.Common.{leg, Err, inl, inr, map, max, min, not, suc, sym, ◌*◌, ◌+◌, ◌-◌, ◌/◌, ◌<◌, ◌∙◌, ◌∷◌, ◌≡◌}
-pub use Rattle.olr_spec.proofs.Common.{no_line, node_at, stretch, to_back, IsRoute, is_some, reverse, or_from, or_left, All-nil}
-pub use Rattle.olr_spec.proofs.Common.{passes_between, IsLastTestedWith, Ok, drop-append_seam, reverse-reverse, list_any-append}
-pub use Rattle.olr_spec.proofs.Common.{path_fault, middle_point_with, middle_points_with, reference_by_with, get_or_append_left}
-pub use Rattle.olr_spec.proofs.Common.{relative, StartRun, ap, both_ways, cond_both, nat_tests, to_z-of_z, drop_more, take_more}
-pub use Rattle.olr_spec.proofs.Common.{◌≢◌, ◌≤◌, ◌⊎◌, ◌||◌, or_cases}
-pub use Rattle.olr_spec.proofs.CountedLemmas.{counted_nil, counted_own, counted_route, counted_start, counted_zero}
-pub use Rattle.olr_spec.proofs.CountedLemmas.{route_counted}
+pub use Rattle.olr_spec.proofs.Common.{answer_by_points_with, QueriesOfExtendedWith, Contains-append_right, Contains-append_left}
+pub use Rattle.olr_spec.proofs.Common.{IsBinarySearchResult, IsStrictlyIncreasing, TraversedOfExtended, ValidCandidateWith, Coord}
+pub use Rattle.olr_spec.proofs.Common.{middle_points_with, get_or_append_left, middle_point_with, reference_by_with, EncodingWith}
+pub use Rattle.olr_spec.proofs.Common.{IsLastTestedWith, drop-append_seam, reverse-reverse, list_any-append, reference_with, List}
+pub use Rattle.olr_spec.proofs.Common.{UniqueShortest, get_or_default, reverse-append, passes_between, IsPermutation, IsReference}
+pub use Rattle.olr_spec.proofs.Common.{length-append, extended_path, CandidateWith, last_position, CoverageQuery, QueriesOfWith}
+pub use Rattle.olr_spec.proofs.Common.{query_to_with, first_unknown, LongestStart, append_assoc, All-contains, EncodesWith, abs24}
+pub use Rattle.olr_spec.proofs.Common.{first_break, taken_start, CoveredWith, TraversedOf, first_where, kept_points, MatchOption}
+pub use Rattle.olr_spec.proofs.Common.{length-drop, cases_order, get_or-take, LongestEnd, map-append, MayPrecede, from_start, Leg}
+pub use Rattle.olr_spec.proofs.Common.{FollowWith, NoNextWith, OfPathWith, KnownQuery, attrs_with, dm_between, first_kept, length}
+pub use Rattle.olr_spec.proofs.Common.{from_front, last_point, last_where, cases_Bool, get_or-map, length-map, path_fault, nat_le}
+pub use Rattle.olr_spec.proofs.Common.{MayFollow, taken_end, lines_out, Traversed, Reference, last_kept, and_parts, AreJoined, []}
+pub use Rattle.olr_spec.proofs.Common.{both_ways, cond_both, nat_tests, to_z-of_z, drop_more, take_more, FootWith, coord_at, None}
+pub use Rattle.olr_spec.proofs.Common.{has_line, has_node, lines_in, Greatest, NextWith, To_valid, querying, dm_along, last_two}
+pub use Rattle.olr_spec.proofs.Common.{position, Contains, cases_eq, cases_lt, or_parts, or_right, drop-map, drop_all, take-map}
+pub use Rattle.olr_spec.proofs.Common.{take_all, All-cons, All-push, relative, StartRun, or_cases, is_path, passing, is_good, Map}
+pub use Rattle.olr_spec.proofs.Common.{line_at, no_line, node_at, stretch, to_back, IsRoute, is_some, reverse, or_from, or_left}
+pub use Rattle.olr_spec.proofs.Common.{All-nil, lt-leb, AllZip, Points, EndRun, Needed, NodeOf, Middle, leg_at, no_leg, offset, ℤ}
+pub use Rattle.olr_spec.proofs.Common.{Option, Result, get_or, Tried, first, limit, IsMap, start, fit16, Attrs, First, dm_of, end}
+pub use Rattle.olr_spec.proofs.Common.{arith, false, is_ok, rules, subst, Some, cond, drop, refl, take, true, zero, ◌++◌, ◌==◌, ℕ}
+pub use Rattle.olr_spec.proofs.Common.{Path, Sees, Line, Last, legs, Bool, last, ◌||◌, has, leg, Err, inl, inr, map, max, min, dm}
+pub use Rattle.olr_spec.proofs.Common.{not, suc, sym, ◌*◌, ◌+◌, ◌-◌, ◌/◌, ◌<◌, ◌∙◌, ◌∷◌, ◌≡◌, ◌≢◌, ◌≤◌, ◌⊎◌, Ok, ap}
+pub use Rattle.olr_spec.proofs.CountedLemmas.{counted_route, counted_start, route_counted, counted_zero, counted_nil, counted_own}
 pub use Rattle.olr_spec.proofs.FitLemmas.{extended_sound, reference_fits_with, by_answer, dm_same, from_front-add, position_is}
 pub use Rattle.olr_spec.proofs.JoinLemmas.{CountedTo, LinkedWith, between, kept_linked_with, stretch_last, empty_stretch}
 pub use Rattle.olr_spec.proofs.JoinedAnswers.{joined_with}

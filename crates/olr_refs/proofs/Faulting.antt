@@ -1,8 +1,7 @@
 -- What is known of a path for which none of reasons 1 to 3 holds.
-use Rattle.olr_refs.proofs.Common.{ap, ◌∙◌, inl, inr, ◌≡◌, ◌<◌, ◌≤◌, ◌-◌, ◌+◌, ◌==◌, ℕ, Bool, true, false, not}
-use Rattle.olr_refs.proofs.Common.{List, ◌∷◌, length, drop, Some, None, arith, eq-eqb, cases_eq, nat_tests}
-use Rattle.olr_refs.proofs.Common.{slice_index, Map, start, end, AreJoined, first_unknown}
-use Rattle.olr_refs.proofs.Common.{first_break, no_unknown, Each, drop_more, drop_all, Each-from, Known}
+use Rattle.olr_refs.proofs.Common.{first_unknown, slice_index, first_break, no_unknown, nat_tests, AreJoined, drop_more, cases_eq}
+use Rattle.olr_refs.proofs.Common.{Each-from, drop_all, length, eq-eqb, false, arith, start, Known, ◌==◌, Bool, true, List, drop}
+use Rattle.olr_refs.proofs.Common.{Some, None, Each, ◌∙◌, inl, inr, ◌≡◌, ◌<◌, ◌≤◌, ◌-◌, ◌+◌, not, ◌∷◌, Map, end, ap, ℕ}
 use Rattle.olr_spec.proofs.JoinedLemmas as spec
 
 all_known : (M : Map) (ls : List ℕ) → first_unknown M ls ≡ None → Each (Known M) ls

@@ -1,10 +1,9 @@
 -- The LRPs of a reference, as they are read.
-use Rattle.olr_refs.proofs.Common.{◌≡◌, ◌<◌, ◌≤◌, ◌-◌, ◌+◌, ℕ, zero, suc, ℤ, Option, List, [], ◌∷◌, ◌++◌, length, take, refl}
-use Rattle.olr_refs.proofs.Common.{arith, slice_index, Coord, abs24, relative, Map, Attrs, Middle, Reference, attrs_with}
-use Rattle.olr_refs.proofs.Common.{dm_between, reference_by_with, legs, leg_at, position, middle_points_of, Leg, bearing_back}
-use Rattle.olr_refs.proofs.Common.{First, Last, offset, last_two, first_point_with, middle_point_with, middle_points_with}
-use Rattle.olr_refs.proofs.Common.{last_point, ◌∙◌, ap, to_z-of_z, Width, w64, Margin}
-use Rattle.olr_refs.proofs.Common.{Bool, true, None, Some, is_some, if◌then◌else◌, sym}
+use Rattle.olr_refs.proofs.Common.{middle_points_with, reference_by_with, middle_point_with, middle_points_of, first_point_with}
+use Rattle.olr_refs.proofs.Common.{if◌then◌else◌, bearing_back, slice_index, attrs_with, dm_between, last_point, Reference, arith}
+use Rattle.olr_refs.proofs.Common.{to_z-of_z, relative, position, last_two, is_some, Option, length, Middle, leg_at, offset, zero}
+use Rattle.olr_refs.proofs.Common.{Margin, Coord, abs24, Attrs, First, Width, List, ◌++◌, take, refl, legs, Last, Bool, true, ◌≡◌}
+use Rattle.olr_refs.proofs.Common.{None, Some, ◌<◌, ◌≤◌, ◌-◌, ◌+◌, suc, ◌∷◌, Map, Leg, ◌∙◌, w64, sym, [], ap, ℕ, ℤ}
 use Rattle.olr_spec.specs.Coordinates.{fits16, rel16}
 use mir.Val.{SFits, of_z, to_z}
 

@@ -1,9 +1,8 @@
 -- The table of labels and the list of the slots with labels, as either changes.
-use Rattle.olr_route.proofs.Common.{Contains-here, ◌≡◌, ◌≢◌, ℕ, ◌<◌, ◌≤◌, List, [], ◌∷◌, ◌++◌, Contains, length, get_or}
-use Rattle.olr_route.proofs.Common.{sym, ap, ◌∙◌, subst, inl, inr, arith, cases_eq, get_or-set_same, get_or-set_other}
-use Rattle.olr_route.proofs.Common.{Contains-append_cases, Contains-append_right, set, Contains-one, UNREACHED, label_in}
-use Rattle.olr_route.proofs.Common.{AreAllReached, NotesOnce, get_or_past, get_or_read_under, Contains-append_left, ◌⊎◌}
-use Rattle.olr_route.proofs.Common.{LowLabels, Queued, queue_len}
+use Rattle.olr_route.proofs.Common.{Contains-append_cases, Contains-append_right, Contains-append_left, get_or_read_under, length}
+use Rattle.olr_route.proofs.Common.{get_or-set_other, get_or-set_same, Contains-here, AreAllReached, Contains-one, get_or_past, ℕ}
+use Rattle.olr_route.proofs.Common.{UNREACHED, NotesOnce, LowLabels, queue_len, Contains, cases_eq, label_in, get_or, Queued, ◌≡◌}
+use Rattle.olr_route.proofs.Common.{subst, arith, List, ◌++◌, ◌≢◌, ◌<◌, ◌≤◌, ◌∷◌, sym, ◌∙◌, inl, inr, set, ◌⊎◌, [], ap}
 use Rattle.olr_route.specs.declared.queue.Queue.{Queue}
 
 -- a label that is read from the table, of length n

@@ -1,8 +1,7 @@
 -- What is the same on two maps that agree around a node.
-use Rattle.olr_spec.proofs.Common.{◌≡◌, ℕ, ◌+◌, true, List, ◌∷◌, map, Option, Some, is_some, IsTrue, refl, sym, ap, ◌∙◌, ◌==◌}
-use Rattle.olr_spec.proofs.Common.{unwrap_or, ◌↔◌, arith, [], eqb-true, get, nat_tests, Map, Line, has_line, line_at, start}
-use Rattle.olr_spec.proofs.Common.{end, dm, coord_at, SameLine, SameRound, lines_where, dm_of, passing, passes_between, no_line}
-use Rattle.olr_spec.proofs.Common.{no_coord}
+use Rattle.olr_spec.proofs.Common.{passes_between, lines_where, unwrap_or, nat_tests, SameRound, eqb-true, has_line, coord_at, ap}
+use Rattle.olr_spec.proofs.Common.{SameLine, no_coord, is_some, line_at, passing, no_line, Option, IsTrue, arith, start, dm_of, ℕ}
+use Rattle.olr_spec.proofs.Common.{true, List, Some, refl, ◌==◌, Line, ◌≡◌, ◌+◌, ◌∷◌, map, sym, ◌∙◌, ◌↔◌, get, Map, end, [], dm}
 use Rattle.olr_spec.proofs.MapLemmas.{has-lines_where, passes_at, same_selected}
 use Rattle.olr_spec.proofs.ListLemmas.{Each, Each-head, Each-tail, map_same}
 

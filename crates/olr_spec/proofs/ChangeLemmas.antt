@@ -1,9 +1,8 @@
 -- What one edit changes, and what consecutive edits change.
-use Rattle.olr_spec.proofs.Common.{inl, ◌≡◌, ◌≢◌, ℕ, false, List, ◌∷◌, ◌++◌, ◌≤◌, Ok, IsTrue, refl, sym, ◌∙◌, arith, ◌==◌, Some}
-use Rattle.olr_spec.proofs.Common.{T, nat_cmp, [], both_ways, or_parts, list_any-append, get, FinMap, Map, Line, has_line}
-use Rattle.olr_spec.proofs.Common.{start, end, dm, Edit, edited, touched_nodes, SameRound, has, ChangedLine, AccountsFor, Coord}
-use Rattle.olr_spec.proofs.Common.{Contains-append_left, Contains-append_right, changes_of, IsChangedLine, cases_eq, ChangeLaws}
-use Rattle.olr_spec.proofs.Common.{LawOf}
+use Rattle.olr_spec.proofs.Common.{Contains-append_right, Contains-append_left, list_any-append, touched_nodes, IsChangedLine, Ok}
+use Rattle.olr_spec.proofs.Common.{ChangedLine, AccountsFor, changes_of, ChangeLaws, both_ways, SameRound, or_parts, has_line, []}
+use Rattle.olr_spec.proofs.Common.{cases_eq, nat_cmp, IsTrue, FinMap, edited, false, arith, start, Coord, LawOf, List, ◌++◌, refl}
+use Rattle.olr_spec.proofs.Common.{◌==◌, Some, Line, Edit, inl, ◌≡◌, ◌≢◌, ◌∷◌, ◌≤◌, sym, ◌∙◌, get, Map, end, has, dm, ℕ, T}
 use Rattle.olr_spec.proofs.Facts.{known_record, Contains-here, same_way, same_way_on}
 use Rattle.olr_spec.proofs.EditLemmas.{edits_are_local, other_lines, edit_laws}
 

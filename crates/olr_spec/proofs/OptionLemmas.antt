@@ -1,6 +1,5 @@
 -- Options with and without a value, and results that are Ok.
-use Rattle.olr_spec.proofs.Common.{arith, ◌≡◌, false, Option, Some, None, is_some, Result, Ok, refl, sym, ap, subst, IsSome}
-use Rattle.olr_spec.proofs.Common.{IsOk}
+use Rattle.olr_spec.proofs.Common.{is_some, Option, Result, IsSome, arith, false, subst, Some, None, refl, IsOk, ◌≡◌, sym, Ok, ap}
 
 pub some_of : {A : Type 0} (o : Option A) → IsSome o → (x : A) × (o ≡ Some x)
 some_of o h = grind arith

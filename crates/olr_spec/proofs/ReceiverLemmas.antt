@@ -1,16 +1,15 @@
 -- Every receiver recovers the legs between the remaining LRPs: a shortest route over lines within the LFRCNP is the leg of
 -- the extended path.
-use Rattle.olr_spec.proofs.Common.{reference_by_kept_with, AllPass-from_list_all, middle_points_with, list_any-append, eqb-true}
-use Rattle.olr_spec.proofs.Common.{not_from_false, length-take-le, extended_path, length-append, list_all-map, EncodingWith, ap}
-use Rattle.olr_spec.proofs.Common.{RecoversLast, has_no_twin, slice_index, EncodesWith, length-drop, cases_Bool, candidates, []}
-use Rattle.olr_spec.proofs.Common.{is_nearest, option_map, get_or-map, none_twice, OfPathWith, attrs_with, path_fault, ltb-true}
-use Rattle.olr_spec.proofs.Common.{RecoversTo, both_ways, slice_get, Reference, nat_tests, and_parts, ◌≡◌, JoinsLast, cases_eq}
-use Rattle.olr_spec.proofs.Common.{or_cases, has_line, Receiver, list_all, last_two, and_from, or_parts, ℕ, UniqueShortest}
-use Rattle.olr_spec.proofs.Common.{not-true, allowed, line_at, is_path, stretch, JoinsTo, Margin, IsTrue, eq-eqb, ◌≢◌, length}
-use Rattle.olr_spec.proofs.Common.{leg_at, no_leg, Middle, Points, Within, ne_eqb, arith, IsMap, subst, false, start, ℤ, Tried}
-use Rattle.olr_spec.proofs.Common.{Bool, true, List, Some, None, refl, Path, legs, Side, fold, ◌==◌, zero, ◌++◌, drop, ⊤, ◌↔◌}
-use Rattle.olr_spec.proofs.Common.{Map, Leg, leg, suc, ◌+◌, ◌-◌, ◌∷◌, map, ◌<◌, sym, ◌∙◌, inr, max, inl, not, ◌≤◌, end, has}
-use Rattle.olr_spec.proofs.Common.{AnswerLaws, LawOf}
+use Rattle.olr_spec.proofs.Common.{reference_by_kept_with, AllPass-from_list_all, middle_points_with, list_any-append, cases_Bool}
+use Rattle.olr_spec.proofs.Common.{not_from_false, length-take-le, UniqueShortest, extended_path, length-append, list_all-map, ap}
+use Rattle.olr_spec.proofs.Common.{EncodingWith, RecoversLast, has_no_twin, slice_index, EncodesWith, length-drop, candidates, []}
+use Rattle.olr_spec.proofs.Common.{is_nearest, option_map, get_or-map, none_twice, OfPathWith, attrs_with, path_fault, RecoversTo}
+use Rattle.olr_spec.proofs.Common.{AnswerLaws, both_ways, slice_get, Reference, nat_tests, and_parts, JoinsLast, eqb-true, Margin}
+use Rattle.olr_spec.proofs.Common.{ltb-true, cases_eq, or_cases, has_line, Receiver, list_all, last_two, and_from, or_parts, Bool}
+use Rattle.olr_spec.proofs.Common.{not-true, allowed, line_at, is_path, stretch, JoinsTo, IsTrue, eq-eqb, length, leg_at, no_leg}
+use Rattle.olr_spec.proofs.Common.{Middle, Points, Within, ne_eqb, arith, IsMap, subst, false, start, Tried, LawOf, true, List, ℕ}
+use Rattle.olr_spec.proofs.Common.{Some, None, refl, Path, legs, Side, fold, ◌==◌, zero, ◌++◌, drop, ◌≡◌, ◌≢◌, ◌↔◌, Map, Leg, leg}
+use Rattle.olr_spec.proofs.Common.{suc, ◌+◌, ◌-◌, ◌∷◌, map, ◌<◌, sym, ◌∙◌, inr, max, inl, not, ◌≤◌, end, has, ℤ, ⊤}
 use Rattle.olr_spec.specs.Receiver.{decoded_coord, RecoversFrom, last_number, RecoversBy, More_lines, sector_on, Outgoing, Lrp}
 use Rattle.olr_spec.specs.Receiver.{Incoming, last_lrp, Shortest, One_line, rating, lrp_at, Takes}
 use Rattle.olr_spec.specs.Recovery.{IsStretchesWith, IsLineAtWith, stretches, line_by}

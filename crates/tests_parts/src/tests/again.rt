@@ -51,9 +51,14 @@ fn encode_twice(
     margin: Margin,
 ) -> (Encoding, Encoding) {
     let mut search = Dijkstra::new(alloc);
-    let first = encode(alloc, map, path, margin, &mut search).expect(rt, "memory");
-    let second = encode_again(alloc, map, path, margin, &first.known, &mut search);
-    (first, second.expect(rt, "memory"))
+    let Ok(first) = encode(alloc, map, path, margin, &mut search) else {
+        panic!(rt; "no memory");
+    };
+    let again = encode_again(alloc, map, path, margin, &first.known, &mut search);
+    match again {
+        Ok(second) => (first, second),
+        Err(_) => panic!(rt; "no memory"),
+    }
 }
 
 /// Asserts which coverage queries of a path are known, and that it is encoded again with a search for the others alone.

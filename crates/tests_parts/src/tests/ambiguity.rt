@@ -5,49 +5,36 @@ use olr_ambiguity::{Grid, obstacles, obstacles_near};
 use olr_answers::{Found, Obstacle};
 use olr_binary::from_text;
 use olr_map::{MapRead, RoadMap};
-use std::alloc::{AllocError, Global};
+use std::alloc::Global;
 use std::process::Abort;
 use std::test::Fail;
 
 /// The string of the worked path.
 const TEXT: &[u8] = b"CwRbWyNG9RpsCQCb/jsbtAT/6/+jK1lE";
 
-/// The ambiguities of the worked path's string on a map, by a grid, and without one. None if the map lacks a line of
-/// the path.
-fn found_on(alloc: Global, map: &RoadMap) -> Result<Option<[Vec<Found>; 2]>, AllocError> {
+/// The ambiguities of the worked path's string on a map that has its lines, by a grid, and without one.
+fn found_on(rt: &impl Abort, alloc: Global, map: &RoadMap) -> [Vec<Found>; 2] {
     let Ok(reference) = from_text(alloc, TEXT) else {
-        return Ok(None);
+        panic!(rt; "a reference");
     };
-    let ids = map.node_ids(alloc)?;
-    let grid = Grid::new(alloc, map, &ids)?;
+    let ids = map.node_ids(alloc).expect(rt, "memory");
+    let grid = Grid::new(alloc, map, &ids).expect(rt, "memory");
     let own = [line(10), line(20), line(30)];
-    let has_all = map.line(own[0]).is_some()
-        && map.line(own[1]).is_some()
-        && map.line(own[2]).is_some();
-    if !has_all || reference.middle.len() != 1 {
-        return Ok(None);
-    }
+    assert!(rt; reference.middle.len() == 1);
+    assert!(rt; map.line(own[0]).is_some());
+    assert!(rt; map.line(own[1]).is_some());
+    assert!(rt; map.line(own[2]).is_some());
     let nodes = map.node_places();
-    Ok(Some([
-        obstacles(alloc, map, &grid, &reference, &own)?,
-        obstacles_near(alloc, map, nodes.ids, nodes.places, &reference, &own)?,
-    ]))
+    let by_grid = obstacles(alloc, map, &grid, &reference, &own);
+    let near = obstacles_near(alloc, map, nodes.ids, nodes.places, &reference, &own);
+    [by_grid.expect(rt, "memory"), near.expect(rt, "memory")]
 }
 
 /// Asserts the ambiguities of the worked path's string on a map.
-fn expect_found(
-    rt: &impl Abort,
-    alloc: Global,
-    map: &RoadMap,
-    wanted: &[Found],
-) -> Result<(), AllocError> {
-    let found = found_on(alloc, map)?;
-    assert!(rt; found.is_some());
-    if let Some([by_grid, near]) = &found {
-        assert!(rt; by_grid.as_slice() == wanted);
-        assert!(rt; near.as_slice() == wanted);
-    }
-    Ok(())
+fn expect_found(rt: &impl Abort, alloc: Global, map: &RoadMap, wanted: &[Found]) {
+    let [by_grid, near] = found_on(rt, alloc, map);
+    assert!(rt; by_grid.as_slice() == wanted);
+    assert!(rt; near.as_slice() == wanted);
 }
 
 #[test]
@@ -62,6 +49,6 @@ fn a_twin_of_the_first_line_stands_in_the_way(rt: HostRuntime) -> Result<(), Fai
         lrp: 0,
         obstacle: Obstacle::SameSector(line(11)),
     };
-    expect_found(&rt, rt.alloc(), &map, &[twin])?;
+    expect_found(&rt, rt.alloc(), &map, &[twin]);
     Ok(())
 }

@@ -109,18 +109,12 @@ const CASES: &[(Plan, PlainPath, Wanted)] = &[
 ];
 
 /// Asserts that an answer is this reference.
-fn expect_text(
-    rt: &impl Abort,
-    alloc: Global,
-    answer: &Answer,
-    wanted: &'static str,
-) -> Result<(), Fail> {
+fn expect_text(rt: &impl Abort, alloc: Global, answer: &Answer, wanted: &'static str) {
     let Answer::Points(reference) = answer else {
         panic!(rt; "no reference, but {wanted}")
     };
-    let text = to_text(alloc, reference)?;
+    let text = to_text(alloc, reference).expect(rt, "memory");
     assert_eq!(rt; text.as_str(), wanted, "the reference");
-    Ok(())
 }
 
 /// Asserts the reference and the coverage queries of a path on the map of a plan, with a margin, and its footprint.
@@ -130,26 +124,25 @@ fn expect_with_margin(
     plan: Plan,
     plain: PlainPath,
     wanted: Wanted,
-) -> Result<(), Fail> {
+) {
     let ((routes, classes), text, queries) = wanted;
-    let map = map_of(alloc, plan)?;
+    let map = map_of(alloc, plan).expect(rt, "a map");
     let path = path_of(rt, alloc, plain);
     let margin = Margin::new(routes, classes).expect(rt, "a margin");
     let mut search = Dijkstra::new(alloc);
-    let encoding = encode(alloc, &map, &path, margin, &mut search)?;
-    expect_text(rt, alloc, &encoding.answer, text)?;
+    let encoding = encode(alloc, &map, &path, margin, &mut search).expect(rt, "memory");
+    expect_text(rt, alloc, &encoding.answer, text);
     let found = queries_of(alloc, &encoding).expect(rt, "memory");
     assert_eq!(rt; found.as_slice(), queries, "of {routes} and {classes}");
-    let answer = expect_footprint(rt, alloc, &map, &path, margin, &encoding)?;
-    expect_text(rt, alloc, &answer, text)
+    let answer = expect_footprint(rt, alloc, &map, &path, margin, &encoding);
+    expect_text(rt, alloc, &answer, text);
 }
 
 #[test]
-fn encodings_with_a_margin(rt: HostRuntime) -> Result<(), Fail> {
+fn encodings_with_a_margin(rt: HostRuntime) {
     for (plan, plain, wanted) in CASES {
-        expect_with_margin(&rt, rt.alloc(), *plan, *plain, *wanted)?;
+        expect_with_margin(&rt, rt.alloc(), *plan, *plain, *wanted);
     }
-    Ok(())
 }
 
 #[test]

@@ -9,7 +9,6 @@ use olr_refs::{Answer, Encoding, Margin, Path, encode, refer_with};
 use olr_route::{Dijkstra, Direction, GREATEST_LIMIT, Work, settled_search};
 use std::alloc::{AllocError, Global};
 use std::process::Abort;
-use std::test::Fail;
 
 /// A coverage query: the node where it begins, that of the last position that it tested, and what the path between
 /// counts, in decimetres.
@@ -19,18 +18,20 @@ pub type Seen = (u32, u32, u32);
 type Wanted = (&'static [u32], &'static [Seen]);
 
 /// The traversed nodes, and those that a route of at most the length of a coverage query reaches from its start.
-fn seen(alloc: Global, map: &RoadMap, encoding: &Encoding) -> Result<Footprint, Fail> {
+fn seen(rt: &impl Abort, alloc: Global, map: &RoadMap, encoding: &Encoding) -> Footprint {
     let mut nodes = Footprint::new(alloc);
-    nodes.note_all(encoding.traversed.as_slice())?;
+    let noted = nodes.note_all(encoding.traversed.as_slice());
+    noted.expect(rt, "memory");
     for query in &encoding.queries {
         let begin = [(query.from, 0)];
         let within = query.within.min(GREATEST_LIMIT);
-        let search = settled_search(alloc, map, Direction::Along, &begin, within)?;
-        for node in &search.nodes(alloc, map)? {
-            nodes.note(*node)?;
+        let search = settled_search(alloc, map, Direction::Along, &begin, within);
+        let reached = search.expect(rt, "memory").nodes(alloc, map);
+        for node in &reached.expect(rt, "memory") {
+            nodes.note(*node).expect(rt, "memory");
         }
     }
-    Ok(nodes)
+    nodes
 }
 
 /// The answer of a path with a margin, by `refer_with`. Asserts that the traversed nodes of its encoding and its queries make
@@ -42,13 +43,14 @@ pub fn expect_footprint(
     path: &Path,
     margin: Margin,
     encoding: &Encoding,
-) -> Result<Answer, Fail> {
-    let wanted = seen(alloc, map, encoding)?;
+) -> Answer {
+    let wanted = seen(rt, alloc, map, encoding);
     let mut work = Work::default();
-    let (answer, found) = refer_with(alloc, map, path, margin, &mut work)?;
+    let referred = refer_with(alloc, map, path, margin, &mut work);
+    let (answer, found) = referred.expect(rt, "memory");
     assert_eq!(rt; found.as_slice(), wanted.as_slice(), "the footprint");
     assert_eq!(rt; work, encoding.work, "the work");
-    Ok(answer)
+    answer
 }
 
 /// The numbers of the traversed nodes of an encoding.
@@ -87,22 +89,15 @@ fn expect_seen(
 }
 
 /// Asserts the traversed nodes and coverage queries of a path on a map, and that they make up its footprint.
-fn expect_queries(
-    rt: &impl Abort,
-    alloc: Global,
-    map: &RoadMap,
-    plain: PlainPath,
-    wanted: Wanted,
-) -> Result<(), Fail> {
+fn expect_queries(rt: &impl Abort, alloc: Global, map: &RoadMap, plain: PlainPath, wanted: Wanted) {
     let path = path_of(rt, alloc, plain);
     let mut search = Dijkstra::new(alloc);
-    let encoding = encode(alloc, map, &path, Margin::none(), &mut search)?;
+    let encoding = encode(alloc, map, &path, Margin::none(), &mut search).expect(rt, "memory");
     expect_seen(rt, alloc, &encoding, wanted, plain);
     let searches = encoding.queries.len() as u64;
     let counted = (encoding.work.encodings, encoding.work.searches);
     assert_eq!(rt; counted, (1, searches), "of {plain:?}");
-    let _ = expect_footprint(rt, alloc, map, &path, Margin::none(), &encoding)?;
-    Ok(())
+    let _ = expect_footprint(rt, alloc, map, &path, Margin::none(), &encoding);
 }
 
 /// The worked map with a side road as long as the line beside it.
@@ -207,12 +202,11 @@ const CASES: &[(Plan, PlainPath, Wanted)] = &[
 ];
 
 #[test]
-fn traversed_nodes_and_queries(rt: HostRuntime) -> Result<(), Fail> {
+fn traversed_nodes_and_queries(rt: HostRuntime) {
     for (plan, plain, wanted) in CASES {
-        let map = map_of(rt.alloc(), *plan)?;
-        expect_queries(&rt, rt.alloc(), &map, *plain, *wanted)?;
+        let map = map_of(rt.alloc(), *plan).expect(&rt, "a map");
+        expect_queries(&rt, rt.alloc(), &map, *plain, *wanted);
     }
-    Ok(())
 }
 
 /// The edit that adds a line between two neighbours of the grid.
@@ -271,10 +265,9 @@ const ON_GRID: &[(PlainPath, Wanted)] = &[
 ];
 
 #[test]
-fn queries_on_a_grid(rt: HostRuntime) -> Result<(), Fail> {
+fn queries_on_a_grid(rt: HostRuntime) {
     let map = grid_map(&rt, rt.alloc());
     for (plain, wanted) in ON_GRID {
-        expect_queries(&rt, rt.alloc(), &map, *plain, *wanted)?;
+        expect_queries(&rt, rt.alloc(), &map, *plain, *wanted);
     }
-    Ok(())
 }

@@ -1,5 +1,4 @@
-use Rattle.olr_ambiguity.proofs.Common.{◌≡◌, ◌∙◌, ◌*◌, ◌^◌, ◌≤◌, ◌+ℤ◌, ◌-ℤ◌, ℤ, pos, nat_abs, arith, ints, subst, sym}
-use Rattle.olr_ambiguity.proofs.Common.{cells_from}
+use Rattle.olr_ambiguity.proofs.Common.{cells_from, nat_abs, arith, subst, ◌+ℤ◌, ◌-ℤ◌, ints, ◌≡◌, ◌∙◌, ◌*◌, ◌^◌, ◌≤◌, pos, sym, ℤ}
 use Rattle.olr_ambiguity.proofs.Windows.{cells_within, sum_within, held_small, held_minus, held_plus}
 use Rattle.olr_ambiguity.proofs.grid.cells_around.Goals as goal
 

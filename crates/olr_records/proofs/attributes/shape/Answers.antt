@@ -1,7 +1,6 @@
 use Rattle.olr_records.proofs.Common.{⊤, length-drop, fields_of, ShapePoint, Read, point, shape, Gathers, Reads, rules, List, ℕ}
 use Rattle.olr_records.proofs.Common.{◌+◌, ◌<◌, ◌≤◌, drop, length, subst, arith, refl}
-use Rattle.olr_records.proofs.LoopLemmas.{at, with, nothing-onto, at_end, shape-more, shape-over, gathers-only}
-use Rattle.olr_records.proofs.LoopLemmas.{some-points}
+use Rattle.olr_records.proofs.LoopLemmas.{nothing-onto, gathers-only, some-points, shape-more, shape-over, at_end, with, at}
 use Rattle.olr_records.proofs.attributes.shape.Goals as goal
 
 pub loop-k-init : goal.loop-k-init

@@ -1,6 +1,5 @@
 use Rattle.olr_route.proofs.Common.{rules, arith, inl, inr, IsPermutation-sym}
-use Rattle.olr_route.proofs.HeapLemmas.{popped_others, popped_least, popped_once, popped_gone, popped_there}
-use Rattle.olr_route.proofs.HeapLemmas.{pushed_kept}
+use Rattle.olr_route.proofs.HeapLemmas.{popped_others, popped_least, popped_there, popped_once, popped_gone, pushed_kept}
 use Rattle.olr_route.proofs.queue.Queue.pop_within.Goals as goal
 
 pub invariant_of-self-clause-once : goal.invariant_of-self-clause-once
