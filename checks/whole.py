@@ -9,7 +9,6 @@ from typing import NamedTuple
 
 TOP = os.path.dirname(os.path.dirname(os.path.realpath(__file__)))
 PROGRAM = f"{TOP}/crates/olr_keep/out/olr_keep"
-TESTS = f"{TOP}/crates/tests_alloc_failures/out/tests_alloc_failures_tests"
 sys.path.insert(0, f"{TOP}/python")
 from olr_keep_tools.replies import read_reply  # noqa: E402
 

@@ -14,7 +14,7 @@ use std::alloc::Global;
 use std::io;
 
 /// Whether a file of so many bytes begins with an empty line.
-pub fn begins_own<D: Disk>(disk: &mut D, len: usize) -> io::Result<bool>
+pub fn begins_native<D: Disk>(disk: &mut D, len: usize) -> io::Result<bool>
     requires { IsTrue (D.Disk.is_usable disk.old) }
     ensures reads { OnlyReads D.Disk disk.old disk.new }
     ensures some { IfOk result (λ b. b ≡ true → 0 < len) }
@@ -79,7 +79,7 @@ pub fn examine<D: Disk>(alloc: Global, disk: &mut D) -> io::Result<State>
 {
     disk.sync()?;
     let len = disk.len()?;
-    if !begins_own(disk, len)? {
+    if !begins_native(disk, len)? {
         return Ok(State::Foreign { len });
     }
     let scan = find_end(alloc, disk, len)?;

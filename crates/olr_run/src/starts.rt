@@ -105,7 +105,7 @@ fn put_records<D: Disk + Drop, G: Folder<D>>(
 
 /// Brings a log, from which the register was read, into the form in which records can be stored: what stands behind the
 /// program's own text is overwritten; that text is replaced by the records of the register if it has the length from which on
-/// it is compacted, and so is another file. If an own log that is due can't be replaced, that is said, and it is used as it is.
+/// it is compacted, and so is another file. If a native log that is due can't be replaced, that is said, and it is used as it is.
 fn prepare_log<D: Disk + Drop, G: Folder<D>>(
     log: &mut LogFile<D, G>,
     register: &Register,

@@ -1,0 +1,6 @@
+//! The tests, and the maps that they share.
+
+mod again;
+mod maps;
+mod margins;
+mod queries;
