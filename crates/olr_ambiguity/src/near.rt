@@ -4,7 +4,7 @@ ghost use Rattle.std.specs.List.{list_any};
 ghost use Rattle.olr_spec.specs.Coordinates.{Coord as Place};
 ghost use Rattle.olr_spec.specs.Map.{has_line};
 ghost use Rattle.olr_spec.specs.Receiver.{last_number};
-ghost use Rattle.olr_ambiguity.specs.Grids.{AreWindows, is_in};
+ghost use Rattle.olr_ambiguity.specs.Grids.{AreWindows, cells_from, is_in, lowest_lat};
 
 use crate::grid::{LOWEST_LAT, LOWEST_LON, cells_from};
 use crate::own_line::own_line;
@@ -33,11 +33,11 @@ pub(crate) fn windows<M: MapRead>(
     Ok(windows)
 }
 
-/// Whether a coordinate's cell is in a window.
-fn is_in(window: Window, place: Coord) -> bool
+/// Whether a coordinate's cell, which is in this row, is in a window.
+fn is_in(window: Window, row: u64, place: Coord) -> bool
+    requires { row ≡ cells_from lowest_lat place.lat }
     ensures { result ≡ is_in window place }
 {
-    let row = cells_from(LOWEST_LAT, i128::from(place.lat()));
     if row < window.rows.0 || window.rows.1 < row {
         return false;
     }
@@ -49,7 +49,8 @@ fn is_in(window: Window, place: Coord) -> bool
 fn is_in_any(windows: &[Window], place: Coord) -> bool
     ensures { result ≡ list_any (λ w. is_in w place) windows.now }
 {
-    windows.iter().any(|window| is_in(*window, place))
+    let row = cells_from(LOWEST_LAT, i128::from(place.lat()));
+    windows.iter().any(|window| is_in(*window, row, place))
 }
 
 /// Appends the node in a slot, if there is one and its coordinate is in one of these windows.
