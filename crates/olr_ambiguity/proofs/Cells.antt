@@ -1,8 +1,10 @@
 -- The nodes of a range of cells, and of a window.
 use Rattle.olr_ambiguity.proofs.Common.{◌≡◌, length, get_or, IsTrue, arith, Placed, Window, cell_at, IsWindow, AreAdded, nat_lt, true, false}
 use Rattle.olr_ambiguity.proofs.Common.{ℕ, ◌+◌, ◌-◌, ◌<◌, ◌≤◌, inl, inr, ℤ, Bool, List, take, drop, ◌∙◌, subst, Map, Coord}
-use Rattle.olr_ambiguity.proofs.Common.{Contains, ap, cases_lt, ltb-true, ltb-false, coord_at, cells_from, lowest_lat, IsGridOf}
+use Rattle.olr_ambiguity.proofs.Common.{Contains, ap, cases_lt, ltb-true, ltb-false, coord_at, cells_from, IsGridOf}
 use Rattle.olr_ambiguity.proofs.Common.{IsFalse, get_or-drop, get_or-take, length-drop, length-take-le, is_farther, usual_slack}
+use Rattle.olr_ambiguity.proofs.Common.{IsMap, is_coord, within, neg_ℤ, pos, and_parts, degree_units}
+use Rattle.olr_ambiguity.proofs.Windows.{cells_within}
 use Rattle.std.specs.List.Sorted.{IsPartitionPoint}
 
 -- the position of the first element in the cell `first` or a later one
@@ -58,19 +60,23 @@ rows_more rival es near start c0 c1 row old new h n all =
 
 -- each rival was looked at: it isn't farther by more than the slack
 pub whole_window : (M : Map) (rival : ℕ → Bool) (es : List Placed) (w : Window) (p : ℤ × ℤ) (c : Coord) (row : ℕ) (found : List ℕ) →
-    IsGridOf M (λ v. IsTrue (rival v)) es → IsWindow p c w → Rows rival es w.rows.0 w.columns.0 w.columns.1 row found → w.rows.1 < row →
+    (start first last : ℕ) → IsMap M → IsGridOf M (λ v. IsTrue (rival v)) es → IsWindow p c w → Rows rival es start first last row found →
+    start ≡ cells_from (neg_ℤ (pos (degree_units 90))) w.lat.0 → cells_from (neg_ℤ (pos (degree_units 90))) w.lat.1 < row →
+    first ≡ cells_from (neg_ℤ (pos (degree_units 180))) w.lon.0 → last ≡ cells_from (neg_ℤ (pos (degree_units 180))) w.lon.1 →
     ((v : ℕ) → IsTrue (rival v) → IsFalse (is_farther usual_slack p c (coord_at M v))) →
     (v : ℕ) → IsTrue (rival v) → Contains found v
-whole_window M rival es w p c row found g win h past near v is =
+whole_window M rival es w p c row found start first last m g win h from past left until near v is =
     let e = (g.whole v is).0 in
     let there = (g.whole v is).1 in
     let same : e.node ≡ v = (g.whole v is).2 in
     let right = g.right e there in
     let is_e : IsTrue (rival e.node) = ap rival same ∙ is in
+    let valid : IsTrue (is_coord e.place) = ap is_coord right.1 ∙ m.places e.node right.0 in
     let close : IsFalse (is_farther usual_slack p c e.place) =
     ap (is_farther usual_slack p c) right.1 ∙ near e.node is_e in
-    let rows = win.rows e.place close in
-    let columns = win.columns e.place close in
-    let r = cells_from lowest_lat e.place.lat in
+    let inside = and_parts (within w.lat.0 w.lat.1 e.place.lat) (within w.lon.0 w.lon.1 e.place.lon) (win.whole e.place valid close) in
+    let rows = cells_within (degree_units 90) w.lat.0 w.lat.1 e.place.lat win.lat.0 inside.0 in
+    let columns = cells_within (degree_units 180) w.lon.0 w.lon.1 e.place.lon win.lon.0 inside.1 in
+    let r = cells_from (neg_ℤ (pos (degree_units 90))) e.place.lat in
     subst (λ (u : ℕ). Contains found u) same
-    (h.whole e r there is_e rows.0 (omega (arith, rows.1, past)) (omega (arith, columns.0, right.2)) (omega (arith, columns.1, right.2)))
+    (h.whole e r there is_e (omega (arith, from, rows.0)) (omega (arith, rows.1, past)) (omega (arith, left, columns.0, right.2)) (omega (arith, until, columns.1, right.2)))

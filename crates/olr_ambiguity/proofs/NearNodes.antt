@@ -1,13 +1,10 @@
 -- The nodes in the windows of a reference's LRPs.
-use Rattle.olr_ambiguity.proofs.Common.{slice_get-get_or, slice_get_within, coordinate_on, decoded_coord, list_any_at, is_farther}
-use Rattle.olr_ambiguity.proofs.Common.{usual_slack, AreWindows, slice_get, unwrap_or, Reference, Contains, coord_at, has_node, ℕ}
-use Rattle.olr_ambiguity.proofs.Common.{no_coord, and_from, list_any, is_rival, AreNodes, IsWindow, IsFalse, is_some, some_of, ap}
-use Rattle.olr_ambiguity.proofs.Common.{side_at, Option, length, IsTrue, le-leb, get_or, Window, subst, Coord, IsMap, arith, List}
-use Rattle.olr_ambiguity.proofs.Common.{is_in, Some, ◌≡◌, ◌∙◌, ◌<◌, sym, Map, leg, get, ℤ}
+use Rattle.olr_ambiguity.proofs.Common.{slice_get-get_or, slice_get_within, decoded_coord, list_any_at}
+use Rattle.olr_ambiguity.proofs.Common.{AreWindows, slice_get, unwrap_or, Reference, Contains, coord_at, has_node, ℕ}
+use Rattle.olr_ambiguity.proofs.Common.{no_coord, list_any, is_rival, AreNodes, is_some, some_of, ap}
+use Rattle.olr_ambiguity.proofs.Common.{side_at, Option, length, IsTrue, get_or, Window, subst, Coord, IsMap, List}
+use Rattle.olr_ambiguity.proofs.Common.{is_in, Some, ◌≡◌, ◌∙◌, ◌<◌, sym, Map, get}
 use Rattle.olr_ambiguity.proofs.Lists.{close, rival_known}
-
-in_window : (p : ℤ × ℤ) (c d : Coord) (w : Window) → IsWindow p c w → IsFalse (is_farther usual_slack p c d) → IsTrue (is_in w d)
-in_window p c d w h near = grind (arith, h.rows d near, h.columns d near, le-leb, and_from)
 
 module _ (M : Map) (ids : List (Option ℕ)) (places : List Coord) (beside : length ids ≡ length places) (nodes : AreNodes M ids places) where
   pub in_slot : (k v : ℕ) → slice_get ids k ≡ Some (Some v) → IsTrue (has_node M v)
@@ -26,7 +23,7 @@ module _ (M : Map) (ids : List (Option ℕ)) (places : List Coord) (beside : len
       let p = decoded_coord r k in
       let c = coord_at M v in
       let w = windows k x at in
-      let inside : IsTrue (is_in w.0 c) = in_window p (coordinate_on s (leg M x)) c w.0 w.2 (close M s p x v is) in
+      let inside : IsTrue (is_in w.0 c) = w.2.whole c (m.places v (rival_known M s p x v m is)) (close M s p x v is) in
       let some : IsTrue (list_any (λ u. is_in u c) ws) =
       list_any_at (λ (u : Window). is_in u c) ws w.1.0 w.0 w.1.1 (ap (λ (u : Window). is_in u c) w.1.2 ∙ inside) in
       let node = some_of (get M.nodes v) (rival_known M s p x v m is) in

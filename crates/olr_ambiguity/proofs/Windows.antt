@@ -1,28 +1,31 @@
 -- Each node that isn't farther by more than the slack is in the window.
-use Rattle.olr_ambiguity.proofs.Common.{◌≡◌, ℕ, ◌+◌, ◌-◌, ◌*◌, ◌/◌, ◌<◌, ◌≤◌, ℤ, pos, negsuc, ◌+ℤ◌, ◌-ℤ◌, ◌≤ℤ◌, nat_abs, nat_lt}
-use Rattle.olr_ambiguity.proofs.Common.{max, false, IsFalse, arith, ints, ◌∙◌, ap, ltb-false, or_parts, mul-le, Coord, w128}
+use Rattle.olr_ambiguity.proofs.Common.{◌≡◌, ℕ, ◌+◌, ◌-◌, ◌*◌, ◌/◌, ◌<◌, ◌≤◌, ℤ, pos, ◌+ℤ◌, ◌-ℤ◌, ◌≤ℤ◌, nat_abs, nat_lt}
+use Rattle.olr_ambiguity.proofs.Common.{max, false, IsFalse, IsTrue, ◌&&◌, arith, ints, ◌∙◌, ap, ltb-false, or_parts, mul-le, Coord, w128}
+use Rattle.olr_ambiguity.proofs.Common.{and_from, le_test, bounds, within, is_coord, coord_within, neg_ℤ, degree_units}
 use Rattle.olr_ambiguity.proofs.Common.{to_z, to_z-of_z, ◌^◌, held, div-mul-le_self, le-div_iff_mul-le, mul-le-mul_left}
 use Rattle.olr_ambiguity.proofs.Common.{lon_apart, lat_apart, thousandths_up, cosine_up_to, least_cosine, is_farther}
-use Rattle.olr_ambiguity.proofs.Common.{usual_slack, part_above, cells_from}
+use Rattle.olr_ambiguity.proofs.Common.{usual_slack, cells_from}
 
 -- ---- cells
 
-above_more : (y z : ℤ) → y ≤ℤ z → part_above y ≤ part_above z
-above_more (pos y) (pos z) h = omega (arith, ints, h)
-above_more (pos y) (negsuc z) h = omega (arith, ints, h)
-above_more (negsuc y) (pos z) h = omega arith
-above_more (negsuc y) (negsuc z) h = omega arith
+cells_more : (low y z : ℤ) → low ≤ℤ y → y ≤ℤ z → cells_from low y ≤ cells_from low z
+cells_more low y z h g = let up : nat_abs (y -ℤ low) ≤ nat_abs (z -ℤ low) = omega (arith, ints, h, g) in omega (arith, up)
 
-cells_more : (low y z : ℤ) → y ≤ℤ z → cells_from low y ≤ cells_from low z
-cells_more low y z h = let up = above_more (y -ℤ low) (z -ℤ low) (omega (arith, ints, h)) in omega (arith, up)
+-- those of a value within a window's bounds
+pub cells_within : (n : ℕ) (a b z : ℤ) → nat_abs a ≤ n → IsTrue (within a b z) → let low = neg_ℤ (pos n) in
+    (cells_from low a ≤ cells_from low z) × (cells_from low z ≤ cells_from low b)
+cells_within n a b z small h =
+    let p = bounds a b z h in
+    (cells_more (neg_ℤ (pos n)) a z (omega (arith, ints, small)) p.0, cells_more (neg_ℤ (pos n)) z b (omega (arith, ints, small, p.0)) p.1)
 
--- those within n of a coordinate
-pub cells_within : (low z d : ℤ) (n a b : ℕ) → nat_abs (z -ℤ d) ≤ n → a ≡ cells_from low (z -ℤ pos n) →
-    b ≡ cells_from low (z +ℤ pos n) → (a ≤ cells_from low d) × (cells_from low d ≤ b)
-cells_within low z d n a b h e f =
-    let down : (z -ℤ pos n) ≤ℤ d = omega (arith, ints, h) in
-    let up : d ≤ℤ (z +ℤ pos n) = omega (arith, ints, h) in
-    (omega (arith, e, cells_more low (z -ℤ pos n) d down), omega (arith, f, cells_more low d (z +ℤ pos n) up))
+-- ---- bounds
+
+pub inside : (a b f e : ℤ) (d : Coord) → (a ≤ℤ d.lat) × (d.lat ≤ℤ b) → (f ≤ℤ d.lon) × (d.lon ≤ℤ e) →
+    IsTrue (within a b d.lat && within f e d.lon)
+inside a b f e d h k = grind (arith, and_from, le_test, h, k)
+
+pub coord_small : (d : Coord) → IsTrue (is_coord d) → (nat_abs d.lat ≤ degree_units 90) × (nat_abs d.lon ≤ degree_units 180)
+coord_small d h = let w = coord_within d h in (omega (arith, ints, w.1.0, w.1.1), omega (arith, ints, w.0.0, w.0.1))
 
 -- ---- cosines
 
@@ -74,10 +77,6 @@ module _ (p : ℤ × ℤ) (c d : Coord) (near : IsFalse (is_farther usual_slack 
       (le-div_iff_mul-le some).1 (grind (arith, all, near_lon))
 
 -- ---- numbers of 128 bits
-
-pub sum_within : (z : ℤ) (w a b : ℕ) → nat_abs z ≤ a → w ≤ b → nat_abs (z +ℤ pos w) ≤ a + b
-sum_within (pos n) w a b h g = omega (arith, ints, h, g)
-sum_within (negsuc n) w a b h g = grind (arith, ints, h, g)
 
 pub held_small : (z : ℤ) → nat_abs z ≤ 10 ^ 31 → held w128 z ≡ z
 held_small z h = to_z-of_z w128 z (omega (arith, ints, h))

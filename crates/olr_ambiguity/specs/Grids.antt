@@ -1,23 +1,24 @@
 -- Nodes in the cells of a grid.
---     cells_from low most z      the number of cells between two coordinates: 0 if z is below, and at most `most`
+--     cells_from low z      the number of cells between two coordinates, of which z is the higher one
 --     cell_of c      the number of a coordinate's cell, row by row
 --     ArePlaced M es      each is a node of the map, with its coordinate and its cell
 --     IsGridOf M F es, IsGrid M es      among them each of the nodes F, in ascending order of cells; of all nodes
 --     HasRivals M s p x es      a grid with each rival of line x at an LRP that is decoded as p
 --     AreAdded rival es old new      those of these nodes that are rivals were added
---     IsWindow p c w      each node that isn't farther from p than one at c, by more than the slack, is in these rows and columns
---     is_in w c      a coordinate's cell is in these rows and columns
+--     is_in w c      a coordinate is within these latitudes and longitudes
+--     IsWindow p c w      each coordinate of a map that isn't farther from p than c, by more than the slack, is in the window
 --     AreWindows M r xs ws      those of the lines xs at the LRPs of r
 --     AreNodes M ids places      the nodes in their slots, and beside each its coordinate
-use Rattle.std.specs.Prelude.{◌≡◌, ℕ, ◌+◌, ◌*◌, ◌/◌, ◌≤◌, min, ℤ, pos, negsuc, ◌-ℤ◌, neg_ℤ, Bool, nat_le, ◌&&◌, List, Contains, ◌⊎◌, ◌↔◌, IsTrue, IsFalse}
+use Rattle.std.specs.Prelude.{◌≡◌, ℕ, ◌+◌, ◌*◌, ◌/◌, ◌≤◌, ℤ, pos, ◌-ℤ◌, neg_ℤ, nat_abs, Bool, ◌&&◌, List, Contains, ◌⊎◌, ◌↔◌, IsTrue, IsFalse}
 use Rattle.std.specs.Prelude.{Option, Some, slice_get}
 use Rattle.std.specs.FinMap.{get}
 use Rattle.std.specs.List.Sorted.{IsNonDecreasingBy}
-use Rattle.olr_spec.specs.Coordinates.{Coord}
+use Rattle.olr_spec.specs.Coordinates.{Coord, is_coord, within}
 use Rattle.olr_spec.specs.Map.{Map, has_node, coord_at}
 use Rattle.olr_spec.specs.Reference.{Reference, leg}
 use Rattle.olr_spec.specs.Receiver.{Side, coordinate_on, decoded_coord}
 use Rattle.olr_spec.specs.Ambiguity.{is_farther, is_rival, side_at, usual_slack}
+use Rattle.olr_bearing.specs.Ranges.{degree_units}
 use Rattle.olr_ambiguity.specs.declared.grid.Placed.{Placed}
 use Rattle.olr_ambiguity.specs.declared.rivals.Window.{Window}
 
@@ -28,25 +29,15 @@ columns = 2097152
 abbrev pub last_cell : ℕ
 last_cell = 2097151
 
-abbrev pub part_above : ℤ → ℕ
-part_above (pos n) = n
-part_above (negsuc n) = 0
-
 -- a cell is 67,108,864 units wide, 23 m of latitude
 abbrev pub cells_from : ℤ → ℤ → ℕ
-cells_from low z = min (part_above (z -ℤ low) / 67108864) last_cell
-
-abbrev pub lowest_lat : ℤ
-lowest_lat = neg_ℤ (pos 29491200000000)
-
-abbrev pub lowest_lon : ℤ
-lowest_lon = neg_ℤ (pos 58982400000000)
+cells_from low z = nat_abs (z -ℤ low) / 67108864
 
 abbrev pub cell_at : ℕ → ℕ → ℕ
 cell_at row column = row * columns + column
 
 abbrev pub cell_of : Coord → ℕ
-cell_of c = cell_at (cells_from lowest_lat c.lat) (cells_from lowest_lon c.lon)
+cell_of c = cell_at (cells_from (neg_ℤ (pos (degree_units 90))) c.lat) (cells_from (neg_ℤ (pos (degree_units 180))) c.lon)
 
 abbrev pub ArePlaced : Map → List Placed → Type 0
 ArePlaced M es = (e : Placed) → Contains es e →
@@ -63,17 +54,13 @@ IsGrid M es = IsGridOf M (λ v. IsTrue (has_node M v)) es
 abbrev pub HasRivals : Map → Side → ℤ × ℤ → ℕ → List Placed → Type 0
 HasRivals M s p x es = IsGridOf M (λ v. IsTrue (is_rival M s p x v)) es
 
-pub record IsWindow (p : ℤ × ℤ) (c : Coord) (w : Window) : Type 0 where
-  pub rows : (d : Coord) → IsFalse (is_farther usual_slack p c d) →
-      (w.rows.0 ≤ cells_from lowest_lat d.lat) × (cells_from lowest_lat d.lat ≤ w.rows.1)
-  pub columns : (d : Coord) → IsFalse (is_farther usual_slack p c d) →
-      (w.columns.0 ≤ cells_from lowest_lon d.lon) × (cells_from lowest_lon d.lon ≤ w.columns.1)
-  pub few : (w.rows.1 ≤ last_cell) × (w.columns.0 ≤ last_cell) × (w.columns.1 ≤ last_cell)
-
 abbrev pub is_in : Window → Coord → Bool
-is_in w c =
-    nat_le w.rows.0 (cells_from lowest_lat c.lat) && nat_le (cells_from lowest_lat c.lat) w.rows.1
-    && nat_le w.columns.0 (cells_from lowest_lon c.lon) && nat_le (cells_from lowest_lon c.lon) w.columns.1
+is_in w c = within w.lat.0 w.lat.1 c.lat && within w.lon.0 w.lon.1 c.lon
+
+pub record IsWindow (p : ℤ × ℤ) (c : Coord) (w : Window) : Type 0 where
+  pub whole : (d : Coord) → IsTrue (is_coord d) → IsFalse (is_farther usual_slack p c d) → IsTrue (is_in w d)
+  pub lat : (nat_abs w.lat.0 ≤ degree_units 90) × (nat_abs w.lat.1 ≤ degree_units 90)
+  pub lon : (nat_abs w.lon.0 ≤ degree_units 180) × (nat_abs w.lon.1 ≤ degree_units 180)
 
 abbrev pub AreWindows : Map → Reference → List ℕ → List Window → Type 0
 AreWindows M r xs ws =

@@ -1,8 +1,9 @@
 //! The nodes of a map by the cell of a grid in which they are.
-ghost use Rattle.std.specs.Prelude.{◌≡◌, ◌≤◌, ◌<◌, ◌*◌, ◌^◌, ◌-ℤ◌, ℤ, nat_abs, All, Contains, IfOk, IsTrue};
+ghost use Rattle.std.specs.Prelude.{◌≡◌, ◌≤◌, ◌<◌, ◌*◌, ◌^◌, ◌-ℤ◌, ◌≤ℤ◌, ℤ, pos, nat_abs, All, Contains, IfOk, IsTrue};
 ghost use Rattle.std.specs.List.Sorted.{IsNonDecreasingBy};
 ghost use Rattle.olr_spec.specs.Ambiguity.{all_nodes};
 ghost use Rattle.olr_spec.specs.Map.{has_node};
+ghost use Rattle.olr_bearing.specs.Ranges.{degree_units};
 ghost use Rattle.olr_ambiguity.specs.Grids.{IsGrid, IsGridOf, cell_at, cell_of, cells_from, last_cell};
 
 use crate::own_line::coord_of;
@@ -11,15 +12,13 @@ use olr_model::{MapRead, NodeId};
 use std::alloc::{AllocError, Global};
 
 /// The width of a cell, in units: 23 m of latitude.
-const CELL: u128 = 67_108_864;
+const CELL: u64 = 67_108_864;
 /// The number of cells in a row.
 const COLUMNS: u64 = 2_097_152;
-/// The number of the last cell of a row, and of the last row.
-pub(crate) const LAST_CELL: u64 = 2_097_151;
 /// The lowest latitude, -90 degrees.
-pub(crate) const LOWEST_LAT: i128 = -29_491_200_000_000;
+pub(crate) const LOWEST_LAT: i64 = -29_491_200_000_000;
 /// The lowest longitude, -180 degrees.
-pub(crate) const LOWEST_LON: i128 = -58_982_400_000_000;
+pub(crate) const LOWEST_LON: i64 = -58_982_400_000_000;
 
 /// A node in its cell.
 #[derive(Clone, Copy)]
@@ -38,29 +37,39 @@ pub struct Grid {
     pub(crate) nodes: Vec<Placed>,
 }
 
-/// The number of cells from `low` up to `z`: 0 if it is below, and at most the last.
-pub(crate) fn cells_from(low: i128, z: i128) -> u64
-    requires low { nat_abs low ≤ 10 ^ 14 }
-    requires z { nat_abs z ≤ 10 ^ 38 }
+/// The number of cells from `low` up to `z`.
+pub(crate) fn cells_from(low: i64, z: i64) -> u64
+    requires low { nat_abs low ≤ degree_units 180 }
+    requires z { nat_abs z ≤ nat_abs low }
     ensures value { result ≡ cells_from low z }
     ensures few { result ≤ last_cell }
 {
-    match u128::try_from(z - low) {
-        Ok(above) => (above / CELL).min(u128::from(LAST_CELL)) as u64,
-        Err(_) => 0,
-    }
+    z.abs_diff(low) / CELL
 }
 
-/// The first and the last of the cells in which the coordinates within `reach` of `z` are, counted from `low`.
-pub(crate) fn cells_around(low: i128, z: i128, reach: u128) -> (u64, u64)
-    requires low { nat_abs low ≤ 10 ^ 14 }
+/// Of the values from `low` to `-low` the one nearest to `z`.
+fn clamped(low: i64, z: i128) -> i64
+    requires low { nat_abs low ≤ degree_units 180 }
+    requires below { low ≤ℤ pos 0 }
+    ensures least { (d : ℤ) → nat_abs d ≤ nat_abs low → d ≤ℤ z → d ≤ℤ result }
+    ensures greatest { (d : ℤ) → nat_abs d ≤ nat_abs low → z ≤ℤ d → result ≤ℤ d }
+    ensures within { nat_abs result ≤ nat_abs low }
+{
+    let low = i128::from(low);
+    z.clamp(low, -low) as i64
+}
+
+/// The least and the greatest of the values within `reach` of `z`, among those from `low` to `-low`.
+pub(crate) fn around(low: i64, z: i128, reach: u128) -> (i64, i64)
+    requires low { nat_abs low ≤ degree_units 180 }
+    requires below { low ≤ℤ pos 0 }
     requires z { nat_abs z ≤ 10 ^ 31 }
     requires reach { reach ≤ 5 * 10 ^ 37 }
-    ensures around { (d : ℤ) → nat_abs (z -ℤ d) ≤ reach → (result.0 ≤ cells_from low d) × (cells_from low d ≤ result.1) }
-    ensures few { (result.0 ≤ last_cell) × (result.1 ≤ last_cell) }
+    ensures around { (d : ℤ) → nat_abs d ≤ nat_abs low → nat_abs (z -ℤ d) ≤ reach → (result.0 ≤ℤ d) × (d ≤ℤ result.1) }
+    ensures within { (nat_abs result.0 ≤ nat_abs low) × (nat_abs result.1 ≤ nat_abs low) }
 {
     let reach = reach as i128;
-    (cells_from(low, z - reach), cells_from(low, z + reach))
+    (clamped(low, z - reach), clamped(low, z + reach))
 }
 
 /// The number of a cell.
@@ -76,8 +85,8 @@ pub(crate) fn cell_at(row: u64, column: u64) -> u64
 fn cell_of(place: Coord) -> u64
     ensures { result ≡ cell_of place }
 {
-    let row = cells_from(LOWEST_LAT, i128::from(place.lat()));
-    let column = cells_from(LOWEST_LON, i128::from(place.lon()));
+    let row = cells_from(LOWEST_LAT, place.lat());
+    let column = cells_from(LOWEST_LON, place.lon());
     cell_at(row, column)
 }
 

@@ -1,12 +1,11 @@
 //! The nodes near the LRPs of one reference.
 ghost use Rattle.std.specs.Prelude.{◌≡◌, ◌+◌, ◌⊎◌, ◌↔◌, ℕ, length, slice_get, All, Contains, IfOk, IsTrue, OnOk, Some};
 ghost use Rattle.std.specs.List.{list_any};
-ghost use Rattle.olr_spec.specs.Coordinates.{Coord as Place};
+ghost use Rattle.olr_spec.specs.Coordinates.{Coord as Place, within};
 ghost use Rattle.olr_spec.specs.Map.{has_line};
 ghost use Rattle.olr_spec.specs.Receiver.{last_number};
-ghost use Rattle.olr_ambiguity.specs.Grids.{AreWindows, cells_from, is_in, lowest_lat};
+ghost use Rattle.olr_ambiguity.specs.Grids.{AreWindows, is_in};
 
-use crate::grid::{LOWEST_LAT, LOWEST_LON, cells_from};
 use crate::own_line::own_line;
 use crate::rivals::{Window, window_of};
 use olr_binary::Reference;
@@ -33,24 +32,18 @@ pub(crate) fn windows<M: MapRead>(
     Ok(windows)
 }
 
-/// Whether a coordinate's cell, which is in this row, is in a window.
-fn is_in(window: Window, row: u64, place: Coord) -> bool
-    requires { row ≡ cells_from lowest_lat place.lat }
-    ensures { result ≡ is_in window place }
+/// Whether a latitude or longitude is within bounds.
+fn is_within(bounds: (i64, i64), z: i64) -> bool
+    ensures { result ≡ within bounds.0 bounds.1 z }
 {
-    if row < window.rows.0 || window.rows.1 < row {
-        return false;
-    }
-    let column = cells_from(LOWEST_LON, i128::from(place.lon()));
-    window.columns.0 <= column && column <= window.columns.1
+    bounds.0 <= z && z <= bounds.1
 }
 
-/// Whether it is in one of these windows.
+/// Whether a coordinate is in one of these windows.
 fn is_in_any(windows: &[Window], place: Coord) -> bool
     ensures { result ≡ list_any (λ w. is_in w place) windows.now }
 {
-    let row = cells_from(LOWEST_LAT, i128::from(place.lat()));
-    windows.iter().any(|window| is_in(*window, row, place))
+    windows.iter().any(|it| is_within(it.lat, place.lat()) && is_within(it.lon, place.lon()))
 }
 
 /// Appends the node in a slot, if there is one and its coordinate is in one of these windows.

@@ -8,21 +8,21 @@ ghost use Rattle.olr_ambiguity.specs.Grids.{AreAdded, ArePlaced, HasRivals, IsWi
 ghost use Rattle.olr_ambiguity.specs.OwnLines.{IsOwnLine, side_of};
 ghost use Rattle.olr_ambiguity.specs.Places.{IsPlaced, place_of};
 
-use crate::grid::{Grid, LAST_CELL, LOWEST_LAT, LOWEST_LON, Placed, cell_at, cells_around};
+use crate::grid::{Grid, LOWEST_LAT, LOWEST_LON, Placed, around, cell_at, cells_from};
 use crate::measures::{DecodedPlace, ONE, SLACK, cosine_up_to, is_farther, lat_apart, lon_apart};
 use crate::own_line::{OwnLine, is_outdone, lines_on};
 use olr_coords::Coord;
 use olr_model::{Footprint, LineId, MapRead, NodeId};
 use std::alloc::{AllocError, Global};
 
-/// A part of the grid, by its first and last rows and columns.
+/// A part of the map, by its least and greatest latitude and longitude.
 #[derive(Clone, Copy)]
 pub(crate) struct Window {
-    pub rows: (u64, u64),
-    pub columns: (u64, u64),
+    pub lat: (i64, i64),
+    pub lon: (i64, i64),
 }
 
-/// The part of the grid in which each node is that isn't farther than the own one by more than the slack.
+/// The part of the map in which each node is that isn't farther than the own one by more than the slack.
 pub(crate) fn window_of(place: DecodedPlace, here: Coord) -> Window
     requires { IsPlaced place }
     ensures { IsWindow (place_of place) here result }
@@ -30,15 +30,13 @@ pub(crate) fn window_of(place: DecodedPlace, here: Coord) -> Window
     // The own node's distance along both axes, and the slack, in units; in longitude farther, by the least cosine.
     let reach = lon_apart(place, here) + lat_apart(place, here) + SLACK;
     let cosine = cosine_up_to(place.lat.unsigned_abs() + reach);
-    let rows = cells_around(LOWEST_LAT, place.lat, reach);
-    if cosine == 0 {
-        return Window {
-            rows,
-            columns: (0, LAST_CELL),
-        };
-    }
-    let columns = cells_around(LOWEST_LON, place.lon, ONE * reach / cosine);
-    Window { rows, columns }
+    let lat = around(LOWEST_LAT, place.lat, reach);
+    let lon = if cosine == 0 {
+        (LOWEST_LON, -LOWEST_LON)
+    } else {
+        around(LOWEST_LON, place.lon, ONE * reach / cosine)
+    };
+    Window { lat, lon }
 }
 
 /// Whether one of these candidates isn't outdone by the own line.
@@ -103,8 +101,9 @@ pub(crate) fn rivals<M: MapRead>(
 {
     let mut found = Footprint::new(alloc);
     let window = window_of(own.place, own.here);
-    let (first, last) = window.columns;
-    for row in window.rows.0..window.rows.1 + 1 {
+    let first = cells_from(LOWEST_LON, window.lon.0);
+    let last = cells_from(LOWEST_LON, window.lon.1);
+    for row in cells_from(LOWEST_LAT, window.lat.0)..cells_from(LOWEST_LAT, window.lat.1) + 1 {
         let nodes = grid.within(cell_at(row, first), cell_at(row, last) + 1);
         add_rivals(map, own, nodes, &mut found)?;
     }

@@ -1,24 +1,27 @@
-use Rattle.olr_ambiguity.proofs.Common.{◌≡◌, ◌∙◌, ◌+◌, ◌*◌, ◌≤◌, ◌-ℤ◌, ◌/◌, nat_abs, ap, arith, sym, lon_apart}
+use Rattle.olr_ambiguity.proofs.Common.{◌≡◌, ◌∙◌, ◌+◌, ◌*◌, ◌≤◌, ◌-ℤ◌, ◌/◌, nat_abs, ap, arith, ints, sym, lon_apart, neg_ℤ, pos, degree_units}
 use Rattle.olr_ambiguity.proofs.Common.{lat_apart, cosine_up_to, usual_slack, place_of, div-le_self}
-use Rattle.olr_ambiguity.proofs.Windows.{lat_within, near_by_cosine, held_small}
+use Rattle.olr_ambiguity.proofs.Windows.{inside, coord_small, lat_within, near_by_cosine, held_small}
 use Rattle.olr_ambiguity.proofs.rivals.window_of.Goals as goal
 
 pub returns-then-cosine-eq0 : goal.returns-then-cosine-eq0
 returns-then-cosine-eq0 c =
+    let p = place_of c.args.place in
+    let far : c.lon_apart.result + c.lat_apart.result + usual_slack ≡ lon_apart p c.args.here + lat_apart p c.args.here + usual_slack = omega arith in
     record {
-      rows = λ d near. c.cells_around-rows.ensures.around d.lat
-          (lat_within (place_of c.args.place) c.args.here d near _ _ (held_small c.args.place.lat c.requires.lat)
-          (omega arith));
-      columns = λ d near. (omega arith, omega arith);
-      few = (c.cells_around-rows.ensures.few.1, omega arith, omega arith);
+      whole = λ d valid near.
+          let small = coord_small d valid in
+          let lat = c.around-lat.ensures.around d.lat small.0 (lat_within p c.args.here d near _ _ (held_small c.args.place.lat c.requires.lat) far) in
+          inside _ _ (neg_ℤ (pos (degree_units 180))) (pos (degree_units 180)) d lat (omega (arith, ints, small.1), omega (arith, ints, small.1));
+      lat = c.around-lat.ensures.within;
+      lon = (omega arith, omega arith);
     }
 
-pub cells_around-columns-requires-clause-reach : goal.cells_around-columns-requires-clause-reach
-cells_around-columns-requires-clause-reach c =
+pub around-lon-requires-clause-reach : goal.around-lon-requires-clause-reach
+around-lon-requires-clause-reach c =
     omega (arith, div-le_self (1000000 * (c.lon_apart.result + c.lat_apart.result + usual_slack)) c.cosine_up_to-cosine.result)
 
-pub returns : goal.returns
-returns c =
+pub returns-else-cosine-eq0 : goal.returns-else-cosine-eq0
+returns-else-cosine-eq0 c =
     let p = place_of c.args.place in
     let reach = c.lon_apart.result + c.lat_apart.result + usual_slack in
     let far : reach ≡ lon_apart p c.args.here + lat_apart p c.args.here + usual_slack = omega arith in
@@ -27,12 +30,13 @@ returns c =
     let by : cosine ≡ cosine_up_to (nat_abs p.1 + (lon_apart p c.args.here + lat_apart p c.args.here + usual_slack)) =
     c.cosine_up_to-cosine.ensures.value ∙ (λ i. cosine_up_to (steep i + far i)) in
     record {
-      rows = λ d near. c.cells_around-rows.ensures.around d.lat
-          (lat_within p c.args.here d near _ _ (held_small c.args.place.lat c.requires.lat) far);
-      columns = λ d near.
+      whole = λ d valid near.
+          let small = coord_small d valid in
+          let lat = c.around-lat.ensures.around d.lat small.0 (lat_within p c.args.here d near _ _ (held_small c.args.place.lat c.requires.lat) far) in
           let wide = near_by_cosine p c.args.here d near cosine (omega arith) by in
           let held = held_small c.args.place.lon c.requires.lon in
-          c.cells_around-columns.ensures.around d.lon
-          (coe 0 1 (i. nat_abs (sym held i -ℤ d.lon) ≤ 1000000 * sym far i / cosine) wide);
-      few = (c.cells_around-rows.ensures.few.1, c.cells_around-columns.ensures.few.0, c.cells_around-columns.ensures.few.1);
+          let lon = c.around-lon.ensures.around d.lon small.1 (coe 0 1 (i. nat_abs (sym held i -ℤ d.lon) ≤ 1000000 * sym far i / cosine) wide) in
+          inside _ _ _ _ d lat lon;
+      lat = c.around-lat.ensures.within;
+      lon = c.around-lon.ensures.within;
     }
