@@ -32,7 +32,8 @@ pub use Rattle.std.proofs.Common.{rules}
 pub use Rattle.std.proofs.Math.Nat.{div-mul-le_self, le-div_iff_mul-le, mul-le-mul_left, div-le_self}
 pub use Rattle.std.proofs.lemmas.Grind.{common_steps}
 pub use Rattle.std.proofs.lemmas.List.Elements.{Contains-append_left, Contains-get_or, Contains-push, Contains-push_cases}
-pub use Rattle.std.proofs.lemmas.List.Folds.{Any-from_list_any, list_any_more}
+pub use Rattle.std.proofs.lemmas.List.Folds.{Any-from_list_any, list_any_more, list_any_none}
 pub use Rattle.std.proofs.lemmas.Option.{get_or_from_slice_get, slice_get-get_or, slice_get_read, slice_get_within}
 pub use Rattle.std.specs.FinMap.{get}
+pub use Rattle.std.proofs.lemmas.List.{take_all}
 pub use Rattle.std.specs.List.{list_any}

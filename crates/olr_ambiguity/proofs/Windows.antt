@@ -4,7 +4,9 @@ use Rattle.olr_ambiguity.proofs.Common.{max, false, IsFalse, IsTrue, ◌&&◌, a
 use Rattle.olr_ambiguity.proofs.Common.{and_from, le_test, bounds, within, is_coord, coord_within, neg_ℤ, degree_units}
 use Rattle.olr_ambiguity.proofs.Common.{to_z, to_z-of_z, ◌^◌, held, div-mul-le_self, le-div_iff_mul-le, mul-le-mul_left}
 use Rattle.olr_ambiguity.proofs.Common.{lon_apart, lat_apart, thousandths_up, cosine_up_to, least_cosine, is_farther}
-use Rattle.olr_ambiguity.proofs.Common.{usual_slack, cells_from}
+use Rattle.olr_ambiguity.proofs.Common.{usual_slack, cells_from, List, Window, is_in, list_any, get_or, cases_Bool, inl, inr, and_parts}
+use Rattle.olr_ambiguity.proofs.Common.{both_ways, list_any_none}
+use Rattle.olr_ambiguity.specs.Grids.{Covers}
 
 -- ---- cells
 
@@ -26,6 +28,19 @@ inside a b f e d h k = grind (arith, and_from, le_test, h, k)
 
 pub coord_small : (d : Coord) → IsTrue (is_coord d) → (nat_abs d.lat ≤ degree_units 90) × (nat_abs d.lon ≤ degree_units 180)
 coord_small d h = let w = coord_within d h in (omega (arith, ints, w.1.0, w.1.1), omega (arith, ints, w.0.0, w.0.1))
+
+-- a coordinate out of the bounds of all latitudes is in no window
+pub outside : (lat : ℤ × ℤ) (ws : List Window) (c : Coord) → Covers lat ws → within lat.0 lat.1 c.lat ≡ false →
+    list_any (λ w. is_in w c) ws ≡ false
+outside lat ws c covers out = list_any_none (λ w. is_in w c) ws (λ k d lt. beyond (get_or ws k d) (covers k d lt))
+  where
+    beyond : (w : Window) → (lat.0 ≤ℤ w.lat.0) × (w.lat.1 ≤ℤ lat.1) → is_in w c ≡ false
+    beyond w h = elim (cases_Bool (is_in w c)) [
+      | inl is ↦
+          let p = bounds w.lat.0 w.lat.1 c.lat (and_parts _ _ is).0 in
+          absurd (both_ways _ out (grind (arith, ints, and_from, le_test, h, p)))
+      | inr is ↦ is
+    ]
 
 -- ---- cosines
 

@@ -7,9 +7,10 @@
 --     AreAdded rival es old new      those of these nodes that are rivals were added
 --     is_in w c      a coordinate is within these latitudes and longitudes
 --     IsWindow p c w      each coordinate of a map that isn't farther from p than c, by more than the slack, is in the window
+--     Covers bounds ws      the latitudes of these windows are within bounds
 --     AreWindows M r xs ws      those of the lines xs at the LRPs of r
 --     AreNodes M ids places      the nodes in their slots, and beside each its coordinate
-use Rattle.std.specs.Prelude.{◌≡◌, ℕ, ◌+◌, ◌*◌, ◌/◌, ◌≤◌, ℤ, pos, ◌-ℤ◌, neg_ℤ, nat_abs, Bool, ◌&&◌, List, Contains, ◌⊎◌, ◌↔◌, IsTrue, IsFalse}
+use Rattle.std.specs.Prelude.{◌≡◌, ℕ, ◌+◌, ◌*◌, ◌/◌, ◌≤◌, ℤ, pos, ◌-ℤ◌, ◌≤ℤ◌, neg_ℤ, nat_abs, Bool, ◌&&◌, List, All, Contains, ◌⊎◌, ◌↔◌, IsTrue, IsFalse}
 use Rattle.std.specs.Prelude.{Option, Some, slice_get}
 use Rattle.std.specs.FinMap.{get}
 use Rattle.std.specs.List.Sorted.{IsNonDecreasingBy}
@@ -61,6 +62,9 @@ pub record IsWindow (p : ℤ × ℤ) (c : Coord) (w : Window) : Type 0 where
   pub whole : (d : Coord) → IsTrue (is_coord d) → IsFalse (is_farther usual_slack p c d) → IsTrue (is_in w d)
   pub lat : (nat_abs w.lat.0 ≤ degree_units 90) × (nat_abs w.lat.1 ≤ degree_units 90)
   pub lon : (nat_abs w.lon.0 ≤ degree_units 180) × (nat_abs w.lon.1 ≤ degree_units 180)
+
+abbrev pub Covers : ℤ × ℤ → List Window → Type 0
+Covers bounds ws = All (λ w. (bounds.0 ≤ℤ w.lat.0) × (w.lat.1 ≤ℤ bounds.1)) ws
 
 abbrev pub AreWindows : Map → Reference → List ℕ → List Window → Type 0
 AreWindows M r xs ws =

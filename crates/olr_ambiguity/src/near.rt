@@ -1,10 +1,10 @@
 //! The nodes near the LRPs of one reference.
-ghost use Rattle.std.specs.Prelude.{◌≡◌, ◌+◌, ◌⊎◌, ◌↔◌, ℕ, length, slice_get, All, Contains, IfOk, IsTrue, OnOk, Some};
+ghost use Rattle.std.specs.Prelude.{◌≡◌, ◌≤ℤ◌, ◌+◌, ◌⊎◌, ◌↔◌, ℕ, length, slice_get, All, Contains, IfOk, IsTrue, OnOk, Some};
 ghost use Rattle.std.specs.List.{list_any};
 ghost use Rattle.olr_spec.specs.Coordinates.{Coord as Place, within};
 ghost use Rattle.olr_spec.specs.Map.{has_line};
 ghost use Rattle.olr_spec.specs.Receiver.{last_number};
-ghost use Rattle.olr_ambiguity.specs.Grids.{AreWindows, is_in};
+ghost use Rattle.olr_ambiguity.specs.Grids.{AreWindows, Covers, is_in};
 
 use crate::own_line::own_line;
 use crate::rivals::{Window, window_of};
@@ -39,10 +39,34 @@ fn is_within(bounds: (i64, i64), z: i64) -> bool
     bounds.0 <= z && z <= bounds.1
 }
 
-/// Whether a coordinate is in one of these windows.
-fn is_in_any(windows: &[Window], place: Coord) -> bool
+/// The least bounds that have these bounds within.
+fn widened(bounds: (i64, i64), others: (i64, i64)) -> (i64, i64)
+    ensures least { (result.0 ≤ℤ bounds.0) × (result.0 ≤ℤ others.0) }
+    ensures greatest { (bounds.1 ≤ℤ result.1) × (others.1 ≤ℤ result.1) }
+{
+    (bounds.0.min(others.0), bounds.1.max(others.1))
+}
+
+/// Bounds of the latitudes of these windows.
+fn latitudes(windows: &[Window]) -> (i64, i64)
+    ensures { Covers result windows.now }
+{
+    let mut bounds = (i64::MAX, i64::MIN);
+    for window in windows {
+        bounds = widened(bounds, window.lat);
+    }
+    bounds
+}
+
+/// Whether a coordinate is in one of these windows. Most are out of the bounds of all latitudes.
+#[tactic(auto, using(crate::proofs::Windows::outside))]
+fn is_in_any(windows: &[Window], latitudes: (i64, i64), place: Coord) -> bool
+    requires { Covers latitudes windows.now }
     ensures { result ≡ list_any (λ w. is_in w place) windows.now }
 {
+    if !is_within(latitudes, place.lat()) {
+        return false;
+    }
     windows.iter().any(|it| is_within(it.lat, place.lat()) && is_within(it.lon, place.lon()))
 }
 
@@ -52,11 +76,13 @@ fn push_near(
     id: Option<NodeId>,
     place: Coord,
     windows: &[Window],
+    latitudes: (i64, i64),
 ) -> Result<(), AllocError>
+    requires { Covers latitudes windows.now }
     ensures { OnOk result ((v : ℕ) → Contains found.new.items v
         ↔ (Contains found.old.items v ⊎ ((id ≡ Some v) × IsTrue (list_any (λ w. is_in w place) windows.now)))) }
 {
-    if is_in_any(windows, place) {
+    if is_in_any(windows, latitudes, place) {
         if let Some(id) = id {
             found.push(id)?;
         }
@@ -77,8 +103,9 @@ pub(crate) fn nodes_in(
         slice_get places.now k ≡ Some c → IsTrue (list_any (λ w. is_in w c) windows.now) → Contains found.items v) }
 {
     let mut found = Vec::new(alloc);
+    let latitudes = latitudes(windows);
     for k in 0..ids.len() {
-        push_near(&mut found, ids[k], places[k], windows)?;
+        push_near(&mut found, ids[k], places[k], windows, latitudes)?;
     }
     Ok(found)
 }
