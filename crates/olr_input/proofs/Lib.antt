@@ -5,6 +5,7 @@ pub mod CsvRecords
 pub mod Writing
 pub mod BlockLemmas
 pub mod WholeLines
+pub mod RecordWords
 pub mod StoredLines
 pub mod Parts
 pub mod Passing

@@ -8,9 +8,10 @@ use Rattle.std.proofs.Common.{◌&&◌, if◌then◌else◌}
 use Rattle.std.proofs.lemmas.List.{length-append}
 use Rattle.std.proofs.lemmas.List.Folds.{list_all-append}
 use Rattle.std.specs.Str.{bytes_eq}
-use Rattle.std.proofs.lemmas.Slice.Eq.{bytes_eq-Decides}
-use Rattle.olr_input.specs.StoredLines.{is_change, is_clean_byte}
-use Rattle.csv.specs.Records.{field_at}
+use Rattle.std.proofs.lemmas.Bool.{not-true}
+use Rattle.olr_input.specs.StoredLines.{is_clean_byte}
+use Rattle.olr_input.specs.RecordWords.{word_in, words}
+use Rattle.olr_input.proofs.RecordWords.{by_word, same_text}
 use Rattle.olr_input.specs.declared.unstored.Effect.TheVariants as effect
 
 -- ---- one line
@@ -80,15 +81,16 @@ begins_otherwise : (o : Bool) (b : ℕ) (x : List ℕ) → (b == 98) ≡ false �
 begins_otherwise true b x nb nc = rw (nb, nc) refl
 begins_otherwise false b x nb nc = rw nb refl
 
-change_stays : (o : Bool) (word rest : List ℕ) → is_change word ≡ true → stays_open o (word ++ rest) ≡ o
+starts_otherwise : List ℕ → Bool
+starts_otherwise [] = false
+starts_otherwise (b ∷ x) = not (b == 98) && not (b == 99)
+
+change_stays : (o : Bool) (field rest : List ℕ) → starts_otherwise field ≡ true → stays_open o (field ++ rest) ≡ o
+unfolding starts_otherwise
 change_stays o [] rest h = absurd cc
-change_stays o (b ∷ x) rest h = elim (cases_Bool (b == 98)) [
-  | inl is ↦ absurd (let never : true ≡ false = sym h ∙ ap (λ (n : ℕ). is_change (n ∷ x)) (eqb-true b 98 is) in cc)
-  | inr nb ↦ elim (cases_Bool (b == 99)) [
-    | inl is ↦ absurd (let never : true ≡ false = sym h ∙ ap (λ (n : ℕ). is_change (n ∷ x)) (eqb-true b 99 is) in cc)
-    | inr nc ↦ begins_otherwise o b (x ++ rest) nb nc
-  ]
-]
+change_stays o (b ∷ x) rest h =
+    let parts = and_parts (not (b == 98)) (not (b == 99)) h in
+    begins_otherwise o b (x ++ rest) (not-true _ parts.0) (not-true _ parts.1)
 
 -- ---- by the effect of a record
 
@@ -96,34 +98,17 @@ commit_closes : (o : Bool) (rest : List ℕ) → stays_open o (codes "commit" ++
 commit_closes true rest = refl
 commit_closes false rest = refl
 
--- what an effect says of the tests of a word by which it was chosen
-IsOf : (change begin commit : Bool) → Effect → Type 0
-IsOf change begin commit effect.Change = change ≡ true
-IsOf change begin commit effect.Begin = begin ≡ true
-IsOf change begin commit effect.Commit = commit ≡ true
-IsOf change begin commit _ = Unit {0}
+-- what the effect of a record says of its first field, and whether there are others
+agrees : List ℕ → Bool → Effect → Bool
+agrees field alone effect.Change = starts_otherwise field
+agrees field alone effect.Begin = bytes_eq field (codes "begin") && alone
+agrees field alone effect.Commit = bytes_eq field (codes "commit") && not alone
+agrees field alone _ = true
 
-by_tests : (change begin commit abort compact : Bool) → IsOf change begin commit
-    (if change then effect.Change
-    else if begin then effect.Begin
-    else if commit then effect.Commit
-    else if abort then effect.Abort
-    else if compact then effect.Compact
-    else effect.Nothing)
-unfolding IsOf
-by_tests true b m a p = refl
-by_tests false true m a p = refl
-by_tests false false true a p = refl
-by_tests false false false true p = tt
-by_tests false false false false true = tt
-by_tests false false false false false = tt
-
-by_word : (e : Effect) (word : List ℕ) (alone : Bool) → effect_by word alone ≡ e → IsOf (is_change word)
-    (bytes_eq word (codes "begin") && alone) (bytes_eq word (codes "commit") && not alone) e
-by_word e word alone is = subst (IsOf _ _ _) is (by_tests _ _ _ (bytes_eq word (codes "abort")) (bytes_eq word (codes "compact") && alone))
-
-pub same_text : (a b : List ℕ) → bytes_eq a b ≡ true → a ≡ b
-same_text a b h = grind (arith, bytes_eq-Decides a b)
+agrees_at : (alone : Bool) (field : List ℕ) → agrees field alone (effect_by (word_in words field) alone) ≡ true
+unfolding agrees starts_otherwise
+agrees_at true field = by_word (λ f k. agrees f true (effect_by k true)) (λ f. refl) words refl field
+agrees_at false field = by_word (λ f k. agrees f false (effect_by k false)) (λ f. refl) words refl field
 
 nonzero : (n : ℕ) → (suc n == 0) ≡ false
 nonzero n = grind arith
@@ -132,25 +117,32 @@ one_more : (n : ℕ) → (suc n == 1) ≡ (n == 0)
 one_more zero = refl
 one_more (suc n) = grind arith
 
-stays_for : (e : Effect) (word : List ℕ) (fs : List (List ℕ)) → effect_by word (length fs == 0) ≡ e →
-    has_line e ≡ true → (o : Bool) → stays_open o (word ++ body_rest fs) ≡ turned e o
-unfolding body_rest IsOf
-stays_for effect.Nothing word fs is stored o = absurd cc
-stays_for effect.Abort word fs is stored o = absurd cc
-stays_for effect.Compact word fs is stored o = absurd cc
-stays_for effect.Change word fs is stored o = change_stays o word (body_rest fs) (by_word effect.Change word (length fs == 0) is)
-stays_for effect.Begin word [] is stored o =
-    let both = and_parts (bytes_eq word (codes "begin")) true (by_word effect.Begin word true is) in
-    ap (λ (w : List ℕ). stays_open o (w ++ [])) (same_text word (codes "begin") both.0)
-stays_for effect.Begin word (f ∷ fs) is stored o =
-    let both = and_parts (bytes_eq word (codes "begin")) false (by_word effect.Begin word false (ap (effect_by word) (sym (nonzero (length fs))) ∙ is)) in
-    absurd (let no = both.1 in cc)
-stays_for effect.Commit word [] is stored o =
-    let both = and_parts (bytes_eq word (codes "commit")) false (by_word effect.Commit word true is) in
-    absurd (let no = both.1 in cc)
-stays_for effect.Commit word (f ∷ fs) is stored o =
-    let both = and_parts (bytes_eq word (codes "commit")) true (by_word effect.Commit word false (ap (effect_by word) (sym (nonzero (length fs))) ∙ is)) in
-    ap (λ (w : List ℕ). stays_open o (w ++ 44 ∷ join_with_byte 44 (f ∷ fs))) (same_text word (codes "commit") both.0)
+stays_for : (e : Effect) (field : List ℕ) (fs : List (List ℕ)) → word_effect (field ∷ fs) ≡ e → has_line e ≡ true →
+    (o : Bool) → stays_open o (field ++ body_rest fs) ≡ turned e o
+unfolding body_rest agrees
+stays_for effect.Nothing field fs is stored o = absurd (both_ways _ refl stored)
+stays_for effect.Abort field fs is stored o = absurd (both_ways _ refl stored)
+stays_for effect.Compact field fs is stored o = absurd (both_ways _ refl stored)
+stays_for effect.Change field fs is stored o =
+    let alone = length (field ∷ fs) == 1 in
+    change_stays o field (body_rest fs) (subst (λ (e : Effect). agrees field alone e ≡ true) is (agrees_at alone field))
+stays_for effect.Begin field [] is stored o =
+    let begins = subst (λ (e : Effect). agrees field true e ≡ true) is (agrees_at true field) in
+    let both = and_parts (bytes_eq field (codes "begin")) true begins in
+    ap (λ (w : List ℕ). stays_open o (w ++ [])) (same_text field (codes "begin") both.0)
+stays_for effect.Begin field (f ∷ fs) is stored o =
+    let alone = length (field ∷ f ∷ fs) == 1 in
+    let begins = subst (λ (e : Effect). agrees field alone e ≡ true) is (agrees_at alone field) in
+    let both = and_parts (bytes_eq field (codes "begin")) alone begins in
+    absurd (both_ways _ (one_more (suc (length fs)) ∙ nonzero (length fs)) both.1)
+stays_for effect.Commit field [] is stored o =
+    let commits = subst (λ (e : Effect). agrees field true e ≡ true) is (agrees_at true field) in
+    absurd (both_ways false refl (and_parts (bytes_eq field (codes "commit")) false commits).1)
+stays_for effect.Commit field (f ∷ fs) is stored o =
+    let alone = length (field ∷ f ∷ fs) == 1 in
+    let commits = subst (λ (e : Effect). agrees field alone e ≡ true) is (agrees_at alone field) in
+    let both = and_parts (bytes_eq field (codes "commit")) (not alone) commits in
+    ap (λ (w : List ℕ). stays_open o (w ++ 44 ∷ join_with_byte 44 (f ∷ fs))) (same_text field (codes "commit") both.0)
     ∙ commit_closes o (join_with_byte 44 (f ∷ fs))
 
 pub line_for : (e : Effect) (fields : List (List ℕ)) → word_effect fields ≡ e → has_line e ≡ true →
@@ -237,12 +229,6 @@ lines_stay lines text more longer n k size sizes rest e front =
     let less : n ≤ k = let long = ap length all in let longs = length-append lines (rest ++ more) in omega arith in
     sym (take-take n k longer less) ∙ ap (take n) (front ∙ all) ∙ take_at lines (rest ++ more) n (sym size)
 
-pub field_is : (fs : List (List ℕ)) (k : ℕ) → unwrap_or (field_at fs k) [] ≡ get_or fs k []
-unfolding field_at
-field_is [] k = refl
-field_is (f ∷ fs) zero = refl
-field_is (f ∷ fs) (suc k) = field_is fs k
-
 -- ---- texts that follow each other
 
 -- a front of two texts ends in the first, or behind it
@@ -293,16 +279,3 @@ front_either a x front whole turns h = elim (split_either a x front h.rest h.spl
         let alone = sym (whole_join false [] a m whole) ∙ ap is_whole (sym e) ∙ h.whole in
         let same = e ∙ ap (λ (y : List ℕ). a ++ y) (turns.firm m (b ∷ rest) f (λ never. cc never) alone) ∙ append-nil a in
         inl (record { rest = []; splits = sym (append-nil front ∙ same); whole = h.whole })
-
--- the first field
-pub first_field : (fs : List (List ℕ)) (word : List ℕ) → field_at fs 0 ≡ Some word →
-    effect_by word (length fs == 1) ≡ word_effect fs
-unfolding field_at
-first_field [] word e = absurd cc
-first_field (f ∷ fs) word e =
-    let same : f ≡ word = cc in λ i. effect_by (sym same i) (one_more (length fs) i)
-
-pub no_field : (fs : List (List ℕ)) → field_at fs 0 ≡ None → word_effect fs ≡ effect.Nothing
-unfolding field_at
-no_field [] e = refl
-no_field (f ∷ fs) e = absurd cc

@@ -8,6 +8,7 @@ pub mod Blocks
 pub mod LineRecords
 pub mod Inputs
 pub mod Journals
+pub mod RecordWords
 pub mod StoredLines
 pub mod Unstored
 pub mod Gates

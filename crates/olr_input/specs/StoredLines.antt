@@ -5,23 +5,30 @@
 --     Waiting      the lines that are ready to be stored, and those of the open batch, which wait for its commit
 --     concluded effect line w      the same after an accepted record
 use Rattle.std.specs.Prelude.{◌≡◌, ◌≢◌, ◌≤◌, ◌-◌, ◌==◌, ℕ, Bool, true, false, not, ◌&&◌, ◌||◌, if◌then◌else◌, List, []}
-use Rattle.std.specs.Prelude.{◌∷◌, ◌++◌, length, take, drop, codes}
-use Rattle.std.specs.List.{list_all, list_any, join_with_byte}
-use Rattle.std.specs.Str.{bytes_eq}
+use Rattle.std.specs.Prelude.{◌∷◌, ◌++◌, length, take, drop}
+use Rattle.std.specs.List.{list_all, join_with_byte}
 use Rattle.olr_input.specs.Journals.{is_empty, is_whole, is_whole_from}
+use Rattle.olr_input.specs.RecordWords.{word_of}
+use Rattle.olr_input.specs.declared.record.Word.{Word}
+use Rattle.olr_input.specs.declared.record.Word.TheVariants as word
 use Rattle.olr_input.specs.declared.unstored.Effect.{Effect}
 use Rattle.olr_input.specs.declared.unstored.Effect.TheVariants as effect
 
 -- ---- records
 
--- the words of the records that change a map, paths or the margin
-abbrev pub change_words : List (List ℕ)
-change_words =
-    codes "line" ∷ codes "node" ∷ codes "set-line" ∷ codes "move" ∷ codes "drop-node" ∷ codes "drop-line" ∷ codes "path"
-    ∷ codes "repath" ∷ codes "drop-path" ∷ codes "margin" ∷ []
-
-abbrev pub is_change : List ℕ → Bool
-is_change word = list_any (bytes_eq word) change_words
+-- a record with this word changes the map, paths or the margin
+abbrev pub is_change : Word → Bool
+is_change word.Line = true
+is_change word.Node = true
+is_change word.SetLine = true
+is_change word.Move = true
+is_change word.DropNode = true
+is_change word.DropLine = true
+is_change word.Path = true
+is_change word.SetPath = true
+is_change word.DropPath = true
+is_change word.SetMargin = true
+is_change _ = false
 
 -- a line holds no line end
 abbrev pub is_clean_byte : ℕ → Bool
@@ -31,18 +38,15 @@ abbrev pub is_clean : List ℕ → Bool
 is_clean text = list_all is_clean_byte text
 
 -- by the word of a record, and whether it stands alone
-abbrev pub effect_by : List ℕ → Bool → Effect
-effect_by word alone =
-    if is_change word then effect.Change
-    else if bytes_eq word (codes "begin") && alone then effect.Begin
-    else if bytes_eq word (codes "commit") && not alone then effect.Commit
-    else if bytes_eq word (codes "abort") then effect.Abort
-    else if bytes_eq word (codes "compact") && alone then effect.Compact
-    else effect.Nothing
+abbrev pub effect_by : Word → Bool → Effect
+effect_by word.Begin true = effect.Begin
+effect_by word.Commit false = effect.Commit
+effect_by word.Abort alone = effect.Abort
+effect_by word.Compact true = effect.Compact
+effect_by w alone = if is_change w then effect.Change else effect.Nothing
 
 abbrev pub word_effect : List (List ℕ) → Effect
-word_effect [] = effect.Nothing
-word_effect (word ∷ fields) = effect_by word (length fields == 0)
+word_effect fields = effect_by (word_of fields) (length fields == 1)
 
 -- whether it is stored as a line
 abbrev pub has_line : Effect → Bool

@@ -15,9 +15,9 @@ ghost use Rattle.olr_input.specs.Sessions.{AllOrFront};
 use crate::buffered::Buffered;
 use crate::ends::RunFault;
 use crate::journal::Journal;
+use crate::record::Record;
 use crate::unstored::Unstored;
 use crate::whole::is_whole;
-use csv::ByteRecord;
 use std::alloc::{AllocError, Global};
 use std::io::{self, Write};
 use thiserror::Error;
@@ -97,14 +97,14 @@ impl<J: Journal + Drop> Gate<J> {
     }
 
     /// Takes the line of a record that will be answered next.
-    pub fn take(&mut self, fields: &ByteRecord) -> Result<(), AllocError>
+    pub fn take(&mut self, record: &Record) -> Result<(), AllocError>
         ensures untouched { Untouched self.old self.new }
         ensures waiting { waiting self.new.unstored ≡ waiting self.old.unstored }
-        ensures effect { OnOk result (self.new.unstored.effect ≡ effect_of (fields_of fields.now)) }
-        ensures line { OnOk result (next_line self.new.unstored ≡ stored_line (fields_of fields.now)) }
+        ensures effect { OnOk result (self.new.unstored.effect ≡ effect_of (fields_of record.now.fields)) }
+        ensures line { OnOk result (next_line self.new.unstored ≡ stored_line (fields_of record.now.fields)) }
         ensures due { compaction self.new ≡ compaction self.old }
     {
-        self.unstored.take(fields)
+        self.unstored.take(record)
     }
 
     /// The log is not replaced before it has twice its length.

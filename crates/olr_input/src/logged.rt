@@ -8,9 +8,9 @@ use crate::buffered::Buffered;
 use crate::ends::RunFault;
 use crate::gate::Gate;
 use crate::journal::Journal;
+use crate::record::Record;
 use crate::sessions::Session;
 use crate::sources::Source;
-use csv::ByteRecord;
 use std::io::Write;
 
 /// The records of a source, whose accepted changes are stored in a log before their answers are sent.
@@ -43,16 +43,12 @@ impl<S: Source + Drop, W: Write + Drop, J: Journal + Drop> Session<Buffered<W>> 
 
     ghost asks = { λ s. gates.asks s.gate };
 
-    fn take(
-        &mut self,
-        output: &mut Buffered<W>,
-        fields: &mut ByteRecord,
-    ) -> Result<bool, RunFault> {
+    fn take(&mut self, output: &mut Buffered<W>, record: &mut Record) -> Result<bool, RunFault> {
         self.gate.send_before(self.source.may_wait(), output)?;
-        if !self.source.next(fields)? {
+        if !record.take_from(&mut self.source)? {
             return Ok(false);
         }
-        self.gate.take(fields)?;
+        self.gate.take(record)?;
         Ok(true)
     }
 

@@ -2,13 +2,13 @@
 
 ghost use Rattle.std.specs.Prelude.{◌≡◌, ◌≤◌, ◌<◌, ◌⊎◌, ◌+◌, ◌++◌, ◌∷◌, take, length, vec_len, vec_capacity, IfOk, ℕ, List, [], true, false, IsTrue, Ok, OnOk, OnErr, if◌then◌else◌, slice_index_or};
 ghost use Rattle.std.specs.List.{join_with_byte};
-ghost use Rattle.std.specs.Str.{bytes_eq};
 ghost use Rattle.csv.specs.Records.{fields_of};
 ghost use Rattle.olr_input.specs.StoredLines as lines;
 ghost use Rattle.olr_input.specs.StoredLines.{AreLines};
 
 use crate::buffered::remove_front;
 use crate::lines::ends_line;
+use crate::record::{Record, Word, field};
 use csv::ByteRecord;
 use std::alloc::{AllocError, Global};
 use std::mem;
@@ -30,55 +30,37 @@ pub enum Effect {
     Compact,
 }
 
-/// Whether a word is this text, byte by byte: words are short, and `==` of slices is made for longer ones.
-fn is(word: &[u8], text: &[u8]) -> bool
-    ensures { result ≡ bytes_eq word.now text.now }
-{
-    word.iter().eq(text)
-}
-
 /// Whether a word is that of a record that changes the map, the paths or the margin.
-fn is_change(word: &[u8]) -> bool
-    ensures { result ≡ lines.is_change word.now }
+fn is_change(word: Word) -> bool
+    ensures { result ≡ lines.is_change word }
 {
-    is(word, b"line")
-        || is(word, b"node")
-        || is(word, b"set-line")
-        || is(word, b"move")
-        || is(word, b"drop-node")
-        || is(word, b"drop-line")
-        || is(word, b"path")
-        || is(word, b"repath")
-        || is(word, b"drop-path")
-        || is(word, b"margin")
-}
-
-/// The effect of a record with this word, alone or with further fields.
-fn effect_by(word: &[u8], alone: bool) -> Effect
-    ensures { result ≡ lines.effect_by word.now alone }
-{
-    if is_change(word) {
-        Effect::Change
-    } else if is(word, b"begin") && alone {
-        Effect::Begin
-    } else if is(word, b"commit") && !alone {
-        Effect::Commit
-    } else if is(word, b"abort") {
-        Effect::Abort
-    } else if is(word, b"compact") && alone {
-        Effect::Compact
-    } else {
-        Effect::Nothing
-    }
+    matches!(
+        word,
+        Word::Line
+            | Word::Node
+            | Word::SetLine
+            | Word::Move
+            | Word::DropNode
+            | Word::DropLine
+            | Word::Path
+            | Word::SetPath
+            | Word::DropPath
+            | Word::SetMargin
+    )
 }
 
 /// The effect of a record, by its word.
-fn word_effect(fields: &ByteRecord) -> Effect
-    ensures { result ≡ lines.word_effect (fields_of fields.now) }
+fn word_effect(record: &Record) -> Effect
+    ensures { result ≡ lines.word_effect (fields_of record.now.fields) }
 {
-    match fields.get(0) {
-        Some(word) => effect_by(word, fields.len() == 1),
-        None => Effect::Nothing,
+    let alone = record.fields().len() == 1;
+    match record.word() {
+        Word::Begin if alone => Effect::Begin,
+        Word::Commit if !alone => Effect::Commit,
+        Word::Abort => Effect::Abort,
+        Word::Compact if alone => Effect::Compact,
+        word if is_change(word) => Effect::Change,
+        _ => Effect::Nothing,
     }
 }
 
@@ -87,16 +69,6 @@ fn has_line(effect: Effect) -> bool
     ensures { result ≡ lines.has_line effect }
 {
     matches!(effect, Effect::Change | Effect::Begin | Effect::Commit)
-}
-
-/// The field at index `k`, or no bytes past the last one.
-fn field(fields: &ByteRecord, k: usize) -> &[u8]
-    ensures { result.now ≡ slice_index_or (fields_of fields.now) k [] }
-{
-    match fields.get(k) {
-        Some(field) => field,
-        None => &[],
-    }
 }
 
 /// Adds a comma, for which there is room, unless a field is the first.
@@ -218,18 +190,18 @@ impl Unstored {
 
     /// Takes the line of a record that will be answered next, in the place of the last one that wasn't. After a failed
     /// allocation it has no line.
-    pub fn take(&mut self, fields: &ByteRecord) -> Result<(), AllocError>
+    pub fn take(&mut self, record: &Record) -> Result<(), AllocError>
         ensures waiting { waiting self.new ≡ waiting self.old }
-        ensures effect { OnOk result (self.new.effect ≡ lines.effect_of (fields_of fields.now)) }
-        ensures line { OnOk result (next_line self.new ≡ lines.stored_line (fields_of fields.now)) }
+        ensures effect { OnOk result (self.new.effect ≡ lines.effect_of (fields_of record.now.fields)) }
+        ensures line { OnOk result (next_line self.new ≡ lines.stored_line (fields_of record.now.fields)) }
     {
         self.keep(self.ready, self.held);
-        let effect = word_effect(fields);
+        let effect = word_effect(record);
         if !has_line(effect) {
             self.effect = effect;
             return Ok(());
         }
-        if add_line(&mut self.lines, fields)? {
+        if add_line(&mut self.lines, record.fields())? {
             self.effect = effect;
         }
         Ok(())

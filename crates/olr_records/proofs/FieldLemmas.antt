@@ -3,20 +3,12 @@
 --     Where r P      what holds where a value is read
 use Rattle.olr_records.proofs.Common.{list_all, and_parts, nat_tests, is_name, is_name_byte, Field, AllByRecursion, IfOk}
 use Rattle.olr_records.proofs.Common.{IfSome, if◌then◌else◌, Read, coordinate, degrees, is_ascii_digit, name, place, ◌≡◌, ℕ}
-use Rattle.olr_records.proofs.Common.{zero, suc, ◌<◌, Bool, true, false, List, [], ◌∷◌, unwrap_or, nat_le, refl, arith, rules}
+use Rattle.olr_records.proofs.Common.{zero, suc, ◌<◌, Bool, true, false, List, [], ◌∷◌, nat_le, refl, arith, rules}
 use Rattle.olr_records.proofs.Common.{◌&&◌, ◌++◌, ◌∙◌, ap, length, take, drop, Option, Some, None, ℤ, pos, not, ◌==◌}
-use Rattle.olr_records.proofs.Common.{slice_index_or, IsAscii, IsUtf8, option_map, neg_ℤ, prefix_len, list_all-append, digits}
+use Rattle.olr_records.proofs.Common.{IsAscii, IsUtf8, option_map, neg_ℤ, prefix_len, list_all-append, digits}
 use Rattle.std.proofs.lemmas.Str.{IsUtf8-from_ascii}
 use Rattle.olr_spec.specs.Degrees.{are_digits, whole, fraction, before_point, unsigned_degrees}
-use Rattle.csv.specs.Records.{field_at}
 use Rattle.olr_records.proofs.TestLemmas.{all_weaker}
-
--- past the last field there are no bytes
-pub field_is : (fs : List Field) (k : ℕ) → slice_index_or fs k [] ≡ unwrap_or (field_at fs k) []
-unfolding field_at
-field_is [] k = refl
-field_is (f ∷ fs) zero = refl
-field_is (f ∷ fs) (suc k) = field_is fs k
 
 -- ---- text
 

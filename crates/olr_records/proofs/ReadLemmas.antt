@@ -2,19 +2,26 @@
 use Rattle.olr_records.proofs.Common.{IfOk, degrees, Change, On_map, is_name, number, amount, numbers, nat_abs, Option, Command}
 use Rattle.olr_records.proofs.Common.{IfSome, AllByRecursion, has_degrees_text, value_or_fault, set_line_record, are_attributes}
 use Rattle.olr_records.proofs.Common.{if◌then◌else◌, line_between, is_named_path, is_longitude, degrees-whole, slice_index_or}
-use Rattle.olr_records.proofs.Common.{⊤, ◌≡◌, ℕ, ℤ, true, List, [], ◌∷◌, Some, None, Ok, Err, refl, ◌&&◌, pos, ◌%◌, sym, ap}
+use Rattle.olr_records.proofs.Common.{⊤, ◌≡◌, ℕ, ℤ, true, List, [], ◌∷◌, Some, None, Ok, Err, refl, ◌&&◌, pos, ◌%◌, sym}
 use Rattle.olr_records.proofs.Common.{list_all, nat_tests, is_coord, Move_node, Drop_node, Drop_line, Drop_path, ◌⊛◌, is_number}
 use Rattle.olr_records.proofs.Common.{and_parts, eq-eqb, coordinate, attributes, whole_line, has_record, are_coords, Set_margin}
 use Rattle.olr_records.proofs.Common.{Coord, Field, max32, place, point, shape, unit7, IsTrue, length, nat_le, negsuc, digits}
 use Rattle.olr_records.proofs.Common.{ShapePoint, node_fields, node_record, line_record, path_fields, is_latitude, Show_margin}
 use Rattle.olr_records.proofs.Common.{Line, Edit, Path, Make, Read, name, edit, read, class, Bool, false, subst, arith, codes}
-use Rattle.olr_records.proofs.Common.{Add_node, Add_line, Set_line, Add_path, Set_path, is_place, is_point, Recorded, HasCoord}
+use Rattle.olr_records.proofs.Common.{suc, drop, ◌==◌, Add_node, Add_line, Set_line, Add_path, Set_path, is_place, is_point, Recorded, HasCoord}
 use Rattle.std.proofs.lemmas.Result.{IfOk-at_ok, IfOk-weaker}
 use Rattle.olr_commands.specs.State.{Show, Show_node, Show_line, Depends, Report, Dump, Compact, Explain, Begin, Preview}
-use Rattle.olr_commands.specs.State.{Commit, Abort, Ambiguous, HasCoords, same_name}
-use Rattle.olr_commands.proofs.NameLemmas.{same_is}
+use Rattle.olr_commands.specs.State.{Commit, Abort, Ambiguous, HasCoords}
+use Rattle.olr_input.specs.RecordWords.{words, word_in, word_of}
+use Rattle.olr_input.specs.StoredLines.{effect_by, word_effect}
+use Rattle.olr_input.specs.declared.record.Word.{Word}
+use Rattle.olr_input.specs.declared.unstored.Effect.{Effect}
+use Rattle.olr_input.specs.declared.unstored.Effect.TheVariants as effect
+use Rattle.olr_input.specs.declared.record.Word.TheVariants as word
+use Rattle.olr_input.proofs.RecordWords.{same_text}
+use Rattle.std.specs.Str.{bytes_eq}
 use Rattle.olr_coords.specs.Bounds.{is_degrees}
-use Rattle.olr_records.specs.Records.{longitude, latitude, one, none, path_record, forms, read_by, depends_record}
+use Rattle.olr_records.specs.Records.{longitude, latitude, one, none, path_record, read_as, depends_record}
 use Rattle.olr_records.specs.Records.{ambiguous_record, margin_record}
 use Rattle.olr_records.proofs.TestLemmas.{all_weaker, ◌also◌}
 use Rattle.olr_records.proofs.FieldLemmas.{Plain, AllPlain, digits_plain, name_plain, place_plain}
@@ -231,23 +238,35 @@ path_fields_pass fs = tt
 
 -- ---- commands
 
--- what is known of the fields of a command
-abbrev pub KnownFields : List Field → Command → Type 0
-KnownFields fs (Make x) = AllPlain fs
-KnownFields fs Begin = AllPlain fs
-KnownFields fs (Commit n) = AllPlain fs
-KnownFields fs Report = fs ≡ codes "report" ∷ []
-KnownFields fs (Explain text) = fs ≡ codes "explain" ∷ text ∷ []
-KnownFields fs c = ⊤
+-- what is known of the fields of a command, and of their word
+abbrev pub KnownFields : Word → List Field → Command → Type 0
+KnownFields k fs (Make x) = AllPlain fs
+KnownFields k fs Begin = AllPlain fs
+KnownFields k fs (Commit n) = AllPlain fs
+KnownFields k fs Report = (k ≡ word.Report) × (length fs ≡ 1)
+KnownFields k fs (Explain text) = (k ≡ word.Explain) × (length fs ≡ 2)
+KnownFields k fs c = ⊤
 
--- what is known of a word, the fields after it, and the command that they are read as
-abbrev Fits : Field → List Field → Command → Type 0
-Fits w fs c = Recorded c × KnownFields (w ∷ fs) c
+-- what a log makes of an accepted command
+abbrev pub effect_for : Command → Effect
+effect_for (Make x) = effect.Change
+effect_for Begin = effect.Begin
+effect_for (Commit count) = effect.Commit
+effect_for Abort = effect.Abort
+effect_for Compact = effect.Compact
+effect_for _ = effect.Nothing
 
-edit_fits : (w : Field) (r : List Field → Read Edit) → Plain w → ((fs : List Field) → IfOk (r fs) (EditOf fs)) →
-    (fs : List Field) → IfOk (edit (r fs)) (Fits w fs)
-edit_fits w r p h fs =
-    given (Fits w fs) (EditOf fs) (Ok (λ x. Make (On_map x))) (r fs) (h fs) (λ e k. (k.0, (p, k.1)))
+-- what is known of a word, its text, the fields after it, and the command that they are read as
+abbrev Fits : Word → Field → List Field → Command → Type 0
+Fits k w fs c = Recorded c × KnownFields k (w ∷ fs) c × (effect_by k (suc (length fs) == 1) ≡ effect_for c)
+
+abbrev IsChange : Word → Type 0
+IsChange k = (alone : Bool) → effect_by k alone ≡ effect.Change
+
+edit_fits : (k : Word) (w : Field) (r : List Field → Read Edit) → Plain w → IsChange k → ((fs : List Field) → IfOk (r fs) (EditOf fs)) →
+    (fs : List Field) → IfOk (edit (r fs)) (Fits k w fs)
+edit_fits k w r p is h fs =
+    given (Fits k w fs) (EditOf fs) (Ok (λ x. Make (On_map x))) (r fs) (h fs) (λ e m. (m.0, (p, m.1), is _))
 
 any_passes : {A : Type 0} (x : Read A) → IfOk x (λ _. ⊤)
 any_passes (Ok a) = tt
@@ -258,10 +277,6 @@ few n = value_or_fault (nat_le n 10000) n
 
 -- commands of whose values nothing is known
 module _ (P : List Field → Command → Type 0) where
-  pub all_made : {A : Type 0} (g : A → Command) (r : List Field → Read A) → ((fs : List Field) (a : A) → P fs (g a)) →
-      (fs : List Field) → IfOk (Ok g ⊛ r fs) (P fs)
-  all_made g r h fs = given (P fs) (λ _. ⊤) (Ok g) (r fs) (any_passes (r fs)) (λ a _. h fs a)
-
   pub all_asked : {A : Type 0} (g : A → Command) (r : Field → Read A) → ((f : Field) (a : A) → P (f ∷ []) (g a)) →
       (fs : List Field) → IfOk (one g r fs) (P fs)
   all_asked g r h fs = one_passes P (λ _ _. ⊤) g r (λ f. any_passes (r f)) (λ f a _. h f a) fs
@@ -282,96 +297,101 @@ module _ (P : List Field → Command → Type 0) where
   all_ambiguous h [] = h [] None
   all_ambiguous h (f ∷ fs) = all_asked (λ n. Ambiguous (Some n)) name (λ g n. h (g ∷ []) (Some n)) (f ∷ fs)
 
-path_fits : (w : Field) (g : List ℕ → Path → Change) → Plain w →
+path_fits : (k : Word) (w : Field) (g : List ℕ → Path → Change) → Plain w → IsChange k →
     ((n : List ℕ) (p : Path) → IsTrue (is_named_path n p) → IsTrue (has_record (g n p))) → (fs : List Field) →
-    IfOk (path_record g fs) (Fits w fs)
-path_fits w g p h fs =
-    given (Fits w fs) (PathOf fs) (Ok (λ q. Make (g q.0 q.1))) (path_fields fs) (path_fields_pass fs)
-    (λ q k. (h q.0 q.1 k.0, (p, k.1)))
+    IfOk (path_record g fs) (Fits k w fs)
+path_fits k w g p is h fs =
+    given (Fits k w fs) (PathOf fs) (Ok (λ q. Make (g q.0 q.1))) (path_fields fs) (path_fields_pass fs)
+    (λ q m. (h q.0 q.1 m.0, (p, m.1), is _))
 
-margin_fits : (w : Field) → Plain w → (fs : List Field) → IfOk (margin_record fs) (Fits w fs)
-margin_fits w p (r ∷ c ∷ []) =
-    two (Fits w (r ∷ c ∷ [])) (AtMost 1000 r) (AtMost 7 c) (Ok (λ r c. Make (Set_margin (record { routes = r; classes = c }))))
-    (digits 0 1000 r) (class c) (at_most 1000 r) (at_most 7 c) (λ r h c k. ((λ i. h.0 i && k.0 i), (p, (h.1, (k.1, tt)))))
-margin_fits w p fs = tt
+margin_fits : (fs : List Field) → IfOk (margin_record fs) (Fits word.SetMargin (codes "margin") fs)
+margin_fits (r ∷ c ∷ []) =
+    two (Fits word.SetMargin (codes "margin") (r ∷ c ∷ [])) (AtMost 1000 r) (AtMost 7 c) (Ok (λ r c. Make (Set_margin (record { routes = r; classes = c }))))
+    (digits 0 1000 r) (class c) (at_most 1000 r) (at_most 7 c) (λ r h c k. ((λ i. h.0 i && k.0 i), (refl, (h.1, (k.1, tt))), refl))
+margin_fits fs = tt
 
 -- ---- what a record is read as
 
-module _ (P : Field → List Field → Command → Type 0) where
-  chosen : (b : Bool) (v w : Field) (fs : List Field) (x y : Read Command) → same_name w v ≡ b → IfOk x (P v fs) →
-      IfOk y (P w fs) → IfOk (if b then x else y) (P w fs)
-  chosen true v w fs x y e h g = subst (λ (u : Field). IfOk x (P u fs)) (sym (same_is w v e)) h
-  chosen false v w fs x y e h g = g
+module _ (P : Word → Field → List Field → Command → Type 0) where
+  abbrev pub AllHold : List (Field × Word) → Type 0
+  AllHold ws = AllByRecursion (λ r. (fs : List Field) → IfOk (read_as r.1 fs) (P r.1 r.0 fs)) ws
 
-  by_forms : (rs : List (Field × (List Field → Read Command))) →
-      AllByRecursion (λ r. (fs : List Field) → IfOk (r.1 fs) (P r.0 fs)) rs → (w : Field) (fs : List Field) →
-      IfOk (read_by rs w fs) (P w fs)
-  by_forms [] h w fs = tt
-  by_forms (r ∷ rs) h w fs =
-      chosen (same_name w r.0) r.0 w fs (r.1 fs) (read_by rs w fs) refl (h.0 fs) (by_forms rs h.1 w fs)
+  chosen : (b : Bool) (v w : Field) (k l : Word) (fs : List Field) → bytes_eq w v ≡ b → IfOk (read_as k fs) (P k v fs) →
+      IfOk (read_as l fs) (P l w fs) → IfOk (read_as (if b then k else l) fs) (P (if b then k else l) w fs)
+  chosen true v w k l fs e h g = subst (λ (u : Field). IfOk (read_as k fs) (P k u fs)) (sym (same_text w v e)) h
+  chosen false v w k l fs e h g = g
 
-  -- what holds of the commands of each form, with its word, holds of what is read
-  pub of_forms : AllByRecursion (λ r. (fs : List Field) → IfOk (r.1 fs) (P r.0 fs)) forms → (w : Field)
-      (fs : List Field) (c : Command) → read (w ∷ fs) ≡ Ok c → P w fs c
-  of_forms h w fs c e = IfOk-at_ok (P w fs) e (by_forms forms h w fs)
+  by_words : (ws : List (Field × Word)) → AllHold ws → (w : Field) (fs : List Field) →
+      IfOk (read_as (word_in ws w) fs) (P (word_in ws w) w fs)
+  by_words [] h w fs = tt
+  by_words (r ∷ rs) h w fs =
+      chosen (bytes_eq w r.0) r.0 w r.1 (word_in rs w) fs refl (h.0 fs) (by_words rs h.1 w fs)
 
-forms_fit : AllByRecursion (λ r. (fs : List Field) → IfOk (r.1 fs) (Fits r.0 fs)) forms
-forms_fit =
-    edit_fits (codes "node") (node_record Add_node) refl (node_record_passes Add_node (λ n c h. h))
-    also edit_fits (codes "move") (node_record Move_node) refl (node_record_passes Move_node (λ n c h. h))
-    also edit_fits (codes "drop-node") (one Drop_node number) refl
-    (one_passes EditOf (Ranged 1 max32) Drop_node number (ranged 1 max32) (λ f n h. (h.0, (h.1, tt))))
-    also edit_fits (codes "line") line_record refl line_record_passes
-    also edit_fits (codes "set-line") set_line_record refl set_line_record_passes
-    also edit_fits (codes "drop-line") (one Drop_line number) refl
+words_fit : AllHold Fits words
+words_fit =
+    edit_fits word.Line (codes "line") line_record refl (λ _. refl) line_record_passes
+    also edit_fits word.Node (codes "node") (node_record Add_node) refl (λ _. refl) (node_record_passes Add_node (λ n c h. h))
+    also edit_fits word.SetLine (codes "set-line") set_line_record refl (λ _. refl) set_line_record_passes
+    also edit_fits word.Move (codes "move") (node_record Move_node) refl (λ _. refl) (node_record_passes Move_node (λ n c h. h))
+    also edit_fits word.DropLine (codes "drop-line") (one Drop_line number) refl (λ _. refl)
     (one_passes EditOf (Ranged 1 max32) Drop_line number (ranged 1 max32) (λ f n h. (h.0, (h.1, tt))))
-    also path_fits (codes "path") Add_path refl (λ n p h. h)
-    also one_passes (Fits (codes "explain")) (λ f g. f ≡ g) Explain (λ f. Ok f) (λ f. refl)
-    (λ f g h. (tt, ap (λ (x : Field). codes "explain" ∷ x ∷ []) h))
-    also path_fits (codes "repath") Set_path refl (λ n p h. h)
-    also one_passes (Fits (codes "drop-path")) NameOf (λ n. Make (Drop_path n)) name name_of (λ f n h. (h.0, (refl, (h.1, tt))))
-    also all_alone (Fits (codes "begin")) Begin (tt, (refl, tt))
-    also one_passes (Fits (codes "commit")) (AtMost max32) Commit amount (at_most max32) (λ f n h. (tt, (refl, (h.1, tt))))
-    also all_alone (Fits (codes "abort")) Abort (tt, tt)
-    also all_asked (Fits (codes "show")) Show name (λ f n. (tt, tt))
-    also all_asked (Fits (codes "show-node")) Show_node number (λ f n. (tt, tt))
-    also all_asked (Fits (codes "show-line")) Show_line number (λ f n. (tt, tt))
-    also all_depend (Fits (codes "depends")) (λ fs nodes. (tt, tt))
-    also all_alone (Fits (codes "report")) Report (tt, refl)
-    also all_alone (Fits (codes "dump")) Dump (tt, tt)
-    also all_alone (Fits (codes "compact")) Compact (tt, tt)
-    also all_alone (Fits (codes "preview")) Preview (tt, tt)
-    also all_ambiguous (Fits (codes "ambiguous")) (λ fs n. (tt, tt))
-    also margin_fits (codes "margin") refl
-    also all_alone (Fits (codes "show-margin")) Show_margin (tt, tt)
+    also edit_fits word.DropNode (codes "drop-node") (one Drop_node number) refl (λ _. refl)
+    (one_passes EditOf (Ranged 1 max32) Drop_node number (ranged 1 max32) (λ f n h. (h.0, (h.1, tt))))
+    also path_fits word.Path (codes "path") Add_path refl (λ _. refl) (λ n p h. h)
+    also all_asked (Fits word.Explain (codes "explain")) Explain (λ f. Ok f) (λ f n. (tt, (refl, refl), refl))
+    also all_alone (Fits word.Begin (codes "begin")) Begin (tt, (refl, tt), refl)
+    also all_alone (Fits word.Abort (codes "abort")) Abort (tt, tt, refl)
+    also path_fits word.SetPath (codes "repath") Set_path refl (λ _. refl) (λ n p h. h)
+    also one_passes (Fits word.Commit (codes "commit")) (AtMost max32) Commit amount (at_most max32) (λ f n h. (tt, (refl, (h.1, tt)), refl))
+    also one_passes (Fits word.DropPath (codes "drop-path")) NameOf (λ n. Make (Drop_path n)) name name_of
+    (λ f n h. (h.0, (refl, (h.1, tt)), refl))
+    also all_asked (Fits word.Show (codes "show")) Show name (λ f n. (tt, tt, refl))
+    also all_asked (Fits word.ShowNode (codes "show-node")) Show_node number (λ f n. (tt, tt, refl))
+    also all_asked (Fits word.ShowLine (codes "show-line")) Show_line number (λ f n. (tt, tt, refl))
+    also all_depend (Fits word.Depends (codes "depends")) (λ fs nodes. (tt, tt, refl))
+    also all_alone (Fits word.Report (codes "report")) Report (tt, (refl, refl), refl)
+    also all_alone (Fits word.Dump (codes "dump")) Dump (tt, tt, refl)
+    also all_alone (Fits word.Compact (codes "compact")) Compact (tt, tt, refl)
+    also all_alone (Fits word.Preview (codes "preview")) Preview (tt, tt, refl)
+    also all_ambiguous (Fits word.Ambiguous (codes "ambiguous")) (λ fs n. (tt, tt, refl))
+    also margin_fits
+    also all_alone (Fits word.ShowMargin (codes "show-margin")) Show_margin (tt, tt, refl)
     also tt
 
-fits : (w : Field) (fs : List Field) (c : Command) → read (w ∷ fs) ≡ Ok c → Fits w fs c
-fits = of_forms Fits forms_fit
+pub read_is : (fs : List Field) → read fs ≡ read_as (word_of fs) (drop 1 fs)
+read_is [] = refl
+read_is (f ∷ fs) = refl
+
+fits : (w : Field) (fs : List Field) (c : Command) → read (w ∷ fs) ≡ Ok c → Fits (word_in words w) w fs c
+fits w fs c e = IfOk-at_ok (Fits (word_in words w) w fs) e (by_words Fits words words_fit w fs)
 
 pub read_recorded : (fields : List Field) (c : Command) → read fields ≡ Ok c → Recorded c
 read_recorded [] c e = absurd cc
 read_recorded (w ∷ fs) c e = (fits w fs c e).0
 
-pub known_fields : (fields : List Field) (c : Command) → read fields ≡ Ok c → KnownFields fields c
+pub known_fields : (fields : List Field) (c : Command) → read fields ≡ Ok c → KnownFields (word_of fields) fields c
 known_fields [] c e = absurd cc
 known_fields (w ∷ fs) c e = (fits w fs c e).1
 
+pub effect_read : (w : Field) (fs : List Field) (c : Command) → read (w ∷ fs) ≡ Ok c → word_effect (w ∷ fs) ≡ effect_for c
+effect_read w fs c e = (fits w fs c e).2
+
 -- a record that decodes to `report` is this word alone
-pub report_record : (fs : List Field) → length fs ≡ 1 → slice_index_or fs 0 [] ≡ codes "report" → read fs ≡ Ok Report
-report_record (w ∷ []) one e = let is : w ≡ codes "report" = e in rw is refl
+pub report_record : (fs : List Field) → length fs ≡ 1 → word_of fs ≡ word.Report → read fs ≡ Ok Report
+report_record (w ∷ []) one e = rw e refl
 report_record fs one e = absurd (omega arith)
 
-pub report_is : (fs : List Field) → read fs ≡ Ok Report → fs ≡ codes "report" ∷ []
+pub report_is : (fs : List Field) → read fs ≡ Ok Report → (word_of fs ≡ word.Report) × (length fs ≡ 1)
 report_is fs e = known_fields fs Report e
 
 -- one that decodes to `explain` is this word and the text
-pub explain_record : (fs : List Field) → length fs ≡ 2 → slice_index_or fs 0 [] ≡ codes "explain" →
+pub explain_record : (fs : List Field) → length fs ≡ 2 → word_of fs ≡ word.Explain →
     read fs ≡ Ok (Explain (slice_index_or fs 1 []))
-explain_record (w ∷ t ∷ []) two e = let is : w ≡ codes "explain" = e in rw is refl
+explain_record (w ∷ t ∷ []) two e = rw e refl
 explain_record fs two e = absurd (omega arith)
 
-pub explain_is : (fs : List Field) (text : Field) → read fs ≡ Ok (Explain text) → fs ≡ codes "explain" ∷ text ∷ []
+pub explain_is : (fs : List Field) (text : Field) → read fs ≡ Ok (Explain text) →
+    (word_of fs ≡ word.Explain) × (length fs ≡ 2)
 explain_is fs text e = known_fields fs (Explain text) e
 
 -- ---- its coordinates are in range

@@ -5,15 +5,18 @@
 --     read fields      the command of the record
 --     HoldsList c, TakesMemory fields      the commands and the records whose reading takes memory
 use Rattle.std.specs.Prelude.{ℕ, ◌<◌, Bool, ◌&&◌, List, [], ◌∷◌, length, nat_le, ℤ, Option, Some, None}
-use Rattle.std.specs.Prelude.{Result, Ok, Err, IsOkAnd, codes, if◌then◌else◌, ⊤}
+use Rattle.std.specs.Prelude.{Result, Ok, Err, IsOkAnd, if◌then◌else◌, ⊤}
 use Rattle.olr_spec.specs.Coordinates.{Coord, is_longitude, is_latitude}
 use Rattle.olr_spec.specs.Degrees.{are_digits, digits_value, degrees}
 use Rattle.olr_spec.specs.Map.{ShapePoint, Line, Edit, Add_node, Move_node, Drop_node, Add_line, Set_line, Drop_line}
 use Rattle.olr_spec.specs.Extension.{Path}
 use Rattle.olr_commands.specs.Recordable.{is_name}
-use Rattle.olr_commands.specs.State.{same_name, Fault, Syntax, Range, Change, On_map, Add_path, Set_path, Drop_path}
+use Rattle.olr_commands.specs.State.{Fault, Syntax, Range, Change, On_map, Add_path, Set_path, Drop_path}
 use Rattle.olr_commands.specs.State.{Set_margin, Command, Make, Show, Show_node, Show_line, Depends, Report, Dump}
 use Rattle.olr_commands.specs.State.{Compact, Explain, Begin, Preview, Commit, Abort, Ambiguous, Show_margin}
+use Rattle.olr_input.specs.RecordWords.{word_in, words}
+use Rattle.olr_input.specs.declared.record.Word.{Word}
+use Rattle.olr_input.specs.declared.record.Word.TheVariants as word
 
 -- the fields of a record, or one field, by their bytes
 abbrev pub Field : Type 0
@@ -164,42 +167,37 @@ margin_record (routes ∷ classes ∷ []) =
     Ok (λ r c. Make (Set_margin (record { routes = r; classes = c }))) ⊛ digits 0 1000 routes ⊛ class classes
 margin_record _ = Err Bad_form
 
--- by the first field, how the fields after it are read
-abbrev pub forms : List (Field × (List Field → Read Command))
-forms =
-    (codes "node", λ fs. edit (node_record Add_node fs))
-    ∷ (codes "move", λ fs. edit (node_record Move_node fs))
-    ∷ (codes "drop-node", λ fs. edit (one Drop_node number fs))
-    ∷ (codes "line", λ fs. edit (line_record fs))
-    ∷ (codes "set-line", λ fs. edit (set_line_record fs))
-    ∷ (codes "drop-line", λ fs. edit (one Drop_line number fs))
-    ∷ (codes "path", λ fs. path_record Add_path fs)
-    ∷ (codes "explain", λ fs. one Explain (λ f. Ok f) fs)
-    ∷ (codes "repath", λ fs. path_record Set_path fs)
-    ∷ (codes "drop-path", λ fs. one (λ n. Make (Drop_path n)) name fs)
-    ∷ (codes "begin", λ fs. none Begin fs)
-    ∷ (codes "commit", λ fs. one Commit amount fs)
-    ∷ (codes "abort", λ fs. none Abort fs)
-    ∷ (codes "show", λ fs. one Show name fs)
-    ∷ (codes "show-node", λ fs. one Show_node number fs)
-    ∷ (codes "show-line", λ fs. one Show_line number fs)
-    ∷ (codes "depends", λ fs. depends_record fs)
-    ∷ (codes "report", λ fs. none Report fs)
-    ∷ (codes "dump", λ fs. none Dump fs)
-    ∷ (codes "compact", λ fs. none Compact fs)
-    ∷ (codes "preview", λ fs. none Preview fs)
-    ∷ (codes "ambiguous", λ fs. ambiguous_record fs)
-    ∷ (codes "margin", λ fs. margin_record fs)
-    ∷ (codes "show-margin", λ fs. none Show_margin fs)
-    ∷ []
-
-abbrev pub read_by : List (Field × (List Field → Read Command)) → Field → List Field → Read Command
-read_by [] word fs = Err Bad_form
-read_by (r ∷ rs) word fs = if same_name word r.0 then r.1 fs else read_by rs word fs
+-- by its word, how the fields after it are read
+abbrev pub read_as : Word → List Field → Read Command
+read_as word.Line fs = edit (line_record fs)
+read_as word.Node fs = edit (node_record Add_node fs)
+read_as word.SetLine fs = edit (set_line_record fs)
+read_as word.Move fs = edit (node_record Move_node fs)
+read_as word.DropLine fs = edit (one Drop_line number fs)
+read_as word.DropNode fs = edit (one Drop_node number fs)
+read_as word.Path fs = path_record Add_path fs
+read_as word.Explain fs = one Explain (λ f. Ok f) fs
+read_as word.Begin fs = none Begin fs
+read_as word.Abort fs = none Abort fs
+read_as word.SetPath fs = path_record Set_path fs
+read_as word.Commit fs = one Commit amount fs
+read_as word.DropPath fs = one (λ n. Make (Drop_path n)) name fs
+read_as word.Show fs = one Show name fs
+read_as word.ShowNode fs = one Show_node number fs
+read_as word.ShowLine fs = one Show_line number fs
+read_as word.Depends fs = depends_record fs
+read_as word.Report fs = none Report fs
+read_as word.Dump fs = none Dump fs
+read_as word.Compact fs = none Compact fs
+read_as word.Preview fs = none Preview fs
+read_as word.Ambiguous fs = ambiguous_record fs
+read_as word.SetMargin fs = margin_record fs
+read_as word.ShowMargin fs = none Show_margin fs
+read_as word.Unknown fs = Err Bad_form
 
 abbrev pub read : List Field → Read Command
 read [] = Err Bad_form
-read (word ∷ fs) = read_by forms word fs
+read (f ∷ fs) = read_as (word_in words f) fs
 
 abbrev pub read_fault : ReadFault → Fault
 read_fault Bad_form = Syntax

@@ -6,9 +6,10 @@ ghost use Rattle.olr_records.specs.Records.{Field};
 ghost use Rattle.olr_records.specs.Words.{Gathers};
 
 use crate::faults::ReadFault;
-use crate::fields::{class, field, number, shape_point};
+use crate::fields::{class, number, shape_point};
 use crate::parts::{both, room, with_item};
 use csv::ByteRecord;
+use olr_input::field;
 use olr_model::Shape;
 use std::alloc::Global;
 

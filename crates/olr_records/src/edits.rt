@@ -7,11 +7,12 @@ ghost use Rattle.olr_records.specs.Words.{IsRead, Reads};
 
 use crate::attributes::attributes_at;
 use crate::faults::ReadFault;
-use crate::fields::{coord, field, line_id, node_id, only_field};
+use crate::fields::{coord, line_id, node_id, only_field};
 use crate::parts::both;
 use csv::ByteRecord;
 use olr_commands::Command;
 use olr_coords::Coord;
+use olr_input::field;
 use olr_model::{Edit, Line, NodeId};
 use std::alloc::Global;
 

@@ -13,6 +13,7 @@ use crate::parts::both;
 use csv::ByteRecord;
 use olr_commands::is_name;
 use olr_coords::{Coord, CoordFault, read_degrees, read_digits};
+use olr_input::field;
 use olr_model::{LineId, NodeId, Shape};
 use std::alloc::Global;
 
@@ -24,14 +25,6 @@ const GREATEST_DISTANCE: u32 = 999_999;
 const TOO_GREAT: u64 = 1 << 32;
 /// A number of digits whose value fits 64 bits.
 const FEW_DIGITS: usize = 18;
-
-/// The field at index `k`, or no bytes past the last one.
-#[tactic(auto, using(crate::proofs::FieldLemmas::field_is))]
-pub(crate) fn field(fields: &ByteRecord, k: usize) -> &[u8]
-    ensures { result.now ≡ slice_index_or (fields_of fields.now) k [] }
-{
-    fields.get(k).unwrap_or(&[])
-}
 
 /// The only field after the first.
 pub(crate) fn only_field(fields: &ByteRecord) -> Result<&[u8], ReadFault>

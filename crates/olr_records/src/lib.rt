@@ -14,5 +14,5 @@ mod reply;
 mod texts;
 
 pub use faults::{ReadFault, fault_text, read_fault_text};
-pub use read::{is_report, read_command, text_to_explain};
+pub use read::{is_report, read_command, read_record, text_to_explain};
 pub use reply::{append_count, append_entry, append_reply, dump_text, reply_text};

@@ -7,9 +7,9 @@ ghost use Rattle.olr_records.specs.Records as records;
 ghost use Rattle.olr_records.specs.Words.{Gathers, ReadsBy};
 
 use crate::faults::ReadFault;
-use crate::fields::field;
 use crate::parts::{room, with_item};
 use csv::ByteRecord;
+use olr_input::field;
 use std::alloc::Global;
 
 /// The items of the fields from index `start` on, each read from one field.

@@ -7,12 +7,13 @@ ghost use Rattle.olr_records.specs.Records as records;
 ghost use Rattle.olr_records.specs.Words.{Gathers, IsRead};
 
 use crate::faults::ReadFault;
-use crate::fields::{amount, class, field, line_id, name, number, only_field};
+use crate::fields::{amount, class, line_id, name, number, only_field};
 use crate::lists::items_from;
 use crate::parts::both;
 use csv::ByteRecord;
 use olr_answers::Margin;
 use olr_commands::Command;
+use olr_input::field;
 use olr_model::LineId;
 use std::alloc::Global;
 

@@ -7,10 +7,11 @@ ghost use Rattle.olr_records.specs.Records.{◌⊛◌, Out_of_range};
 ghost use Rattle.olr_records.specs.Words.{Gathers, IsRead};
 
 use crate::faults::ReadFault;
-use crate::fields::{field, line_id, name, node_id, only_field};
+use crate::fields::{line_id, name, node_id, only_field};
 use crate::lists::items_from;
 use csv::ByteRecord;
 use olr_commands::Command;
+use olr_input::field;
 use olr_model::NodeId;
 use std::alloc::Global;
 

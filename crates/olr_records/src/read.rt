@@ -8,128 +8,82 @@ ghost use Rattle.olr_records.specs.Words.{IsRead};
 
 use crate::edits::{add_line, add_node, drop_line, drop_node, move_node, set_line};
 use crate::faults::ReadFault;
-use crate::fields::{amount, field, only_field};
+use crate::fields::{amount, only_field};
 use crate::paths::{add_path, drop_path, margin, set_path, show};
 use crate::questions::{ambiguous, depends, show_line, show_node};
 use csv::ByteRecord;
 use olr_commands::Command;
+use olr_input::{Record, Word, field, word_of};
 use std::alloc::Global;
 
 /// The command that a record decodes to. `Syntax`: the record has the form of no command. `Range`: it has the form of a
 /// command, and a value is out of range; `Syntax` takes precedence, whatever the order of the fields. `Memory`: only
 /// for a record that decodes to a command with a name, nodes, a non-empty text or shape points.
+#[tactic(auto, using(crate::proofs::ReadLemmas::read_is))]
 pub fn read_command(alloc: Global, fields: &ByteRecord) -> Result<Command, ReadFault>
     ensures { IsRead (records.read (fields_of fields.now)) result }
 {
-    if fields.is_empty() {
-        return Err(ReadFault::Syntax);
-    }
-    read_by(alloc, field(fields, 0), fields)
+    read_as(alloc, word_of(fields), fields)
+}
+
+/// The command that a record decodes to, as `read_command` has it, by the word that is known.
+#[tactic(auto, using(crate::proofs::ReadLemmas::read_is))]
+pub fn read_record(alloc: Global, record: &Record) -> Result<Command, ReadFault>
+    ensures { IsRead (records.read (fields_of record.now.fields)) result }
+{
+    read_as(alloc, record.word(), record.fields())
 }
 
 /// The text of a record that decodes to the command `explain`, which isn't copied. None of any other record.
 #[tactic(auto, using(crate::proofs::ReadLemmas::explain_record, crate::proofs::ReadLemmas::explain_is))]
-pub fn text_to_explain(fields: &ByteRecord) -> Option<&[u8]>
-    ensures some { IfSome result (λ text. records.read (fields_of fields.now) ≡ Ok (Explain text.now)) }
-    ensures none { IfNone result ((text : List ℕ) → ¬ (records.read (fields_of fields.now) ≡ Ok (Explain text))) }
+pub fn text_to_explain(record: &Record) -> Option<&[u8]>
+    ensures some { IfSome result (λ text. records.read (fields_of record.now.fields) ≡ Ok (Explain text.now)) }
+    ensures none { IfNone result ((text : List ℕ) → ¬ (records.read (fields_of record.now.fields) ≡ Ok (Explain text))) }
 {
-    if fields.len() == 2 && is(field(fields, 0), b"explain") {
-        Some(field(fields, 1))
-    } else {
-        None
+    match record.word() {
+        Word::Explain if record.fields().len() == 2 => Some(field(record.fields(), 1)),
+        _ => None,
     }
 }
 
 /// Whether a record decodes to the command `report`.
 #[tactic(auto, using(crate::proofs::ReadLemmas::report_record, crate::proofs::ReadLemmas::report_is))]
-pub fn is_report(fields: &ByteRecord) -> bool
-    ensures { IsTrue result ↔ (records.read (fields_of fields.now) ≡ Ok Report) }
+pub fn is_report(record: &Record) -> bool
+    ensures { IsTrue result ↔ (records.read (fields_of record.now.fields) ≡ Ok Report) }
 {
-    fields.len() == 1 && is(field(fields, 0), b"report")
+    matches!(record.word(), Word::Report) && record.fields().len() == 1
 }
 
-/// The command of a record whose first field is this word. The words of edits are tried first, since those of a map are the
-/// most frequent records.
-fn read_by(alloc: Global, word: &[u8], fields: &ByteRecord) -> Result<Command, ReadFault>
-    ensures { IsRead (records.read_by records.forms word.now (drop 1 (fields_of fields.now))) result }
+/// The command of a record with this word.
+fn read_as(alloc: Global, word: Word, fields: &ByteRecord) -> Result<Command, ReadFault>
+    ensures { IsRead (records.read_as word (drop 1 (fields_of fields.now))) result }
 {
-    if is(word, b"line") {
-        add_line(alloc, fields)
-    } else if is(word, b"node") {
-        add_node(fields)
-    } else if is(word, b"set-line") {
-        set_line(alloc, fields)
-    } else if is(word, b"move") {
-        move_node(fields)
-    } else if is(word, b"drop-line") {
-        drop_line(fields)
-    } else if is(word, b"drop-node") {
-        drop_node(fields)
-    } else {
-        read_rarer(alloc, word, fields)
-    }
-}
-
-/// Whether a word is this text, byte by byte: words are short, and `==` of slices is made for longer ones.
-fn is(word: &[u8], text: &[u8]) -> bool
-    ensures { IsTrue result ↔ (word.now ≡ text.now) }
-{
-    word.iter().eq(text)
-}
-
-/// The same, for the words of all other commands. It is not inlined: a function takes room at its start for each result in
-/// it.
-#[inline(never)]
-fn read_rarer(alloc: Global, word: &[u8], fields: &ByteRecord) -> Result<Command, ReadFault>
-    ensures { IsRead (records.read_by (drop 6 records.forms) word.now (drop 1 (fields_of fields.now))) result }
-{
-    if is(word, b"path") {
-        add_path(alloc, fields)
-    } else if is(word, b"explain") {
-        explain(alloc, fields)
-    } else if is(word, b"begin") {
-        single_word(fields, Command::Begin)
-    } else if is(word, b"abort") {
-        single_word(fields, Command::Abort)
-    } else if is(word, b"repath") {
-        set_path(alloc, fields)
-    } else if is(word, b"commit") {
-        commit(fields)
-    } else if is(word, b"drop-path") {
-        drop_path(alloc, fields)
-    } else {
-        read_question(alloc, word, fields)
-    }
-}
-
-/// The same, for the words of questions other than `explain`, and of the margin.
-fn read_question(alloc: Global, word: &[u8], fields: &ByteRecord) -> Result<Command, ReadFault>
-    ensures { IsRead (records.read_by (drop 13 records.forms) word.now (drop 1 (fields_of fields.now))) result }
-{
-    if is(word, b"show") {
-        show(alloc, fields)
-    } else if is(word, b"show-node") {
-        show_node(fields)
-    } else if is(word, b"show-line") {
-        show_line(fields)
-    } else if is(word, b"depends") {
-        depends(alloc, fields)
-    } else if is(word, b"report") {
-        single_word(fields, Command::Report)
-    } else if is(word, b"dump") {
-        single_word(fields, Command::Dump)
-    } else if is(word, b"compact") {
-        single_word(fields, Command::Compact)
-    } else if is(word, b"preview") {
-        single_word(fields, Command::Preview)
-    } else if is(word, b"ambiguous") {
-        ambiguous(alloc, fields)
-    } else if is(word, b"margin") {
-        margin(fields)
-    } else if is(word, b"show-margin") {
-        single_word(fields, Command::ShowMargin)
-    } else {
-        Err(ReadFault::Syntax)
+    match word {
+        Word::Line => add_line(alloc, fields),
+        Word::Node => add_node(fields),
+        Word::SetLine => set_line(alloc, fields),
+        Word::Move => move_node(fields),
+        Word::DropLine => drop_line(fields),
+        Word::DropNode => drop_node(fields),
+        Word::Path => add_path(alloc, fields),
+        Word::Explain => explain(alloc, fields),
+        Word::Begin => single_word(fields, Command::Begin),
+        Word::Abort => single_word(fields, Command::Abort),
+        Word::SetPath => set_path(alloc, fields),
+        Word::Commit => commit(fields),
+        Word::DropPath => drop_path(alloc, fields),
+        Word::Show => show(alloc, fields),
+        Word::ShowNode => show_node(fields),
+        Word::ShowLine => show_line(fields),
+        Word::Depends => depends(alloc, fields),
+        Word::Report => single_word(fields, Command::Report),
+        Word::Dump => single_word(fields, Command::Dump),
+        Word::Compact => single_word(fields, Command::Compact),
+        Word::Preview => single_word(fields, Command::Preview),
+        Word::Ambiguous => ambiguous(alloc, fields),
+        Word::SetMargin => margin(fields),
+        Word::ShowMargin => single_word(fields, Command::ShowMargin),
+        Word::Unknown => Err(ReadFault::Syntax),
     }
 }
 

@@ -11,7 +11,8 @@ use Rattle.olr_input.specs.Gates.{batch, Storing, None_sent, None_ready, All_sto
 use Rattle.olr_input.specs.Gates.{Left_as_it_was, Compacts}
 use Rattle.olr_input.specs.StoredLines.{stored_line, line_if, line_of, concluded}
 use Rattle.olr_run.proofs.Accepting.{leads_join, one_leads}
-use Rattle.olr_run.proofs.Plain.{effect_for, effect_is}
+use Rattle.olr_records.proofs.ReadLemmas.{effect_for}
+use Rattle.olr_run.proofs.Plain.{effect_is}
 use Rattle.olr_run.proofs.Restoring.{holding, make_closed, make_held}
 use Rattle.olr_run.proofs.Dumped.{dump_leads}
 use Rattle.olr_input.specs.declared.journal.Journal as journal

@@ -9,12 +9,11 @@ ghost use Rattle.olr_records.specs.ReplyText.{reply_text};
 ghost use Rattle.olr_input.specs.Sessions.{Given};
 ghost use Rattle.olr_run.specs.Runs.{CarriedOut, IsAnswer, IsReport, answer_text, WritesText, AnswersRecord, AreReplacement, CompactsFrom};
 
-use csv::ByteRecord;
 use olr_commands::{CommandFault, Reply};
-use olr_input::{RunFault, Session};
+use olr_input::{Record, RunFault, Session};
 use olr_records::{
-    append_count, append_entry, append_reply, dump_text, fault_text, is_report, read_command,
-    read_fault_text, text_to_explain,
+    append_count, append_entry, append_reply, dump_text, fault_text, is_report, read_fault_text,
+    read_record, text_to_explain,
 };
 use olr_register::Register;
 use std::alloc::{AllocError, Global};
@@ -30,18 +29,14 @@ fn reply_or_line(answer: Result<Reply, CommandFault>) -> Result<Reply, &'static 
 }
 
 /// Carries out the command of a record, and doesn't copy the text of `explain`. Returns the reply, or the line of the fault.
-fn carry_out(
-    alloc: Global,
-    register: &mut Register,
-    fields: &ByteRecord,
-) -> Result<Reply, &'static str>
-    ensures { CarriedOut register.old (fields_of fields.now) register.new (IsAnswer result) }
+fn carry_out(alloc: Global, register: &mut Register, record: &Record) -> Result<Reply, &'static str>
+    ensures { CarriedOut register.old (fields_of record.now.fields) register.new (IsAnswer result) }
 {
-    if let Some(text) = text_to_explain(fields) {
+    if let Some(text) = text_to_explain(record) {
         register.is_sound();
         return reply_or_line(register.explain(text));
     }
-    match read_command(alloc, fields) {
+    match read_record(alloc, record) {
         Ok(command) => reply_or_line(register.apply(command)),
         Err(fault) => Err(read_fault_text(fault)),
     }
@@ -111,14 +106,14 @@ fn append_report(text: &mut Vec<u8>, register: &Register) -> Result<(), AllocErr
 /// rejected.
 fn write_report<W, S: Session<W>>(
     register: &Register,
-    fields: &ByteRecord,
+    record: &Record,
     text: &mut Vec<u8>,
     session: &mut S,
     output: &mut W,
 ) -> Result<bool, RunFault>
-    requires report { read (fields_of fields.now) ≡ Ok Report }
+    requires report { read (fields_of record.now.fields) ≡ Ok Report }
     requires some { length register.now.state.content.paths ≢ 0 }
-    ensures { AnswersRecord S.happens register.now (fields_of fields.now) register.now (session.old, output.old)
+    ensures { AnswersRecord S.happens register.now (fields_of record.now.fields) register.now (session.old, output.old)
         (session.new, output.new) result }
 {
     text.clear();
@@ -159,17 +154,17 @@ pub fn compact_log<W, S: Session<W>>(register: &Register, session: &mut S)
 pub fn write_outcome<W, S: Session<W>>(
     alloc: Global,
     register: &mut Register,
-    fields: &ByteRecord,
+    record: &Record,
     text: &mut Vec<u8>,
     session: &mut S,
     output: &mut W,
 ) -> Result<bool, RunFault>
-    ensures { AnswersRecord S.happens register.old (fields_of fields.now) register.new (session.old, output.old)
+    ensures { AnswersRecord S.happens register.old (fields_of record.now.fields) register.new (session.old, output.old)
         (session.new, output.new) result }
 {
-    if is_report(fields) && !register.is_empty() {
-        return write_report(register, fields, text, session, output);
+    if is_report(record) && !register.is_empty() {
+        return write_report(register, record, text, session, output);
     }
-    let answer = carry_out(alloc, register, fields);
+    let answer = carry_out(alloc, register, record);
     write_answer(alloc, answer, text, session, output)
 }

@@ -6,8 +6,7 @@ ghost use Rattle.olr_input.specs.Inputs.{input_records};
 ghost use Rattle.olr_run.specs.Runs.{RanIn, CutIn, EndedOn, Records};
 
 use crate::answers::{compact_log, write_outcome};
-use csv::ByteRecord;
-use olr_input::{InMemory, Input, Plain, RunFault, Session, Source, Status};
+use olr_input::{InMemory, Input, Plain, Record, RunFault, Session, Source, Status};
 use olr_register::Register;
 use std::alloc::Global;
 use std::io::{Read, Write};
@@ -18,7 +17,7 @@ const MOST_RECORDS: u64 = 1 << 41;
 /// Buffers for a record and for the text of its answer, reused from record to record.
 #[derive(Drop)]
 pub struct Scratch {
-    fields: ByteRecord,
+    record: Record,
     text: Vec<u8>,
 }
 
@@ -26,7 +25,7 @@ impl Scratch {
     /// Empty buffers. Takes no memory.
     pub fn new(alloc: Global) -> Scratch {
         Scratch {
-            fields: ByteRecord::new(alloc),
+            record: Record::new(alloc),
             text: Vec::new(alloc),
         }
     }
@@ -55,7 +54,7 @@ pub fn run_session<W, S: Session<W>>(
     register.is_sound();
     let mut status = Status::AllAccepted;
     let mut answered: u64 = 0;
-    'records: while session.take(output, &mut scratch.fields)? {
+    'records: while session.take(output, &mut scratch.record)? {
         if answered == MOST_RECORDS {
             return Err(RunFault::TooMany);
         }
@@ -63,7 +62,7 @@ pub fn run_session<W, S: Session<W>>(
         let accepted = write_outcome(
             alloc,
             register,
-            &scratch.fields,
+            &scratch.record,
             &mut scratch.text,
             session,
             output,

@@ -8,13 +8,13 @@ returns-in_err-send_before g c =
     let is : p.0 ≡ fault.Write = p.2 ∙ c.in_err-send_before.ensures.fault in
     rw p.1 (inr ((refl, c.send_before.ensures.passes), is))
 
-pub returns-in_err-next : goal.returns-in_err-next
-returns-in_err-next g c =
+pub returns-in_err-take_from : goal.returns-in_err-take_from
+returns-in_err-take_from g c =
     let gate = c.send_before.new.self in
-    let p = err_from_is_err_and c.from_residual-in_err-next.result c.from_residual-in_err-next.ensures.1 in
+    let p = err_from_is_err_and c.from_residual-in_err-take_from.result c.from_residual-in_err-take_from.ensures.1 in
     let same : Untouched gate gate = record { journal = refl; fault = refl; length = refl } in
     let kept : LostLine gate gate = record { untouched = same; due = refl; waits = refl } in
-    rw p.1 (inl ((gate, c.send_before.ensures.passes, kept), subst IsOfTaking (sym p.2) c.in_err-next.ensures.1))
+    rw p.1 (inl ((gate, c.send_before.ensures.passes, kept), subst IsOfTaking (sym p.2) c.in_err-take_from.ensures.1))
 
 pub returns-in_err-take : goal.returns-in_err-take
 returns-in_err-take g c =
@@ -30,5 +30,5 @@ returns g c =
       c.send_before.new.self,
       c.send_before.ensures.passes,
       record { untouched = took.untouched; due = took.due; waits = took.waiting; effect = took.effect; line = took.line },
-      (rw c.if-not-branch.false at c.in_ok-next.ensures),
+      (rw c.if-not-branch.false at c.in_ok-take_from.ensures),
     )

@@ -1,0 +1,44 @@
+-- Which command a record names.
+--     words      the first field of each command's record
+--     word_in ws field      which of these words a field is
+--     word_of fields      that of a record
+use Rattle.std.specs.Prelude.{ℕ, List, [], ◌∷◌, codes, slice_index_or, if◌then◌else◌}
+use Rattle.std.specs.Str.{bytes_eq}
+use Rattle.olr_input.specs.declared.record.Word.{Word}
+use Rattle.olr_input.specs.declared.record.Word.TheVariants as word
+
+abbrev pub words : List (List ℕ × Word)
+words =
+    (codes "line", word.Line)
+    ∷ (codes "node", word.Node)
+    ∷ (codes "set-line", word.SetLine)
+    ∷ (codes "move", word.Move)
+    ∷ (codes "drop-line", word.DropLine)
+    ∷ (codes "drop-node", word.DropNode)
+    ∷ (codes "path", word.Path)
+    ∷ (codes "explain", word.Explain)
+    ∷ (codes "begin", word.Begin)
+    ∷ (codes "abort", word.Abort)
+    ∷ (codes "repath", word.SetPath)
+    ∷ (codes "commit", word.Commit)
+    ∷ (codes "drop-path", word.DropPath)
+    ∷ (codes "show", word.Show)
+    ∷ (codes "show-node", word.ShowNode)
+    ∷ (codes "show-line", word.ShowLine)
+    ∷ (codes "depends", word.Depends)
+    ∷ (codes "report", word.Report)
+    ∷ (codes "dump", word.Dump)
+    ∷ (codes "compact", word.Compact)
+    ∷ (codes "preview", word.Preview)
+    ∷ (codes "ambiguous", word.Ambiguous)
+    ∷ (codes "margin", word.SetMargin)
+    ∷ (codes "show-margin", word.ShowMargin)
+    ∷ []
+
+abbrev pub word_in : List (List ℕ × Word) → List ℕ → Word
+word_in [] field = word.Unknown
+word_in (w ∷ ws) field = if bytes_eq field w.0 then w.1 else word_in ws field
+
+-- without a field it is that of no command
+abbrev pub word_of : List (List ℕ) → Word
+word_of fields = word_in words (slice_index_or fields 0 [])

@@ -1,0 +1,205 @@
+//! A record, and the command that it names.
+
+ghost use Rattle.std.specs.Prelude.{◌≡◌, [], drop, slice_index_or};
+ghost use Rattle.std.specs.Str.{bytes_eq};
+ghost use Rattle.csv.specs.Records.{fields_of};
+ghost use Rattle.olr_input.specs.RecordWords as words;
+ghost use Rattle.olr_input.specs.Sessions.{TakesLeft};
+
+use crate::ends::RunFault;
+use crate::sources::Source;
+use csv::ByteRecord;
+use std::alloc::Global;
+
+/// Which command a record names, by its first field. What the command asks for is only known once the other fields are read.
+#[derive(Clone, Copy)]
+pub enum Word {
+    /// `line`: adds a line.
+    Line,
+    /// `node`: adds a node.
+    Node,
+    /// `set-line`: gives a line other attributes.
+    SetLine,
+    /// `move`: moves a node.
+    Move,
+    /// `drop-line`: drops a line.
+    DropLine,
+    /// `drop-node`: drops a node.
+    DropNode,
+    /// `path`: adds a path.
+    Path,
+    /// `explain`: asks for the fields of a string.
+    Explain,
+    /// `begin`: opens a batch.
+    Begin,
+    /// `abort`: drops the open batch.
+    Abort,
+    /// `repath`: gives a name another path.
+    SetPath,
+    /// `commit`: accepts the open batch.
+    Commit,
+    /// `drop-path`: drops a path.
+    DropPath,
+    /// `show`: asks for a path's answer.
+    Show,
+    /// `show-node`: asks for a node.
+    ShowNode,
+    /// `show-line`: asks for a line.
+    ShowLine,
+    /// `depends`: asks which paths depend on nodes.
+    Depends,
+    /// `report`: asks for all answers.
+    Report,
+    /// `dump`: asks for all records.
+    Dump,
+    /// `compact`: has the log replaced by the records of what is accepted.
+    Compact,
+    /// `preview`: asks what a commit would answer.
+    Preview,
+    /// `ambiguous`: asks for ambiguities.
+    Ambiguous,
+    /// `margin`: sets the margin.
+    SetMargin,
+    /// `show-margin`: asks for the margin.
+    ShowMargin,
+    /// That of no command, or no field at all.
+    Unknown,
+}
+
+/// Whether a field is this text, byte by byte: words are short, and `==` of slices is made for longer ones.
+fn is(field: &[u8], text: &[u8]) -> bool
+    ensures { result ≡ bytes_eq field.now text.now }
+{
+    field.iter().eq(text)
+}
+
+/// The word that a field is. Those of edits are tried first, since the records of a map are the most frequent.
+fn word_in(field: &[u8]) -> Word
+    ensures { result ≡ words.word_in words.words field.now }
+{
+    if is(field, b"line") {
+        Word::Line
+    } else if is(field, b"node") {
+        Word::Node
+    } else if is(field, b"set-line") {
+        Word::SetLine
+    } else if is(field, b"move") {
+        Word::Move
+    } else if is(field, b"drop-line") {
+        Word::DropLine
+    } else if is(field, b"drop-node") {
+        Word::DropNode
+    } else {
+        rarer_word(field)
+    }
+}
+
+/// The same, for the words of other changes, of batches and of `explain`.
+fn rarer_word(field: &[u8]) -> Word
+    ensures { result ≡ words.word_in (drop 6 words.words) field.now }
+{
+    if is(field, b"path") {
+        Word::Path
+    } else if is(field, b"explain") {
+        Word::Explain
+    } else if is(field, b"begin") {
+        Word::Begin
+    } else if is(field, b"abort") {
+        Word::Abort
+    } else if is(field, b"repath") {
+        Word::SetPath
+    } else if is(field, b"commit") {
+        Word::Commit
+    } else if is(field, b"drop-path") {
+        Word::DropPath
+    } else {
+        question_word(field)
+    }
+}
+
+/// The same, for the words of other questions, and of the margin.
+fn question_word(field: &[u8]) -> Word
+    ensures { result ≡ words.word_in (drop 13 words.words) field.now }
+{
+    if is(field, b"show") {
+        Word::Show
+    } else if is(field, b"show-node") {
+        Word::ShowNode
+    } else if is(field, b"show-line") {
+        Word::ShowLine
+    } else if is(field, b"depends") {
+        Word::Depends
+    } else if is(field, b"report") {
+        Word::Report
+    } else if is(field, b"dump") {
+        Word::Dump
+    } else if is(field, b"compact") {
+        Word::Compact
+    } else if is(field, b"preview") {
+        Word::Preview
+    } else if is(field, b"ambiguous") {
+        Word::Ambiguous
+    } else if is(field, b"margin") {
+        Word::SetMargin
+    } else if is(field, b"show-margin") {
+        Word::ShowMargin
+    } else {
+        Word::Unknown
+    }
+}
+
+/// The field of a record at index `k`, or no bytes past the last one.
+#[tactic(auto, using(crate::proofs::RecordWords::field_is))]
+pub fn field(fields: &ByteRecord, k: usize) -> &[u8]
+    ensures { result.now ≡ slice_index_or (fields_of fields.now) k [] }
+{
+    fields.get(k).unwrap_or(&[])
+}
+
+/// The word of a record.
+pub fn word_of(fields: &ByteRecord) -> Word
+    ensures { result ≡ words.word_of (fields_of fields.now) }
+{
+    word_in(field(fields, 0))
+}
+
+/// A record with its word, which is found once.
+#[derive(Drop)]
+pub struct Record {
+    fields: ByteRecord,
+    word: Word,
+    ghost right: { word ≡ words.word_of (fields_of fields) },
+}
+
+impl Record {
+    /// A record without fields. Takes no memory.
+    pub fn new(alloc: Global) -> Record {
+        Record {
+            fields: ByteRecord::new(alloc),
+            word: Word::Unknown,
+        }
+    }
+
+    /// Its fields, the first of which is its word.
+    pub fn fields(&self) -> &ByteRecord
+        ensures { result.now ≡ self.now.fields }
+    {
+        &self.fields
+    }
+
+    /// Which command it names.
+    pub fn word(&self) -> Word
+        ensures { result ≡ words.word_of (fields_of self.now.fields) }
+    {
+        self.word
+    }
+
+    /// Takes the next record of a source. Returns false if there is none. After a fault it may have any fields.
+    pub(crate) fn take_from<S: Source>(&mut self, source: &mut S) -> Result<bool, RunFault>
+        ensures { TakesLeft (S.left source.old) (S.left source.new) (S.failed source.new) result (fields_of self.new.fields) }
+    {
+        let taken = source.next(&mut self.fields);
+        self.word = word_of(&self.fields);
+        taken
+    }
+}
