@@ -157,6 +157,7 @@ pub fn field(fields: &ByteRecord, k: usize) -> &[u8]
 }
 
 /// The word of a record.
+#[inline(always)]
 pub fn word_of(fields: &ByteRecord) -> Word
     ensures { result ≡ words.word_of (fields_of fields.now) }
 {
@@ -195,6 +196,7 @@ impl Record {
     }
 
     /// Takes the next record of a source. Returns false if there is none. After a fault it may have any fields.
+    #[inline(always)]
     pub(crate) fn take_from<S: Source>(&mut self, source: &mut S) -> Result<bool, RunFault>
         ensures { TakesLeft (S.left source.old) (S.left source.new) (S.failed source.new) result (fields_of self.new.fields) }
     {

@@ -54,6 +54,7 @@ fn too_many(fields: &ByteRecord) -> Result<Command, ReadFault>
 }
 
 /// `depends,NODE[,NODE]*`
+#[inline(never)]
 pub(crate) fn depends(alloc: Global, fields: &ByteRecord) -> Result<Command, ReadFault>
     ensures { IsRead (records.depends_record (drop 1 (fields_of fields.now))) result }
 {
@@ -68,6 +69,7 @@ pub(crate) fn depends(alloc: Global, fields: &ByteRecord) -> Result<Command, Rea
 }
 
 /// `ambiguous[,NAME]`
+#[inline(never)]
 pub(crate) fn ambiguous(alloc: Global, fields: &ByteRecord) -> Result<Command, ReadFault>
     ensures { IsRead (records.ambiguous_record (drop 1 (fields_of fields.now))) result }
 {

@@ -54,7 +54,8 @@ pub fn is_report(record: &Record) -> bool
     matches!(record.word(), Word::Report) && record.fields().len() == 1
 }
 
-/// The command of a record with this word.
+/// The command of a record with this word. Functions for rarer words are not inlined: it would take room at its start for each
+/// value in them.
 fn read_as(alloc: Global, word: Word, fields: &ByteRecord) -> Result<Command, ReadFault>
     ensures { IsRead (records.read_as word (drop 1 (fields_of fields.now))) result }
 {
@@ -98,6 +99,7 @@ fn single_word(fields: &ByteRecord, command: Command) -> Result<Command, ReadFau
 }
 
 /// `explain,TEXT`
+#[inline(never)]
 fn explain(alloc: Global, fields: &ByteRecord) -> Result<Command, ReadFault>
     ensures { IsRead (records.one Explain (λ f. Ok f) (drop 1 (fields_of fields.now))) result }
 {
