@@ -97,14 +97,14 @@ impl<J: Journal + Drop> Gate<J> {
     }
 
     /// Takes the line of a record that will be answered next.
-    pub fn take(&mut self, record: &Record) -> Result<(), AllocError>
+    pub fn take(&mut self, row: &Record) -> Result<(), AllocError>
         ensures untouched { Untouched self.old self.new }
         ensures waiting { waiting self.new.unstored ≡ waiting self.old.unstored }
-        ensures effect { OnOk result (self.new.unstored.effect ≡ effect_of (fields_of record.now.fields)) }
-        ensures line { OnOk result (next_line self.new.unstored ≡ stored_line (fields_of record.now.fields)) }
+        ensures effect { OnOk result (self.new.unstored.effect ≡ effect_of (fields_of row.now.fields)) }
+        ensures line { OnOk result (next_line self.new.unstored ≡ stored_line (fields_of row.now.fields)) }
         ensures due { compaction self.new ≡ compaction self.old }
     {
-        self.unstored.take(record)
+        self.unstored.take(row)
     }
 
     /// The log is not replaced before it has twice its length.

@@ -43,12 +43,12 @@ impl<S: Source + Drop, W: Write + Drop, J: Journal + Drop> Session<Buffered<W>> 
 
     ghost asks = { λ s. gates.asks s.gate };
 
-    fn take(&mut self, output: &mut Buffered<W>, record: &mut Record) -> Result<bool, RunFault> {
+    fn take(&mut self, output: &mut Buffered<W>, row: &mut Record) -> Result<bool, RunFault> {
         self.gate.send_before(self.source.may_wait(), output)?;
-        if !record.take_from(&mut self.source)? {
+        if !row.take_from(&mut self.source)? {
             return Ok(false);
         }
-        self.gate.take(record)?;
+        self.gate.take(row)?;
         Ok(true)
     }
 

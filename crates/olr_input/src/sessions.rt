@@ -20,10 +20,10 @@ pub trait Session<W> {
     /// Whether the records of all that is accepted so far are asked for.
     ghost asks: { Self → Bool };
 
-    /// Takes the next record, which is then in `record`. Returns false if there is none. An output that holds answers
+    /// Takes the next record, which is then in `row`. Returns false if there is none. An output that holds answers
     /// back sends them first, if the source may wait for its input.
-    fn take(&mut self, output: &mut W, record: &mut Record) -> Result<bool, RunFault>
-        ensures { TakesNext happens (self.old, output.old) (self.new, output.new) result (fields_of record.new.fields) };
+    fn take(&mut self, output: &mut W, row: &mut Record) -> Result<bool, RunFault>
+        ensures { TakesNext happens (self.old, output.old) (self.new, output.new) result (fields_of row.new.fields) };
 
     /// Writes the text of an answer, which accepts the record that was taken last or rejects it.
     fn answer(&mut self, output: &mut W, text: &[u8], accepted: bool) -> Result<(), RunFault>
@@ -65,11 +65,11 @@ impl<S: Source + Drop, W: Write> Session<W> for Plain<S> {
 
     ghost asks = { λ _. false };
 
-    fn take(&mut self, output: &mut W, record: &mut Record) -> Result<bool, RunFault> {
+    fn take(&mut self, output: &mut W, row: &mut Record) -> Result<bool, RunFault> {
         if self.source.may_wait() && output.flush().is_err() {
             return Err(RunFault::Write);
         }
-        record.take_from(&mut self.source)
+        row.take_from(&mut self.source)
     }
 
     fn answer(&mut self, output: &mut W, text: &[u8], _accepted: bool) -> Result<(), RunFault> {

@@ -50,11 +50,11 @@ fn is_change(word: Word) -> bool
 }
 
 /// The effect of a record, by its word.
-fn word_effect(record: &Record) -> Effect
-    ensures { result ≡ lines.word_effect (fields_of record.now.fields) }
+fn word_effect(row: &Record) -> Effect
+    ensures { result ≡ lines.word_effect (fields_of row.now.fields) }
 {
-    let alone = record.fields().len() == 1;
-    match record.word() {
+    let alone = row.fields().len() == 1;
+    match row.word() {
         Word::Begin if alone => Effect::Begin,
         Word::Commit if !alone => Effect::Commit,
         Word::Abort => Effect::Abort,
@@ -190,18 +190,18 @@ impl Unstored {
 
     /// Takes the line of a record that will be answered next, in the place of the last one that wasn't. After a failed
     /// allocation it has no line.
-    pub fn take(&mut self, record: &Record) -> Result<(), AllocError>
+    pub fn take(&mut self, row: &Record) -> Result<(), AllocError>
         ensures waiting { waiting self.new ≡ waiting self.old }
-        ensures effect { OnOk result (self.new.effect ≡ lines.effect_of (fields_of record.now.fields)) }
-        ensures line { OnOk result (next_line self.new ≡ lines.stored_line (fields_of record.now.fields)) }
+        ensures effect { OnOk result (self.new.effect ≡ lines.effect_of (fields_of row.now.fields)) }
+        ensures line { OnOk result (next_line self.new ≡ lines.stored_line (fields_of row.now.fields)) }
     {
         self.keep(self.ready, self.held);
-        let effect = word_effect(record);
+        let effect = word_effect(row);
         if !has_line(effect) {
             self.effect = effect;
             return Ok(());
         }
-        if add_line(&mut self.lines, record.fields())? {
+        if add_line(&mut self.lines, row.fields())? {
             self.effect = effect;
         }
         Ok(())

@@ -28,30 +28,30 @@ pub fn read_command(alloc: Global, fields: &ByteRecord) -> Result<Command, ReadF
 
 /// The command that a record decodes to, as `read_command` has it, by the word that is known.
 #[tactic(auto, using(crate::proofs::ReadLemmas::read_is))]
-pub fn read_record(alloc: Global, record: &Record) -> Result<Command, ReadFault>
-    ensures { IsRead (records.read (fields_of record.now.fields)) result }
+pub fn read_record(alloc: Global, row: &Record) -> Result<Command, ReadFault>
+    ensures { IsRead (records.read (fields_of row.now.fields)) result }
 {
-    read_as(alloc, record.word(), record.fields())
+    read_as(alloc, row.word(), row.fields())
 }
 
 /// The text of a record that decodes to the command `explain`, which isn't copied. None of any other record.
 #[tactic(auto, using(crate::proofs::ReadLemmas::explain_record, crate::proofs::ReadLemmas::explain_is))]
-pub fn text_to_explain(record: &Record) -> Option<&[u8]>
-    ensures some { IfSome result (λ text. records.read (fields_of record.now.fields) ≡ Ok (Explain text.now)) }
-    ensures none { IfNone result ((text : List ℕ) → ¬ (records.read (fields_of record.now.fields) ≡ Ok (Explain text))) }
+pub fn text_to_explain(row: &Record) -> Option<&[u8]>
+    ensures some { IfSome result (λ text. records.read (fields_of row.now.fields) ≡ Ok (Explain text.now)) }
+    ensures none { IfNone result ((text : List ℕ) → ¬ (records.read (fields_of row.now.fields) ≡ Ok (Explain text))) }
 {
-    match record.word() {
-        Word::Explain if record.fields().len() == 2 => Some(field(record.fields(), 1)),
+    match row.word() {
+        Word::Explain if row.fields().len() == 2 => Some(field(row.fields(), 1)),
         _ => None,
     }
 }
 
 /// Whether a record decodes to the command `report`.
 #[tactic(auto, using(crate::proofs::ReadLemmas::report_record, crate::proofs::ReadLemmas::report_is))]
-pub fn is_report(record: &Record) -> bool
-    ensures { IsTrue result ↔ (records.read (fields_of record.now.fields) ≡ Ok Report) }
+pub fn is_report(row: &Record) -> bool
+    ensures { IsTrue result ↔ (records.read (fields_of row.now.fields) ≡ Ok Report) }
 {
-    matches!(record.word(), Word::Report) && record.fields().len() == 1
+    matches!(row.word(), Word::Report) && row.fields().len() == 1
 }
 
 /// The command of a record with this word. Functions for rarer words are not inlined: it would take room at its start for each

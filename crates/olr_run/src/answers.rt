@@ -29,14 +29,14 @@ fn reply_or_line(answer: Result<Reply, CommandFault>) -> Result<Reply, &'static 
 }
 
 /// Carries out the command of a record, and doesn't copy the text of `explain`. Returns the reply, or the line of the fault.
-fn carry_out(alloc: Global, register: &mut Register, record: &Record) -> Result<Reply, &'static str>
-    ensures { CarriedOut register.old (fields_of record.now.fields) register.new (IsAnswer result) }
+fn carry_out(alloc: Global, register: &mut Register, row: &Record) -> Result<Reply, &'static str>
+    ensures { CarriedOut register.old (fields_of row.now.fields) register.new (IsAnswer result) }
 {
-    if let Some(text) = text_to_explain(record) {
+    if let Some(text) = text_to_explain(row) {
         register.is_sound();
         return reply_or_line(register.explain(text));
     }
-    match read_record(alloc, record) {
+    match read_record(alloc, row) {
         Ok(command) => reply_or_line(register.apply(command)),
         Err(fault) => Err(read_fault_text(fault)),
     }
@@ -106,14 +106,14 @@ fn append_report(text: &mut Vec<u8>, register: &Register) -> Result<(), AllocErr
 /// rejected.
 fn write_report<W, S: Session<W>>(
     register: &Register,
-    record: &Record,
+    row: &Record,
     text: &mut Vec<u8>,
     session: &mut S,
     output: &mut W,
 ) -> Result<bool, RunFault>
-    requires report { read (fields_of record.now.fields) ≡ Ok Report }
+    requires report { read (fields_of row.now.fields) ≡ Ok Report }
     requires some { length register.now.state.content.paths ≢ 0 }
-    ensures { AnswersRecord S.happens register.now (fields_of record.now.fields) register.now (session.old, output.old)
+    ensures { AnswersRecord S.happens register.now (fields_of row.now.fields) register.now (session.old, output.old)
         (session.new, output.new) result }
 {
     text.clear();
@@ -154,17 +154,17 @@ pub fn compact_log<W, S: Session<W>>(register: &Register, session: &mut S)
 pub fn write_outcome<W, S: Session<W>>(
     alloc: Global,
     register: &mut Register,
-    record: &Record,
+    row: &Record,
     text: &mut Vec<u8>,
     session: &mut S,
     output: &mut W,
 ) -> Result<bool, RunFault>
-    ensures { AnswersRecord S.happens register.old (fields_of record.now.fields) register.new (session.old, output.old)
+    ensures { AnswersRecord S.happens register.old (fields_of row.now.fields) register.new (session.old, output.old)
         (session.new, output.new) result }
 {
-    if is_report(record) && !register.is_empty() {
-        return write_report(register, record, text, session, output);
+    if is_report(row) && !register.is_empty() {
+        return write_report(register, row, text, session, output);
     }
-    let answer = carry_out(alloc, register, record);
+    let answer = carry_out(alloc, register, row);
     write_answer(alloc, answer, text, session, output)
 }

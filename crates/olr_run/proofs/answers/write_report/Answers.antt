@@ -8,7 +8,7 @@ returns-in-Ok g c =
       text = c.as_slice.result.now;
       accepts = true;
       writes = c.write_text.ensures;
-      outcome = reports c.args.register.now (fields_of c.args.record.now.fields) c.as_slice.result.now c.requires.report
+      outcome = reports c.args.register.now (fields_of c.args.row.now.fields) c.as_slice.result.now c.requires.report
           (λ s represents.
           let r = c.in-Ok.ensures s represents in (
             r.0,
@@ -23,6 +23,6 @@ returns-in-Err g c =
       text = c.as_bytes.result.now;
       accepts = false;
       writes = c.write_text-in-Err.ensures;
-      outcome = lacks c.args.register.now (fields_of c.args.record.now.fields) c.as_bytes.result.now c.requires.report c.requires.some
+      outcome = lacks c.args.register.now (fields_of c.args.row.now.fields) c.as_bytes.result.now c.requires.report c.requires.some
           (c.as_bytes.ensures.value ∙ c.fault_text-line.ensures);
     }

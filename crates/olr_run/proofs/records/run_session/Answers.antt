@@ -21,7 +21,7 @@ returns-in_err-take-clause-cut g c =
 
 pub returns-then-answered-eq-MOST_RECORDS-clause-cut : goal.returns-then-answered-eq-MOST_RECORDS-clause-cut
 returns-then-answered-eq-MOST_RECORDS-clause-cut g c =
-    cut_past g.S.Session.happens _ _ _ c.is_sound.ensures _ _ _ _ c.records.invariant.1 _ (fields_of c.take.new.record.fields)
+    cut_past g.S.Session.happens _ _ _ c.is_sound.ensures _ _ _ _ c.records.invariant.1 _ (fields_of c.take.new.row.fields)
     c.if-answered-eq-MOST_RECORDS.true (rw c.if-branch.true at c.in_ok-take.ensures)
 
 pub returns-in_err-accepted-clause-cut : goal.returns-in_err-accepted-clause-cut
@@ -30,13 +30,13 @@ returns-in_err-accepted-clause-cut g c =
     rw p.1
     (rw p.2
     (cut_in_answer g.S.Session.happens _ _ _ c.is_sound.ensures _ _ _ _ c.records.invariant.1 _ _ _
-    (fields_of c.take.new.record.fields) (rw c.if-branch.true at c.in_ok-take.ensures) _ c.in_err-accepted.ensures))
+    (fields_of c.take.new.row.fields) (rw c.if-branch.true at c.in_ok-take.ensures) _ c.in_err-accepted.ensures))
 
 pub returns-then-stop-clause-ran : goal.returns-then-stop-clause-ran
 returns-then-stop-clause-ran g c =
     let d = c.compact_log.ensures in
     ran_stopped g.S.Session.happens _ _ _ c.is_sound.ensures _ _ _ _ c.records.invariant.1 _ _ _
-    (fields_of c.take.new.record.fields) (rw c.if-branch.true at c.in_ok-take.ensures) c.in_ok-accepted.accepted _
+    (fields_of c.take.new.row.fields) (rw c.if-branch.true at c.in_ok-take.ensures) c.in_ok-accepted.accepted _
     c.if-not-accepted.true c.if-stop.true c.in_ok-accepted.ensures (d.0, d.1, d.2 c.write_outcome.new.output)
 
 pub records-preserved-then-not-accepted : goal.records-preserved-then-not-accepted
@@ -46,7 +46,7 @@ records-preserved-then-not-accepted g c =
     let most = c.records.invariant.0 in (
       omega (arith, below, most),
       refused_so_far g.S.Session.happens _ _ _ c.is_sound.ensures _ _ _ _ c.records.invariant.1 _ _ _
-          (fields_of c.take.new.record.fields) (rw c.if-branch.true at c.in_ok-take.ensures) c.in_ok-accepted.accepted _
+          (fields_of c.take.new.row.fields) (rw c.if-branch.true at c.in_ok-take.ensures) c.in_ok-accepted.accepted _
           c.if-not-accepted.true c.if-stop.false c.in_ok-accepted.ensures (d.0, d.1, d.2 c.write_outcome.new.output),
     )
 
@@ -57,6 +57,6 @@ records-preserved g c =
     let most = c.records.invariant.0 in (
       omega (arith, below, most),
       accepted_so_far g.S.Session.happens _ _ _ c.is_sound.ensures _ _ _ _ c.records.invariant.1 _ _ _
-          (fields_of c.take.new.record.fields) (rw c.if-branch.true at c.in_ok-take.ensures) c.in_ok-accepted.accepted _
+          (fields_of c.take.new.row.fields) (rw c.if-branch.true at c.in_ok-take.ensures) c.in_ok-accepted.accepted _
           c.if-not-accepted.false c.in_ok-accepted.ensures (d.0, d.1, d.2 c.write_outcome.new.output),
     )

@@ -10,7 +10,7 @@ keep-requires c = (stays c.args.self.now.right).lines
 pub invariant_of-self-then-branch : goal.invariant_of-self-then-branch
 invariant_of-self-then-branch c =
     let u = c.keep.new.self in
-    let fs = fields_of c.args.record.now.fields in
+    let fs = fields_of c.args.row.now.fields in
     let effect = c.word_effect-effect.result in
     let is : word_effect fs ≡ effect = search rules in
     let stored : has_line effect ≡ true = search rules in
