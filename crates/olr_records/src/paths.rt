@@ -44,7 +44,6 @@ fn line_ids(alloc: Global, fields: &ByteRecord) -> Result<Vec<LineId>, ReadFault
 }
 
 /// `path,NAME,POS,NEG[,LINE]*`
-#[inline(never)]
 pub(crate) fn add_path(alloc: Global, fields: &ByteRecord) -> Result<Command, ReadFault>
     ensures { IsRead (records.path_record Add_path (drop 1 (fields_of fields.now))) result }
 {
@@ -53,7 +52,6 @@ pub(crate) fn add_path(alloc: Global, fields: &ByteRecord) -> Result<Command, Re
 }
 
 /// `repath,NAME,POS,NEG[,LINE]*`
-#[inline(never)]
 pub(crate) fn set_path(alloc: Global, fields: &ByteRecord) -> Result<Command, ReadFault>
     ensures { IsRead (records.path_record Set_path (drop 1 (fields_of fields.now))) result }
 {
@@ -62,7 +60,6 @@ pub(crate) fn set_path(alloc: Global, fields: &ByteRecord) -> Result<Command, Re
 }
 
 /// `drop-path,NAME`
-#[inline(never)]
 pub(crate) fn drop_path(alloc: Global, fields: &ByteRecord) -> Result<Command, ReadFault>
     ensures { IsRead
         (records.one (λ n. Make (Drop_path n)) records.name (drop 1 (fields_of fields.now)))
@@ -73,7 +70,6 @@ pub(crate) fn drop_path(alloc: Global, fields: &ByteRecord) -> Result<Command, R
 }
 
 /// `show,NAME`
-#[inline(never)]
 pub(crate) fn show(alloc: Global, fields: &ByteRecord) -> Result<Command, ReadFault>
     ensures { IsRead (records.one Show records.name (drop 1 (fields_of fields.now))) result }
 {
@@ -82,7 +78,6 @@ pub(crate) fn show(alloc: Global, fields: &ByteRecord) -> Result<Command, ReadFa
 }
 
 /// `margin,ROUTES,CLASSES`
-#[inline(never)]
 pub(crate) fn margin(fields: &ByteRecord) -> Result<Command, ReadFault>
     ensures { IsRead (records.margin_record (drop 1 (fields_of fields.now))) result }
 {

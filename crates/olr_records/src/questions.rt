@@ -54,7 +54,6 @@ fn too_many(fields: &ByteRecord) -> Result<Command, ReadFault>
 }
 
 /// `depends,NODE[,NODE]*`
-#[inline(never)]
 pub(crate) fn depends(alloc: Global, fields: &ByteRecord) -> Result<Command, ReadFault>
     ensures { IsRead (records.depends_record (drop 1 (fields_of fields.now))) result }
 {
@@ -69,7 +68,6 @@ pub(crate) fn depends(alloc: Global, fields: &ByteRecord) -> Result<Command, Rea
 }
 
 /// `ambiguous[,NAME]`
-#[inline(never)]
 pub(crate) fn ambiguous(alloc: Global, fields: &ByteRecord) -> Result<Command, ReadFault>
     ensures { IsRead (records.ambiguous_record (drop 1 (fields_of fields.now))) result }
 {

@@ -54,9 +54,25 @@ pub fn is_report(row: &Record) -> bool
     matches!(row.word(), Word::Report) && row.fields().len() == 1
 }
 
-/// The command of a record with this word. Functions for rarer words are not inlined: it would take room at its start for each
-/// value in them.
+/// The command of a record with this word. Edits, which are the most frequent, are read here, and the rest out of line: a function
+/// takes room at its start for each value in it.
 fn read_as(alloc: Global, word: Word, fields: &ByteRecord) -> Result<Command, ReadFault>
+    ensures { IsRead (records.read_as word (drop 1 (fields_of fields.now))) result }
+{
+    match word {
+        Word::Line => add_line(alloc, fields),
+        Word::Node => add_node(fields),
+        Word::SetLine => set_line(alloc, fields),
+        Word::Move => move_node(fields),
+        Word::DropLine => drop_line(fields),
+        Word::DropNode => drop_node(fields),
+        _ => read_any(alloc, word, fields),
+    }
+}
+
+/// The same, for any word.
+#[inline(never)]
+fn read_any(alloc: Global, word: Word, fields: &ByteRecord) -> Result<Command, ReadFault>
     ensures { IsRead (records.read_as word (drop 1 (fields_of fields.now))) result }
 {
     match word {
@@ -99,7 +115,6 @@ fn single_word(fields: &ByteRecord, command: Command) -> Result<Command, ReadFau
 }
 
 /// `explain,TEXT`
-#[inline(never)]
 fn explain(alloc: Global, fields: &ByteRecord) -> Result<Command, ReadFault>
     ensures { IsRead (records.one Explain (λ f. Ok f) (drop 1 (fields_of fields.now))) result }
 {
