@@ -59,7 +59,6 @@ fn latitudes(windows: &[Window]) -> (i64, i64)
 }
 
 /// Whether a coordinate is in one of these windows. Most are out of the bounds of all latitudes.
-#[tactic(auto, using(crate::proofs::Windows::outside))]
 fn is_in_any(windows: &[Window], latitudes: (i64, i64), place: Coord) -> bool
     requires { Covers latitudes windows.now }
     ensures { result ≡ list_any (λ w. is_in w place) windows.now }

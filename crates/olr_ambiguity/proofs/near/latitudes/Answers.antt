@@ -10,7 +10,9 @@ loop-window-preserved c = λ k d lt.
           (omega (arith, ints, h, w.least), omega (arith, ints, h, w.greatest))
       | inr last ↦
           let here : c.loop-window.window-index ≡ k = omega (arith, lt, last) in
-          let same = get_or_default c.args.windows.now c.loop-window.window-index _ d c.loop-window-test.true ∙ ap (λ n. get_or c.args.windows.now n d) here in
+          let same =
+          get_or_default c.args.windows.now c.loop-window.window-index _ d c.loop-window-test.true
+          ∙ ap (λ n. get_or c.args.windows.now n d) here in
           rw (← same) (w.least.1, w.greatest.1)
     ]
 
