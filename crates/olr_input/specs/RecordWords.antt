@@ -2,7 +2,8 @@
 --     words      the first field of each command's record
 --     word_in ws field      which of these words a field is
 --     word_of fields      that of a record
-use Rattle.std.specs.Prelude.{ℕ, List, [], ◌∷◌, codes, slice_index_or, if◌then◌else◌}
+--     is_edit w      whether it is that of an edit of the map
+use Rattle.std.specs.Prelude.{ℕ, Bool, true, false, List, [], ◌∷◌, codes, slice_index_or, if◌then◌else◌}
 use Rattle.std.specs.Str.{bytes_eq}
 use Rattle.olr_input.specs.declared.record.Word.{Word}
 use Rattle.olr_input.specs.declared.record.Word.TheVariants as word
@@ -42,3 +43,12 @@ word_in (w ∷ ws) field = if bytes_eq field w.0 then w.1 else word_in ws field
 -- without a field it is that of no command
 abbrev pub word_of : List (List ℕ) → Word
 word_of fields = word_in words (slice_index_or fields 0 [])
+
+abbrev pub is_edit : Word → Bool
+is_edit word.Line = true
+is_edit word.Node = true
+is_edit word.SetLine = true
+is_edit word.Move = true
+is_edit word.DropLine = true
+is_edit word.DropNode = true
+is_edit w = false

@@ -8,7 +8,7 @@ use Rattle.std.specs.Prelude.{◌≡◌, ◌≢◌, ◌≤◌, ◌-◌, ◌==◌
 use Rattle.std.specs.Prelude.{◌∷◌, ◌++◌, length, take, drop}
 use Rattle.std.specs.List.{list_all, join_with_byte}
 use Rattle.olr_input.specs.Journals.{is_empty, is_whole, is_whole_from}
-use Rattle.olr_input.specs.RecordWords.{word_of}
+use Rattle.olr_input.specs.RecordWords.{word_of, is_edit}
 use Rattle.olr_input.specs.declared.record.Word.{Word}
 use Rattle.olr_input.specs.declared.record.Word.TheVariants as word
 use Rattle.olr_input.specs.declared.unstored.Effect.{Effect}
@@ -18,17 +18,11 @@ use Rattle.olr_input.specs.declared.unstored.Effect.TheVariants as effect
 
 -- a record with this word changes the map, paths or the margin
 abbrev pub is_change : Word → Bool
-is_change word.Line = true
-is_change word.Node = true
-is_change word.SetLine = true
-is_change word.Move = true
-is_change word.DropNode = true
-is_change word.DropLine = true
 is_change word.Path = true
 is_change word.SetPath = true
 is_change word.DropPath = true
 is_change word.SetMargin = true
-is_change _ = false
+is_change w = is_edit w
 
 -- a line holds no line end
 abbrev pub is_clean_byte : ℕ → Bool

@@ -1,6 +1,7 @@
 //! Commands, decoded from records.
-ghost use Rattle.std.specs.Prelude.{◌≡◌, ◌↔◌, ℕ, List, drop, IsTrue, IfSome, IfNone, Ok};
+ghost use Rattle.std.specs.Prelude.{◌≡◌, ◌↔◌, ℕ, List, drop, false, IsTrue, IfSome, IfNone, Ok};
 ghost use Rattle.csv.specs.Records.{fields_of};
+ghost use Rattle.olr_input.specs.RecordWords.{is_edit};
 ghost use Rattle.olr_commands.specs.State.{Explain, Report, Commit};
 ghost use Rattle.olr_commands.specs.Words.{command_of};
 ghost use Rattle.olr_records.specs.Records as records;
@@ -66,22 +67,17 @@ fn read_as(alloc: Global, word: Word, fields: &ByteRecord) -> Result<Command, Re
         Word::Move => move_node(fields),
         Word::DropLine => drop_line(fields),
         Word::DropNode => drop_node(fields),
-        _ => read_any(alloc, word, fields),
+        _ => read_rarer(alloc, word, fields),
     }
 }
 
-/// The same, for any word.
+/// The same, for a word that is of no edit, so that the last arm is that of `Unknown` alone.
 #[inline(never)]
-fn read_any(alloc: Global, word: Word, fields: &ByteRecord) -> Result<Command, ReadFault>
+fn read_rarer(alloc: Global, word: Word, fields: &ByteRecord) -> Result<Command, ReadFault>
+    requires { is_edit word ≡ false }
     ensures { IsRead (records.read_as word (drop 1 (fields_of fields.now))) result }
 {
     match word {
-        Word::Line => add_line(alloc, fields),
-        Word::Node => add_node(fields),
-        Word::SetLine => set_line(alloc, fields),
-        Word::Move => move_node(fields),
-        Word::DropLine => drop_line(fields),
-        Word::DropNode => drop_node(fields),
         Word::Path => add_path(alloc, fields),
         Word::Explain => explain(alloc, fields),
         Word::Begin => single_word(fields, Command::Begin),
@@ -100,7 +96,7 @@ fn read_any(alloc: Global, word: Word, fields: &ByteRecord) -> Result<Command, R
         Word::Ambiguous => ambiguous(alloc, fields),
         Word::SetMargin => margin(fields),
         Word::ShowMargin => single_word(fields, Command::ShowMargin),
-        Word::Unknown => Err(ReadFault::Syntax),
+        _ => Err(ReadFault::Syntax),
     }
 }
 
