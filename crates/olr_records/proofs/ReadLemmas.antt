@@ -331,6 +331,7 @@ words_fit : AllHold Fits words
 words_fit =
     edit_fits word.Line (codes "line") line_record refl (λ _. refl) line_record_passes
     also edit_fits word.Node (codes "node") (node_record Add_node) refl (λ _. refl) (node_record_passes Add_node (λ n c h. h))
+    also all_asked (Fits word.Explain (codes "explain")) Explain (λ f. Ok f) (λ f n. (tt, (refl, refl), refl))
     also edit_fits word.SetLine (codes "set-line") set_line_record refl (λ _. refl) set_line_record_passes
     also edit_fits word.Move (codes "move") (node_record Move_node) refl (λ _. refl) (node_record_passes Move_node (λ n c h. h))
     also edit_fits word.DropLine (codes "drop-line") (one Drop_line number) refl (λ _. refl)
@@ -338,7 +339,6 @@ words_fit =
     also edit_fits word.DropNode (codes "drop-node") (one Drop_node number) refl (λ _. refl)
     (one_passes EditOf (Ranged 1 max32) Drop_node number (ranged 1 max32) (λ f n h. (h.0, (h.1, tt))))
     also path_fits word.Path (codes "path") Add_path refl (λ _. refl) (λ n p h. h)
-    also all_asked (Fits word.Explain (codes "explain")) Explain (λ f. Ok f) (λ f n. (tt, (refl, refl), refl))
     also all_alone (Fits word.Begin (codes "begin")) Begin (tt, (refl, tt), refl)
     also all_alone (Fits word.Abort (codes "abort")) Abort (tt, tt, refl)
     also path_fits word.SetPath (codes "repath") Set_path refl (λ _. refl) (λ n p h. h)
