@@ -1,8 +1,8 @@
 -- Which lines of records are whole.
 use Rattle.olr_input.proofs.Common.{◌≡◌, ◌∙◌, ◌==◌, ℕ, Bool, true, false, not, List, [], ◌∷◌, ◌++◌, length, refl, sym, ◌≢◌, ap}
-use Rattle.olr_input.proofs.Common.{subst, arith, ◌⊎◌, inl, inr, codes, cases_Bool, and_parts, and_right, both_ways, eqb-true}
+use Rattle.olr_input.proofs.Common.{subst, arith, ◌⊎◌, inl, inr, codes, cases_Bool, and_parts, and_right, both_ways}
 use Rattle.olr_input.proofs.Common.{append-nil, append_assoc, take-take, take_at, join_with_byte, ◌<◌, ◌≤◌, ◌+◌, zero, suc}
-use Rattle.olr_input.proofs.Common.{take, get_or, unwrap_or, Some, None, stays_open, is_empty, is_whole, is_whole_from, IsFront}
+use Rattle.olr_input.proofs.Common.{take, get_or, stays_open, is_empty, is_whole, is_whole_from, IsFront}
 use Rattle.olr_input.proofs.Common.{is_clean, effect_by, word_effect, has_line, line_of, Turns, turned, IsLineFor, Effect}
 use Rattle.std.proofs.Common.{◌&&◌, if◌then◌else◌}
 use Rattle.std.proofs.lemmas.List.{length-append}

@@ -48,7 +48,8 @@ pub(crate) fn remove_front(bytes: &mut Vec<u8>, count: usize)
 const MOST_PENDING: usize = 1 << 16;
 
 impl<W: Write + Drop> Buffered<W> {
-    ghost use Rattle.std.specs.Prelude.{◌++◌, IfErr, OnErr};
+    ghost use Rattle.std.specs.Prelude.{◌++◌, ◌||◌, not, is_ok, false, IsTrue, IfErr, OnErr};
+    ghost use Rattle.olr_input.specs.Journals.{is_empty};
     ghost use Rattle.olr_input.specs.Buffers.{pending, written, Sends};
 
     /// An output to this device. Every byte that it will hold has its place from the start.
@@ -93,6 +94,8 @@ impl<W: Write + Drop> Buffered<W> {
         ensures device { Sends (W.contents self.old.device) (pending self.old) (W.contents self.new.device) (pending self.new) }
         ensures sent { OnOk result (pending self.new ≡ []) }
         ensures fault { IfErr result (λ e. e ≡ RunFault.Write) }
+        ensures failed { self.new.failed ≡ (self.old.failed || not (is_empty (pending self.new))) }
+        ensures closed { IsTrue self.old.failed → (self.new ≡ self.old) × (is_ok result ≡ false) }
     {
         if self.failed {
             return Err(RunFault::Write);

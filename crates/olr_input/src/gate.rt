@@ -229,6 +229,8 @@ impl<J: Journal + Drop> Gate<J> {
         output: &mut Buffered<W>,
     ) -> Result<(), RunFault>
         ensures passes { Passes J.stored J.may_leave W.contents self.old output.old self.new output.new [] }
+        ensures sent { OnOk result (IsTrue waits → pending output.new ≡ []) }
+        ensures stored { OnOk result (IsTrue waits → (ready self.new ≡ []) × (is_closed self.new ≡ false)) }
         ensures fault { IfErr result (λ e. e ≡ RunFault.Write) }
     {
         if !waits {

@@ -176,7 +176,9 @@ pub struct Record {
 
 impl Record {
     /// A record without fields. Takes no memory.
-    pub fn new(alloc: Global) -> Record {
+    pub fn new(alloc: Global) -> Record
+        ensures { fields_of result.fields ≡ [] }
+    {
         Record {
             fields: ByteRecord::new(alloc),
             word: Word::Unknown,
