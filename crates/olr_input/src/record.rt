@@ -1,6 +1,6 @@
 //! A record, and the command that it names.
 
-ghost use Rattle.std.specs.Prelude.{◌≡◌, [], drop, slice_index_or};
+ghost use Rattle.std.specs.Prelude.{◌≡◌, [], slice_index_or};
 ghost use Rattle.std.specs.Str.{bytes_eq};
 ghost use Rattle.csv.specs.Records.{fields_of};
 ghost use Rattle.olr_input.specs.RecordWords as words;
@@ -74,80 +74,45 @@ fn is(field: &[u8], text: &[u8]) -> bool
     field.len() == text.len() && field.iter().eq(text)
 }
 
+/// The word of the first text that a field is.
+macro_rules! word_among {
+    ($field:ident, $($text:literal => $word:expr,)*) => {
+        $(if is($field, $text) { $word } else)* { Word::Unknown }
+    };
+}
+
 /// The word that a field is. `line` and `node`, the most frequent, are tried first; then `explain`, whose answer takes so little
 /// time that finding its word counts.
 fn word_in(field: &[u8]) -> Word
     ensures { result ≡ words.word_in words.words field.now }
 {
-    if is(field, b"line") {
-        Word::Line
-    } else if is(field, b"node") {
-        Word::Node
-    } else if is(field, b"explain") {
-        Word::Explain
-    } else if is(field, b"set-line") {
-        Word::SetLine
-    } else if is(field, b"move") {
-        Word::Move
-    } else if is(field, b"drop-line") {
-        Word::DropLine
-    } else if is(field, b"drop-node") {
-        Word::DropNode
-    } else {
-        rarer_word(field)
-    }
-}
-
-/// The same, for the words of other changes and of batches.
-fn rarer_word(field: &[u8]) -> Word
-    ensures { result ≡ words.word_in (drop 7 words.words) field.now }
-{
-    if is(field, b"path") {
-        Word::Path
-    } else if is(field, b"begin") {
-        Word::Begin
-    } else if is(field, b"abort") {
-        Word::Abort
-    } else if is(field, b"repath") {
-        Word::SetPath
-    } else if is(field, b"commit") {
-        Word::Commit
-    } else if is(field, b"drop-path") {
-        Word::DropPath
-    } else {
-        question_word(field)
-    }
-}
-
-/// The same, for the words of other questions, and of the margin.
-fn question_word(field: &[u8]) -> Word
-    ensures { result ≡ words.word_in (drop 13 words.words) field.now }
-{
-    if is(field, b"show") {
-        Word::Show
-    } else if is(field, b"show-node") {
-        Word::ShowNode
-    } else if is(field, b"show-line") {
-        Word::ShowLine
-    } else if is(field, b"depends") {
-        Word::Depends
-    } else if is(field, b"report") {
-        Word::Report
-    } else if is(field, b"dump") {
-        Word::Dump
-    } else if is(field, b"compact") {
-        Word::Compact
-    } else if is(field, b"preview") {
-        Word::Preview
-    } else if is(field, b"ambiguous") {
-        Word::Ambiguous
-    } else if is(field, b"margin") {
-        Word::SetMargin
-    } else if is(field, b"show-margin") {
-        Word::ShowMargin
-    } else {
-        Word::Unknown
-    }
+    word_among!(
+        field,
+        b"line" => Word::Line,
+        b"node" => Word::Node,
+        b"explain" => Word::Explain,
+        b"set-line" => Word::SetLine,
+        b"move" => Word::Move,
+        b"drop-line" => Word::DropLine,
+        b"drop-node" => Word::DropNode,
+        b"path" => Word::Path,
+        b"begin" => Word::Begin,
+        b"abort" => Word::Abort,
+        b"repath" => Word::SetPath,
+        b"commit" => Word::Commit,
+        b"drop-path" => Word::DropPath,
+        b"show" => Word::Show,
+        b"show-node" => Word::ShowNode,
+        b"show-line" => Word::ShowLine,
+        b"depends" => Word::Depends,
+        b"report" => Word::Report,
+        b"dump" => Word::Dump,
+        b"compact" => Word::Compact,
+        b"preview" => Word::Preview,
+        b"ambiguous" => Word::Ambiguous,
+        b"margin" => Word::SetMargin,
+        b"show-margin" => Word::ShowMargin,
+    )
 }
 
 /// The field of a record at index `k`, or no bytes past the last one.
