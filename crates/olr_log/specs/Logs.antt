@@ -1,5 +1,5 @@
 -- What a log stores, and the texts with which the next run may begin.
-use Rattle.std.specs.Prelude.{ℕ, ◌+◌, ◌-◌, Bool, List, [], take, drop}
+use Rattle.std.specs.Prelude.{ℕ, ◌+◌, ◌-◌, Bool, false, nat_lt, List, [], length, take, drop}
 use Rattle.sqlite_disk.specs.declared.Disk as disk
 use Rattle.olr_log.specs.declared.folder.Folder as folder
 use Rattle.olr_log.specs.declared.log_file.LogFile.{LogFile}
@@ -12,6 +12,11 @@ use Rattle.olr_log.specs.Outcomes.{MayLeave}
 abbrev pub left_over_in : State → List ℕ → List ℕ
 left_over_in (Opened n last len) file = take (last - n) (drop (n + 1) file)
 left_over_in _ file = []
+
+-- an opened log has bytes behind its text, left over or padding: the run before was cut off
+abbrev pub is_padded_in : State → List ℕ → Bool
+is_padded_in (Opened n last len) file = nat_lt (n + 1) (length file)
+is_padded_in _ file = false
 
 module _ {D F : Type 0} {d : disk.Ghosts D} {f : folder.Ghosts F D} where
   abbrev pub stored_of : LogFile D F d f → List ℕ
@@ -34,3 +39,6 @@ module _ {D F : Type 0} {d : disk.Ghosts D} {f : folder.Ghosts F D} where
 
   abbrev pub left_over_of : LogFile D F d f → List ℕ
   left_over_of log = left_over_in log.state (d.seen log.disk)
+
+  abbrev pub is_padded_of : LogFile D F d f → Bool
+  is_padded_of log = is_padded_in log.state (d.seen log.disk)

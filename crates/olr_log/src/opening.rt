@@ -19,7 +19,7 @@ use std::io::Write;
 
 impl<D: Disk + Drop, F: Folder<D>> LogFile<D, F> {
     ghost use Rattle.olr_log.specs.Logs.{stored_of, is_native_of, is_ready};
-    ghost use Rattle.olr_log.specs.Logs.{left_over_of, left_of, is_clean};
+    ghost use Rattle.olr_log.specs.Logs.{left_over_of, left_of, is_clean, is_padded_of};
 
     /// Syncs the file and finds the end of its text. It changes nothing.
     pub fn open(alloc: Global, disk: D, folder: F) -> io::Result<LogFile<D, F>>
@@ -62,7 +62,9 @@ impl<D: Disk + Drop, F: Folder<D>> LogFile<D, F> {
     }
 
     /// Whether an opened file has padding behind its text: the run before was cut off.
-    pub fn is_padded(&self) -> bool {
+    pub fn is_padded(&self) -> bool
+        ensures { is_clean self.now ≡ true → result ≡ is_padded_of self.now }
+    {
         match self.state {
             State::Opened { text_len, len, .. } => len > text_len.saturating_add(1),
             _ => false,
