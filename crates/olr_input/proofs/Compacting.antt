@@ -1,5 +1,5 @@
 -- Records in the place of a log.
-use Rattle.olr_input.proofs.Common.{◌≡◌, ◌∙◌, ◌⊎◌, ◌∷◌, ℕ, true, false, List, [], inl, refl, sym, ap, subst, is_some, ◌&&◌}
+use Rattle.olr_input.proofs.Common.{◌≡◌, ◌∙◌, ◌⊎◌, ◌∷◌, ℕ, true, false, List, [], inl, inr, refl, sym, ap, subst, is_some, ◌&&◌}
 use Rattle.olr_input.proofs.Common.{and_parts, not-true, Untouched, Replacement, is_closed, Only, is_empty, is_whole, Gate}
 use Rattle.std.specs.Prelude.{not}
 use Rattle.olr_input.specs.Gates.{Replaced, Left_as_it_was, Compacts, asks, batch}
@@ -21,13 +21,14 @@ module _ {J : Type 0} (j : journal.Ghosts J) where
   -- the records aren't whole
   pub compacts_broken : (g : Gate J) (records : List ℕ) → is_whole records ≡ false → Compacts j g records g
   compacts_broken g records broken =
-      record { cut = λ c h. inl h; going = λ open_now. (open_now, Left_as_it_was (inl broken) refl (λ only. only) refl); length = refl }
+      record { closes = λ closed. inl closed; cut = λ c h. inl h; going = λ open_now. (open_now, Left_as_it_was (inl broken) refl (λ only. only) refl); length = refl }
 
   -- the log isn't where it was
   pub compacts_closed : (g h : Gate J) (records : List ℕ) → h ≡ record g { fault = h.fault } → is_closed h ≡ true →
-      Compacts j g records h
-  compacts_closed g h records is closed =
+      j.is_lost g.journal → Compacts j g records h
+  compacts_closed g h records is closed lost =
       record {
+        closes = λ closed. inr (g.journal, g.journal, [], inl lost);
         cut = λ c left. inl (subst (λ (x : J). j.may_leave x c) (ap (λ (x : Gate J). x.journal) is) left);
         going = λ open_now. absurd (let never : true ≡ false = sym closed ∙ open_now in cc);
         length = ap (λ (x : Gate J). x.compacted_from) is;
@@ -47,6 +48,7 @@ module _ {J : Type 0} (j : journal.Ghosts J) where
       k.unstored ≡ h.unstored → Compacts j g records k
   compacts_on g h k records a t u =
       record {
+        closes = λ closed. a.closes (ap is_some (sym t.fault) ∙ closed);
         cut = λ c left. a.cut c (subst (λ (x : J). j.may_leave x c) t.journal left);
         going = λ open_now.
             let b = a.going (ap is_some (sym t.fault) ∙ open_now) in (b.0, replacement_on g h k records t.journal u b.1);

@@ -7,8 +7,10 @@
 --     ConcludedBy u accepted v      the record whose line was taken last was accepted or rejected
 --     Compacts j g records h      these records were given, to be stored in the place of the log
 --     PutsOff j g h      they could not be made
+--     Closes j g h      a gate is closed only for what the log met
 --     TookLine g fields h, LostLine g h      the line of a record was taken, or could not be
 --     compaction g      when the log is replaced by the records of what is accepted
+--     IsNew j log least g      a gate before the first record, with this log, which is replaced from this length on
 --     put_off len c      the same after they were given, or could not be: the next time, the log has twice its length
 use Rattle.std.specs.Prelude.{◌≡◌, ◌≢◌, ◌≤◌, ◌*◌, ◌-◌, ◌^◌, ℕ, min, max, nat_le, Bool, true, false, not, ◌&&◌, ◌||◌}
 use Rattle.std.specs.Prelude.{if◌then◌else◌, List, [], ◌++◌, take, length, is_some, Result, Ok, Err, ◌⊎◌}
@@ -72,6 +74,12 @@ first_from len least = if nat_le least len then twice len least else least
 abbrev pub put_off : ℕ → Compaction → Compaction
 put_off len c = record c { is_wanted = false; next_from = twice len c.compacted_from }
 
+pub record IsNew {J : Type 0} (j : journal.Ghosts J) (log : J) (least : ℕ) (g : Gate J) : Type 0 where
+  pub journal : g.journal ≡ log
+  pub none : waiting g.unstored ≡ record { ready = []; batch = [] }
+  pub works : is_closed g ≡ false
+  pub due : compaction g ≡ record { is_wanted = false; next_from = first_from (j.size log) least; compacted_from = least }
+
 -- ---- what passes
 
 pub record Untouched {J : Type 0} (g h : Gate J) : Type 0 where
@@ -128,7 +136,15 @@ pub data Replacement {J : Type 0} (j : journal.Ghosts J) (g : Gate J) (records :
       → (Only (j.stored g.journal) (j.may_leave g.journal) → Only (j.stored h.journal) (j.may_leave h.journal))
       → waiting h.unstored ≡ waiting g.unstored → Replacement j g records h
 
+-- the log was not where it was, or some call on it failed
+abbrev pub HasFailed : {J : Type 0} → journal.Ghosts J → Type 0
+HasFailed {J} j = (a b : J) × (records : List ℕ) × (j.is_lost a ⊎ j.fails a records b ⊎ j.doubts a records b)
+
+abbrev pub Closes : {J : Type 0} → journal.Ghosts J → Gate J → Gate J → Type 0
+Closes j g h = is_closed h ≡ true → (is_closed g ≡ true) ⊎ HasFailed j
+
 pub record Compacts {J : Type 0} (j : journal.Ghosts J) (g : Gate J) (records : List ℕ) (h : Gate J) : Type 0 where
+  pub closes : Closes j g h
   pub cut : (c : List ℕ) → j.may_leave h.journal c → j.may_leave g.journal c ⊎ ((c ≡ records) × (is_closed g ≡ false))
   pub going : is_closed h ≡ false → (is_closed g ≡ false) × Replacement j g records h
   pub length : h.compacted_from ≡ g.compacted_from

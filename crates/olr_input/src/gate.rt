@@ -2,7 +2,7 @@
 
 ghost use Rattle.std.specs.Prelude.{◌≡◌, ℕ, List, [], None, IfErr, OnOk, IsTrue, false, true};
 ghost use Rattle.csv.specs.Records.{fields_of};
-ghost use Rattle.olr_input.specs.Gates.{Storing, Passes, PassesSome, Untouched, SameBatch, ConcludedBy, Compacts};
+ghost use Rattle.olr_input.specs.Gates.{Storing, Passes, PassesSome, Untouched, SameBatch, ConcludedBy, Closes, Compacts};
 ghost use Rattle.olr_input.specs.Gates.{PutsOff, is_closed, ready, batch, compaction, asks, first_from, concluded_compaction};
 ghost use Rattle.olr_input.specs.Gates as gates;
 ghost use Rattle.olr_input.specs.Journals as journals;
@@ -176,6 +176,7 @@ impl<J: Journal + Drop> Gate<J> {
     fn is_in_place(&mut self) -> bool
         ensures untouched { result ≡ true → self.new ≡ self.old }
         ensures closed { result ≡ false → is_closed self.new ≡ true }
+        ensures lost { result ≡ false → J.is_lost self.old.journal }
         ensures rest { self.new ≡ record self.old { fault = self.new.fault } }
     {
         let is_there = self.journal.is_in_place();
@@ -191,6 +192,7 @@ impl<J: Journal + Drop> Gate<J> {
         ensures storing { (sent : List ℕ) → (result ≡ false → sent ≡ [])
             → Storing J.stored J.may_leave self.old self.new sent }
         ensures stored { result ≡ true → (ready self.new ≡ []) × (is_closed self.new ≡ false) }
+        ensures closes { Closes J.Journal self.old self.new }
         ensures others { SameBatch self.old self.new }
         ensures due { compaction self.new ≡ compaction self.old }
     {
@@ -212,6 +214,7 @@ impl<J: Journal + Drop> Gate<J> {
     /// sent once the log has failed.
     pub fn send<W: Write + Drop>(&mut self, output: &mut Buffered<W>) -> Result<(), RunFault>
         ensures passes { Passes J.stored J.may_leave W.contents self.old output.old self.new output.new [] }
+        ensures closes { Closes J.Journal self.old self.new }
         ensures sent { OnOk result (pending output.new ≡ []) }
         ensures stored { OnOk result ((ready self.new ≡ []) × (is_closed self.new ≡ false)) }
         ensures fault { IfErr result (λ e. e ≡ RunFault.Write) }
@@ -229,6 +232,7 @@ impl<J: Journal + Drop> Gate<J> {
         output: &mut Buffered<W>,
     ) -> Result<(), RunFault>
         ensures passes { Passes J.stored J.may_leave W.contents self.old output.old self.new output.new [] }
+        ensures closes { Closes J.Journal self.old self.new }
         ensures sent { OnOk result (IsTrue waits → pending output.new ≡ []) }
         ensures stored { OnOk result (IsTrue waits → (ready self.new ≡ []) × (is_closed self.new ≡ false)) }
         ensures fault { IfErr result (λ e. e ≡ RunFault.Write) }
@@ -245,7 +249,8 @@ impl<J: Journal + Drop> Gate<J> {
         output: &mut Buffered<W>,
         text: &[u8],
     ) -> Result<usize, RunFault>
-        ensures { PassesSome J.stored J.may_leave W.contents self.old output.old self.new output.new text.now result }
+        ensures passes { PassesSome J.stored J.may_leave W.contents self.old output.old self.new output.new text.now result }
+        ensures closes { Closes J.Journal self.old self.new }
     {
         let taken = output.hold(text)?;
         if taken > 0 {
@@ -261,7 +266,8 @@ impl<J: Journal + Drop> Gate<J> {
         output: &mut Buffered<W>,
         text: &[u8],
     ) -> Result<(), RunFault>
-        ensures { AllOrFront (Passes J.stored J.may_leave W.contents self.old output.old self.new output.new) text.now result }
+        ensures passes { AllOrFront (Passes J.stored J.may_leave W.contents self.old output.old self.new output.new) text.now result }
+        ensures closes { Closes J.Journal self.old self.new }
     {
         let mut written = 0;
         while written < text.len() {

@@ -1,7 +1,8 @@
 -- What a crash leaves of a log while it is changed.
-use Rattle.olr_log.proofs.Common.{◌≡◌, ◌⊎◌, inl, inr, ℕ, ◌+◌, true, false, List, Option, Some, sym, ◌∙◌, ap, subst, arith}
-use Rattle.olr_log.proofs.Common.{Follows, Only, Ghosts, text_of, stored_of, LeavesText, MayLeave, Stands, stored_in}
+use Rattle.olr_log.proofs.Common.{◌≡◌, ◌⊎◌, inl, inr, ℕ, true, false, List, Option, None, Some, sym, ◌∙◌, ap, subst, refl}
+use Rattle.olr_log.proofs.Common.{Follows, Only, Ghosts, text_of, stored_of, LeavesText, OnlyReads, Stands, stored_in}
 use Rattle.olr_log.proofs.Common.{is_broken_in, State, Foreign, Opened, Ready, Broken}
+use Rattle.olr_log.specs.Outcomes.{MayLeave}
 use Rattle.olr_log.specs.declared.log_file.LogFile.{LogFile}
 use Rattle.olr_log.specs.declared.folder.Folder as folder
 use Rattle.olr_log.proofs.NativeTexts.{text_is, foreign_text}
@@ -36,30 +37,45 @@ module _ {D : Type 0} (d : Ghosts D) where
   leaves_stored disk state stands alive text leaves =
       sym leaves.is ∙ ap text_of (all_written disk state stands alive leaves.file leaves.left) ∙ text_is_stored disk state stands alive leaves.clean
 
-  module _ (may_lead : ℕ → Type 0) (number : ℕ) (disk : D) (rival : Option D) where
+  module _ (may_lead : ℕ → Type 0) (disk : D) (rival : Option D) where
     -- the name leads to the file that is at hand
-    pub led_here : ((n : ℕ) → may_lead n → n ≡ number) → (text : List ℕ) → MayLeave d.is_clean d.may_leave may_lead number disk rival text → Leaves disk text
-    led_here led text (inl here) = here.1
-    led_here led text (inr next) = let never : number + 1 ≡ number = led (number + 1) next.0 in absurd (omega arith)
+    pub led_here : ((n : ℕ) → may_lead n → n ≡ d.key_of disk) → rival ≡ None → (text : List ℕ) → MayLeave d may_lead disk rival text → Leaves disk text
+    unfolding MayLeave
+    led_here led alone text (inl here) = here.1
+    led_here led alone text (inr (inl beside)) = let never : Some beside.0 ≡ None = sym beside.1 ∙ alone in absurd (cc never)
+    led_here led alone text (inr (inr elsewhere)) = absurd (elsewhere.2 (led elsewhere.0 elsewhere.1))
 
-    pub only_stored : (state : State) → Stands d disk state → is_broken_in state ≡ false → ((n : ℕ) → may_lead n → n ≡ number)
-        → Only (stored_in state (d.seen disk)) (MayLeave d.is_clean d.may_leave may_lead number disk rival)
-    only_stored state stands alive led text left = leaves_stored disk state stands alive text (led_here led text left)
+    pub only_stored : (state : State) → Stands d disk state → is_broken_in state ≡ false → ((n : ℕ) → may_lead n → n ≡ d.key_of disk) → rival ≡ None
+        → Only (stored_in state (d.seen disk)) (MayLeave d may_lead disk rival)
+    only_stored state stands alive led alone text left = leaves_stored disk state stands alive text (led_here led alone text left)
 
     -- where the name leads nowhere new, a crash leaves nothing new
-    pub led_less : (before : ℕ → Type 0) → ((n : ℕ) → may_lead n → before n) → (text : List ℕ) → MayLeave d.is_clean d.may_leave may_lead number disk rival text
-        → MayLeave d.is_clean d.may_leave before number disk rival text
-    led_less before less text (inl here) = inl (less number here.0, here.1)
-    led_less before less text (inr next) = inr (less (number + 1) next.0, next.1)
+    pub led_less : (before : ℕ → Type 0) → ((n : ℕ) → may_lead n → before n) → (text : List ℕ) → MayLeave d may_lead disk rival text → MayLeave d before disk rival text
+    unfolding MayLeave
+    led_less before less text (inl here) = inl (less (d.key_of disk) here.0, here.1)
+    led_less before less text (inr (inl beside)) = inr (inl (beside.0, beside.1, less (d.key_of beside.0) beside.2, beside.3))
+    led_less before less text (inr (inr elsewhere)) = inr (inr (elsewhere.0, less elsewhere.0 elsewhere.1, elsewhere.2, elsewhere.3))
 
     -- where it may lead to a new file, a crash leaves what it did, or the text of that file
-    pub led_either : (before : ℕ → Type 0) (other : D) → ((n : ℕ) → may_lead n → before n ⊎ (n ≡ number + 1)) → (text : List ℕ)
-        → MayLeave d.is_clean d.may_leave may_lead number disk (Some other) text → MayLeave d.is_clean d.may_leave before number disk rival text ⊎ Leaves other text
-    led_either before other either text (inl here) = elim (either number here.0) [
-      | inl was ↦ inl (inl (was, here.1))
-      | inr new ↦ absurd (omega arith)
+    pub led_either : (before : ℕ → Type 0) (other : D) → ((n : ℕ) → before n → n ≡ d.key_of disk) → ((n : ℕ) × before n)
+        → ((n : ℕ) → may_lead n → before n ⊎ (n ≡ d.key_of other)) → (text : List ℕ)
+        → MayLeave d may_lead disk (Some other) text → MayLeave d before disk rival text ⊎ Leaves other text
+    unfolding MayLeave
+    led_either before other led some either text (inl here) = inl (inl (subst before (led some.0 some.1) some.1, here.1))
+    led_either before other led some either text (inr (inl beside)) = let is = beside.1 in let same : beside.0 ≡ other = cc is in inr (subst (λ (x : D). Leaves x text) same beside.3)
+    led_either before other led some either text (inr (inr elsewhere)) = elim (either elsewhere.0 elsewhere.1) [
+      | inl was ↦ absurd (elsewhere.2 (led elsewhere.0 was))
+      | inr new ↦ absurd (elsewhere.3 other refl new)
     ]
-    led_either before other either text (inr next) = inr next.1
+
+  -- what only reads leave, a crash left before
+  pub led_read : (may_lead : ℕ → Type 0) (old new : D) (rival : Option D) → OnlyReads d old new → (text : List ℕ) → MayLeave d may_lead new rival text → MayLeave d may_lead old rival text
+  unfolding MayLeave
+  led_read may_lead old new rival reads text (inl here) =
+      let was = here.1 in
+      inl (subst may_lead reads.key here.0, record { clean = reads.clean was.clean; file = was.file; left = reads.less was.file was.left; is = was.is })
+  led_read may_lead old new rival reads text (inr (inl beside)) = inr (inl beside)
+  led_read may_lead old new rival reads text (inr (inr elsewhere)) = inr (inr (elsewhere.0, elsewhere.1, λ is. elsewhere.2 (is ∙ sym reads.key), elsewhere.3))
 
 module _ {D F : Type 0} {d : Ghosts D} {f : folder.Ghosts F D} (log : LogFile D F d f) where
   -- what is known of a log by its state
@@ -67,13 +83,13 @@ module _ {D F : Type 0} {d : Ghosts D} {f : folder.Ghosts F D} (log : LogFile D 
   stands_as state is = subst (λ (s : State). Stands d log.disk s) is log.stands
 
   -- a crash leaves its file, or the one that has become of it
-  pub file_leaves : (now : D) → is_broken_in log.state ≡ false → (text : List ℕ) → MayLeave d.is_clean d.may_leave (f.may_lead log.folder) log.number now log.rival text → Leaves d now text
-  file_leaves now alive text left = led_here d (f.may_lead log.folder) log.number now log.rival (log.led alive) text left
+  pub file_leaves : (now : D) → d.key_of now ≡ d.key_of log.disk → is_broken_in log.state ≡ false → (text : List ℕ) → MayLeave d (f.may_lead log.folder) now log.rival text → Leaves d now text
+  file_leaves now key alive = led_here d (f.may_lead log.folder) now log.rival (λ n leads. log.led alive n leads ∙ sym key) (log.alone alive)
 
   -- where that has the text that is stored, the next run begins with it
-  pub left_stored : (now : D) (state : State) → log.state ≡ state → is_broken_in state ≡ false →
+  pub left_stored : (now : D) (state : State) → d.key_of now ≡ d.key_of log.disk → log.state ≡ state → is_broken_in state ≡ false →
       Only (stored_in state (d.seen log.disk)) (Leaves d now) → (text : List ℕ) →
-      MayLeave d.is_clean d.may_leave (f.may_lead log.folder) log.number now log.rival text → text ≡ stored_of log
-  left_stored now state is alive known text left =
-      known text (file_leaves now (ap is_broken_in is ∙ alive) text left)
+      MayLeave d (f.may_lead log.folder) now log.rival text → text ≡ stored_of log
+  left_stored now state key is alive known text left =
+      known text (file_leaves now key (ap is_broken_in is ∙ alive) text left)
       ∙ sym (ap (λ (s : State). stored_in s (d.seen log.disk)) is)

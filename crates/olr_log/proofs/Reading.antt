@@ -3,11 +3,12 @@ use Rattle.olr_log.proofs.Common.{◌≡◌, ℕ, ◌+◌, List, ◌++◌, take,
 use Rattle.olr_log.proofs.Common.{drop-drop, Ghosts, OnlyReads}
 
 pub OnlyReads-refl : {D : Type 0} (g : Ghosts D) (disk : D) → IsTrue (g.is_usable disk) → OnlyReads g disk disk
-OnlyReads-refl g disk usable = record { seen = refl; usable = usable; clean = λ clean. clean; less = λ c left. left }
+OnlyReads-refl g disk usable = record { seen = refl; key = refl; usable = usable; clean = λ clean. clean; less = λ c left. left }
 
 pub OnlyReads-trans : {D : Type 0} (g : Ghosts D) (a b c : D) → OnlyReads g a b → OnlyReads g b c → OnlyReads g a c
 OnlyReads-trans g a b c first second = record {
   seen = second.seen ∙ first.seen;
+  key = second.key ∙ first.key;
   usable = second.usable;
   clean = λ clean. first.clean (second.clean clean);
   less = λ text left. first.less text (second.less text left);

@@ -5,5 +5,6 @@ pub mod Scanning
 pub mod Reads
 pub mod Tracing
 pub mod Outcomes
+pub mod Failures
 pub mod Logs
 pub mod Places

@@ -13,6 +13,10 @@ module _ {S : Type 0} {g : calls.Ghosts HostFile} where
   abbrev pub disk_is_usable : (start : Ghosts S) → Modelled HostFile S g start → Bool
   disk_is_usable start disk = (replay (start_of start disk) disk.calls.calls.events).is_usable
 
+  -- its number, the member `key_of`
+  abbrev pub disk_number : (start : Ghosts S) → Modelled HostFile S g start → ℕ
+  disk_number start disk = (replay (start_of start disk) disk.calls.calls.events).key
+
   -- the file of the log: it was synced, and nothing has happened since
   abbrev pub IsFreshDisk : {start : Ghosts S} → Modelled HostFile S g start → Type 0
   IsFreshDisk disk = (disk.is_log ≡ true) × (disk.calls.calls.events ≡ settled 0 ∷ [])

@@ -16,7 +16,7 @@ taken_of (Ok n) = n
 taken_of (Err e) = as_number (is_no_room e)
 
 abbrev pub event_of : Call → Event
-event_of call.Settled = settled 0
+event_of (call.Settled number) = settled number
 event_of (call.Measured answer) = measured (is_ok answer.now) (count_of answer.now)
 event_of (call.Read at bytes answer) =
     read at (length bytes.now) (is_ok answer.now) (take (count_of answer.now) bytes.now)

@@ -1,8 +1,9 @@
 //! How the file of a log is changed.
 
-ghost use Rattle.std.specs.Prelude.{◌≡◌, ◌+◌, ℕ, List, ◌∷◌, ◌++◌, length, true, IsTrue, IfOk, OnOk};
+ghost use Rattle.std.specs.Prelude.{◌≡◌, ◌+◌, ℕ, List, ◌∷◌, ◌++◌, length, true, IsTrue, IfOk, OnOk, OnErr};
 ghost use Rattle.sqlite_disk.specs.Disk.{Only};
 ghost use Rattle.olr_input.specs.Journals.{IsFront, is_whole};
+ghost use Rattle.olr_log.specs.Failures.{NotWritten};
 ghost use Rattle.olr_log.specs.Files.{text_in};
 ghost use Rattle.olr_log.specs.Outcomes.{LeavesText};
 ghost use Rattle.olr_log.specs.States.{Stands};
@@ -23,7 +24,9 @@ pub fn append<D: Disk>(
     requires stands { Stands D.Disk disk.old (State.Ready text_len len) }
     requires whole { IsTrue (is_whole records.now) }
     ensures stands { IfOk result (λ n. Stands D.Disk disk.new (State.Ready (text_len + length records.now) n)) }
+    ensures failed { OnErr result (NotWritten D.Disk (text_len + 1) records.now disk.old disk.new) }
     ensures stored { OnOk result (text_in (text_len + length records.now) (D.Disk.seen disk.new) ≡ text_in text_len (D.Disk.seen disk.old) ++ records.now) }
+    ensures key { D.Disk.key_of disk.new ≡ D.Disk.key_of disk.old }
     ensures cut { (c : List ℕ) → LeavesText D.Disk.is_clean D.Disk.may_leave disk.new c
         → (front : List ℕ) × IsFront records.now front × (c ≡ text_in text_len (D.Disk.seen disk.old) ++ front) }
 {
@@ -40,6 +43,7 @@ pub fn wipe<D: Disk>(disk: &mut D, text_len: usize, last: usize, len: usize) -> 
     requires stands { Stands D.Disk disk.old (State.Opened text_len last len) }
     ensures stands { IfOk result (λ n. Stands D.Disk disk.new (State.Ready text_len n)) }
     ensures stored { OnOk result (D.Disk.is_clean disk.new ≡ true → text_in text_len (D.Disk.seen disk.new) ≡ text_in text_len (D.Disk.seen disk.old)) }
+    ensures key { D.Disk.key_of disk.new ≡ D.Disk.key_of disk.old }
     ensures cut { Only (text_in text_len (D.Disk.seen disk.old)) (LeavesText D.Disk.is_clean D.Disk.may_leave disk.new) }
 {
     let from = text_len + 1;
@@ -54,6 +58,7 @@ pub fn wipe<D: Disk>(disk: &mut D, text_len: usize, last: usize, len: usize) -> 
 pub fn cut_off<D: Disk>(disk: &mut D, text_len: usize, _len: usize) -> io::Result<()>
     requires { Stands D.Disk disk.old (State.Ready text_len _len) }
     ensures closed { OnOk result (D.Disk.is_clean disk.new ≡ true → D.Disk.seen disk.new ≡ 10 ∷ text_in text_len (D.Disk.seen disk.old)) }
+    ensures key { D.Disk.key_of disk.new ≡ D.Disk.key_of disk.old }
     ensures cut { Only (text_in text_len (D.Disk.seen disk.old)) (LeavesText D.Disk.is_clean D.Disk.may_leave disk.new) }
 {
     let end = text_len + 1;

@@ -22,15 +22,15 @@ pub struct HostFile {
 
 impl HostFile {
     /// Writes what a file holds once more, and syncs it and its folder: after a sync that failed in an earlier process the kernel's
-    /// pages may differ from the disk, and no later sync would write them.
-    pub(crate) fn settle(file: fs::File, folder: &fs::File) -> io::Result<HostFile>
-        ensures { IfOk result (λ host. host.calls.events ≡ settled 0 ∷ []) }
+    /// pages may differ from the disk, and no later sync would write them. It has this number from then on.
+    pub(crate) fn settle(file: fs::File, folder: &fs::File, number: u64) -> io::Result<HostFile>
+        ensures { IfOk result (λ host. host.calls.events ≡ settled number ∷ []) }
     {
         write_back(&file)?;
         file.sync_all()?;
         folder.sync_all()?;
         let mut calls = Traced::none();
-        calls.add(&Call::Settled);
+        calls.add(&Call::Settled(number));
         Ok(HostFile { file, calls })
     }
 }

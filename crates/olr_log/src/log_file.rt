@@ -1,11 +1,12 @@
 //! A log in a file: text, and carriage returns behind it.
 
-ghost use Rattle.std.specs.Prelude.{◌≡◌, ◌⊎◌, ◌+◌, ℕ, List, ◌++◌, length, true, false, if◌then◌else◌, IsTrue, IfOk, OnOk, OnErr, IsErr, IsNone, IsSome, Option};
+ghost use Rattle.std.specs.Prelude.{◌≡◌, ◌⊎◌, ◌+◌, ℕ, List, ◌++◌, length, true, false, if◌then◌else◌, IsTrue, IfOk, OnOk, OnErr, IsErr, IsNone, IsSome, Option, None};
 ghost use Rattle.sqlite_disk.specs.Disk.{Only};
 ghost use Rattle.olr_input.specs.Journals.{MayHaveStored, is_whole};
-ghost use Rattle.olr_log.specs.Texts.{counts};
+ghost use Rattle.olr_log.specs.Failures.{FolderFailed, NotMade, NotWritten};
+ghost use Rattle.olr_log.specs.Texts.{counts, ends_blank};
 ghost use Rattle.olr_log.specs.Files.{text_in};
-ghost use Rattle.olr_log.specs.States.{Stands, Stands-prop, is_broken_in, stored_in, size_in};
+ghost use Rattle.olr_log.specs.States.{Stands, Stands-prop, is_broken_in, is_ready_in, stored_in, size_in};
 ghost use Rattle.olr_log.specs.Outcomes.{MayLeave, LeavesText};
 
 use crate::changes::append;
@@ -22,22 +23,20 @@ use std::io;
 pub struct LogFile<D: Disk, F: Folder<D>> {
     pub(crate) disk: D,
     pub(crate) folder: F,
-    /// The number of the file.
-    pub(crate) number: u64,
-    /// The next file, if it isn't known to which the name of the log leads.
+    /// The file that was put in its place, if it isn't known to which of both the name of the log leads.
     pub(crate) rival: Option<D>,
     pub(crate) state: State,
     /// Why it was not replaced, the last time.
     pub(crate) refusal: Option<io::Error>,
     ghost stands: { Stands D.Disk disk state } by { Stands-prop D.Disk disk state },
-    ghost led: { is_broken_in state ≡ false → (n : ℕ) → F.Folder.may_lead folder n → n ≡ number },
+    ghost led: { is_broken_in state ≡ false → (n : ℕ) → F.Folder.may_lead folder n → n ≡ D.Disk.key_of disk },
+    ghost alone: { is_broken_in state ≡ false → rival ≡ None },
 }
 
 /// A file that was written beside the log and put in its place.
 #[derive(Drop)]
 struct Made<D: Disk> {
     disk: D,
-    number: u64,
     len: usize,
     /// Why it isn't known whether the name of the log leads to it.
     doubt: Option<io::Error>,
@@ -48,6 +47,8 @@ fn write_beside<D: Disk + Drop, F: Folder<D>>(folder: &mut F, text: &[u8]) -> io
     requires counts { counts text.now ≡ true }
     ensures stands { IfOk result (λ made. Stands D.Disk made.0 (State.Ready (length text.now) made.1)) }
     ensures stored { IfOk result (λ made. text_in (length text.now) (D.Disk.seen made.0) ≡ text.now) }
+    ensures number { IfOk result (λ made. D.Disk.key_of made.0 ≡ F.Folder.last folder.new) }
+    ensures failed { OnErr result (NotMade D.Disk F.Folder folder.old text.now) }
     ensures name { (n : ℕ) → F.Folder.may_lead folder.new n → F.Folder.may_lead folder.old n }
 {
     let mut disk = folder.create_beside()?;
@@ -63,23 +64,22 @@ fn write_beside<D: Disk + Drop, F: Folder<D>>(folder: &mut F, text: &[u8]) -> io
 /// Writes records beside the log, and puts them in its place. After an error the name of the log leads where it did.
 fn write_in_place<D: Disk + Drop, F: Folder<D>>(
     folder: &mut F,
-    old: u64,
     records: &[u8],
 ) -> io::Result<Made<D>>
     requires whole { IsTrue (is_whole records.now) }
     ensures stands { IfOk result (λ made. Stands D.Disk made.disk (State.Ready (length records.now) made.len)) }
     ensures stored { IfOk result (λ made. text_in (length records.now) (D.Disk.seen made.disk) ≡ records.now) }
-    ensures number { IfOk result (λ made. made.number ≡ old + 1) }
     ensures refused { OnErr result ((n : ℕ) → F.Folder.may_lead folder.new n → F.Folder.may_lead folder.old n) }
-    ensures placed { IfOk result (λ made. IsNone made.doubt → (n : ℕ) → F.Folder.may_lead folder.new n → n ≡ old + 1) }
-    ensures either { (n : ℕ) → F.Folder.may_lead folder.new n → F.Folder.may_lead folder.old n ⊎ (n ≡ old + 1) }
+    ensures failed { OnErr result ((ends_blank records.now ≡ true) ⊎ NotMade D.Disk F.Folder folder.old records.now) }
+    ensures doubted { IfOk result (λ made. IsSome made.doubt → FolderFailed D.Disk F.Folder) }
+    ensures placed { IfOk result (λ made. IsNone made.doubt → (n : ℕ) → F.Folder.may_lead folder.new n → n ≡ D.Disk.key_of made.disk) }
+    ensures either { IfOk result (λ made. (n : ℕ) → F.Folder.may_lead folder.new n → F.Folder.may_lead folder.old n ⊎ (n ≡ D.Disk.key_of made.disk)) }
 {
-    if is_blank_at_end(records) || old == u64::MAX {
+    if is_blank_at_end(records) {
         return Err(io::ErrorKind::InvalidInput.into());
     }
-    let number = old + 1;
     let (disk, len) = write_beside(folder, records)?;
-    let doubt = match folder.put_in_place(number) {
+    let doubt = match folder.put_in_place() {
         Ok(None) => None,
         Ok(Some(error)) => {
             folder.remove_beside();
@@ -87,24 +87,26 @@ fn write_in_place<D: Disk + Drop, F: Folder<D>>(
         }
         Err(error) => Some(error),
     };
-    Ok(Made {
-        disk,
-        number,
-        len,
-        doubt,
-    })
+    Ok(Made { disk, len, doubt })
 }
 
 impl<D: Disk + Drop, F: Folder<D>> Journal for LogFile<D, F> {
     ghost use Rattle.olr_log.specs.Logs.{stored_of, left_of, is_native_of, is_ready, is_clean};
+    ghost use Rattle.olr_log.specs.Logs.{fails_of, refuses_of, doubts_of, is_lost_of};
 
     ghost stored = { λ j. stored_in j.state (D.Disk.seen j.disk) };
 
     ghost size = { λ j. size_in j.state };
 
-    ghost refuses = { λ _ _ j. IsSome j.refusal };
+    ghost fails = { λ old records new. (is_ready_in old.state ≡ false) ⊎ NotWritten D.Disk (size_in old.state + 1) records old.disk new.disk };
 
-    ghost may_leave = { λ j. MayLeave D.Disk.is_clean D.Disk.may_leave (F.Folder.may_lead j.folder) j.number j.disk j.rival };
+    ghost refuses = { λ old records new. IsSome new.refusal × ((ends_blank records ≡ true) ⊎ NotMade D.Disk F.Folder old.folder records) };
+
+    ghost doubts = { λ old _ _. (is_broken_in old.state ≡ true) ⊎ FolderFailed D.Disk F.Folder };
+
+    ghost is_lost = { λ j. (is_broken_in j.state ≡ true) ⊎ ((n : ℕ) × F.Folder.is_lost j.folder n) };
+
+    ghost may_leave = { λ j. MayLeave D.Disk (F.Folder.may_lead j.folder) j.disk j.rival };
 
     fn store(&mut self, records: &[u8]) -> io::Result<()>
         requires { IsTrue (is_whole records.now) }
@@ -112,6 +114,7 @@ impl<D: Disk + Drop, F: Folder<D>> Journal for LogFile<D, F> {
         ensures counted { OnOk result (size_in self.new.state ≡ length (stored_of self.new)) }
         ensures durable { OnOk result (Only (stored_of self.new) (left_of self.new)) }
         ensures cut { MayHaveStored stored_of left_of self.old records.now self.new }
+        ensures failed { OnErr result (fails_of self.old records.now self.new) }
         ensures ready { OnOk result (is_ready self.new ≡ true) }
         ensures broken { OnErr result (is_broken_in self.new.state ≡ true) }
         ensures unready { is_ready self.old ≡ false → IsErr result }
@@ -140,14 +143,15 @@ impl<D: Disk + Drop, F: Folder<D>> Journal for LogFile<D, F> {
         ensures ready { IfOk result (λ done. done ≡ true → is_ready self.new ≡ true) }
         ensures kind { IfOk result (λ done. is_native_of self.new ≡ if done then true else is_native_of self.old) }
         ensures unready { IfOk result (λ done. done ≡ false → is_ready self.new ≡ is_ready self.old) }
-        ensures refused { IfOk result (λ done. done ≡ false → IsSome self.new.refusal) }
+        ensures refused { IfOk result (λ done. done ≡ false → refuses_of self.old records.now self.new) }
+        ensures doubted { OnErr result (doubts_of self.old records.now self.new) }
         ensures broken { OnErr result (is_broken_in self.new.state ≡ true) }
         ensures again { is_broken_in self.old.state ≡ true → IsErr result }
     {
         if self.state.is_broken() {
             return Err(io::ErrorKind::InvalidInput.into());
         }
-        let made = match write_in_place(&mut self.folder, self.number, records) {
+        let made = match write_in_place(&mut self.folder, records) {
             Ok(made) => made,
             Err(error) => {
                 self.refusal = Some(error);
@@ -161,7 +165,6 @@ impl<D: Disk + Drop, F: Folder<D>> Journal for LogFile<D, F> {
         }
         self.folder.note_written();
         self.disk = made.disk;
-        self.number = made.number;
         self.rival = None;
         self.state = State::Ready {
             text_len: records.len(),
@@ -183,7 +186,9 @@ impl<D: Disk + Drop, F: Folder<D>> Journal for LogFile<D, F> {
         self.state.text_len()
     }
 
-    fn is_in_place(&self) -> bool {
+    fn is_in_place(&self) -> bool
+        ensures { result ≡ false → is_lost_of self.now }
+    {
         match self.state.file_len() {
             Some(len) => self.folder.is_in_place(len),
             None => false,

@@ -24,7 +24,7 @@ impl<D: Disk + Drop, F: Folder<D>> LogFile<D, F> {
     /// Syncs the file and finds the end of its text. It changes nothing.
     pub fn open(alloc: Global, disk: D, folder: F) -> io::Result<LogFile<D, F>>
         requires usable { IsTrue (D.Disk.is_usable disk) }
-        requires named { (n : ℕ) → F.Folder.may_lead folder n → n ≡ 0 }
+        requires named { (n : ℕ) → F.Folder.may_lead folder n → n ≡ D.Disk.key_of disk }
         ensures text { IfOk result (λ log. is_clean log ≡ true → stored_of log ≡ text_of (D.Disk.seen disk)) }
         ensures kind { IfOk result (λ log. is_clean log ≡ true → is_native_of log ≡ is_native (D.Disk.seen disk)) }
         ensures rest { IfOk result (λ log. is_clean log ≡ true → left_over_of log ≡ left_behind (D.Disk.seen disk)) }
@@ -39,7 +39,6 @@ impl<D: Disk + Drop, F: Folder<D>> LogFile<D, F> {
         Ok(LogFile {
             disk,
             folder,
-            number: 0,
             rival: None,
             state,
             refusal: None,

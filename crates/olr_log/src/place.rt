@@ -1,8 +1,9 @@
 //! Where a log lies: its name, its folder, and the lock that one process holds. Read, and not proved, but for its names.
 
-ghost use Rattle.std.specs.Prelude.{◌≡◌, ◌⊎◌, ℕ, List, [], true, Some, IsTrue, IsNone, IfOk};
+ghost use Rattle.std.specs.Prelude.{◌≡◌, ◌⊎◌, ℕ, List, [], true, Some, IsTrue, IsNone, IfOk, refl, ⊤};
+ghost use Rattle.std.proofs.Common.{inl};
 ghost use Rattle.olr_log.specs.Logs.{stored_of, left_of, left_over_of, is_native_of, is_ready, is_clean};
-ghost use Rattle.olr_log.specs.Places.{disk_is_usable, IsFreshDisk, folder_may_lead};
+ghost use Rattle.olr_log.specs.Places.{disk_is_usable, disk_number, IsFreshDisk, folder_may_lead};
 
 use crate::folder::Folder;
 use crate::host::HostFile;
@@ -71,9 +72,11 @@ pub struct LogFolder<'a> {
     /// The number of the file that has the name, its device and its inode.
     number: u64,
     node: (u64, u64),
-    /// The same of the file beside it.
+    /// The number of the file that may have it too, since it was put in its place.
     next: Option<u64>,
-    next_node: (u64, u64),
+    /// The number of the file that was made last, its device and its inode.
+    last: u64,
+    last_node: (u64, u64),
     /// When the file of that name was last changed, if this process changed it last.
     written: Cell<Option<(i64, i64)>>,
 }
@@ -149,29 +152,38 @@ impl LogFolder<'_> {
 impl<S: Start> Folder<HostDisk<S>> for LogFolder<'_> {
     ghost may_lead = { folder_may_lead };
 
+    ghost last = { λ folder. folder.last };
+
+    ghost fails = { λ _ _. ⊤ };
+
+    ghost is_lost = { λ _ _. ⊤ };
+
+    ghost leads = { λ folder. (folder.number, inl refl) };
+
     fn create_beside(&mut self) -> io::Result<HostDisk<S>> {
+        self.last = self.last.checked_add(1).ok_or(io::ErrorKind::Other)?;
         let file = self.make_beside()?;
-        self.next_node = node_of(&file)?;
-        let host = HostFile::settle(file, &self.folder)?;
-        Ok(Modelled::new(host, false, 0))
+        self.last_node = node_of(&file)?;
+        let host = HostFile::settle(file, &self.folder, self.last)?;
+        Ok(Modelled::new(host, false, self.last))
     }
 
     fn remove_beside(&mut self) {
         let _ = fs::remove_file(self.rt, self.beside.as_str());
     }
 
-    fn put_in_place(&mut self, number: u64) -> io::Result<Option<io::Error>> {
+    fn put_in_place(&mut self) -> io::Result<Option<io::Error>> {
         match fs::rename(self.rt, self.beside.as_str(), self.log.as_str()) {
             Err(error) if error.raw_os_error() != Some(IO_ERROR) => return Ok(Some(error)),
             renamed => {
-                self.next = Some(number);
+                self.next = Some(self.last);
                 renamed?;
             }
         }
         self.folder.sync_all()?;
-        self.number = number;
+        self.number = self.last;
         self.next = None;
-        self.node = self.next_node;
+        self.node = self.last_node;
         Ok(None)
     }
 
@@ -322,7 +334,8 @@ fn open_folder<'a>(
         number: 0,
         node,
         next: None,
-        next_node: node,
+        last: 0,
+        last_node: node,
         written: Cell::new(None),
     };
     Ok((file, folder))
@@ -337,10 +350,10 @@ pub fn open_place<'a, S: Start>(
 ) -> Result<(HostDisk<S>, LogFolder<'a>), OpenError>
     ensures usable { IfOk result (λ place. IsTrue (disk_is_usable S.Start place.0)) }
     ensures fresh { IfOk result (λ place. IsFreshDisk place.0) }
-    ensures named { IfOk result (λ place. (n : ℕ) → folder_may_lead place.1 n → n ≡ 0) }
+    ensures named { IfOk result (λ place. (n : ℕ) → folder_may_lead place.1 n → n ≡ disk_number S.Start place.0) }
 {
     let (file, folder) = open_folder(rt, path, is_new)?;
-    let host = HostFile::settle(file, &folder.folder)?;
+    let host = HostFile::settle(file, &folder.folder, 0)?;
     Ok((Modelled::new(host, true, 0), folder))
 }
 

@@ -73,6 +73,7 @@ pub fn find_end<D: Disk>(alloc: Global, disk: &mut D, len: usize) -> io::Result<
 pub fn examine<D: Disk>(alloc: Global, disk: &mut D) -> io::Result<State>
     requires { IsTrue (D.Disk.is_usable disk.old) }
     ensures seen { D.Disk.seen disk.new ≡ D.Disk.seen disk.old }
+    ensures key { D.Disk.key_of disk.new ≡ D.Disk.key_of disk.old }
     ensures stands { IfOk result (λ state. Stands D.Disk disk.new state) }
     ensures unready { IfOk result (λ state. is_ready_in state ≡ false) }
     ensures unbroken { IfOk result (λ state. is_broken_in state ≡ false) }

@@ -1,6 +1,6 @@
 //! The states of a log.
 
-ghost use Rattle.std.specs.Prelude.{◌≡◌};
+ghost use Rattle.std.specs.Prelude.{◌≡◌, IsNone, true};
 ghost use Rattle.olr_log.specs.States.{size_in, is_native_in, is_broken_in};
 
 /// How a log stands. Lengths are in bytes.
@@ -51,7 +51,9 @@ impl State {
     }
 
     /// The length of the file, if it is known.
-    pub fn file_len(self) -> Option<usize> {
+    pub fn file_len(self) -> Option<usize>
+        ensures { IsNone result → is_broken_in self ≡ true }
+    {
         match self {
             State::Foreign { len } | State::Opened { len, .. } | State::Ready { len, .. } => Some(
                 len,

@@ -11,8 +11,8 @@ use std::marker::{Model, PhantomData};
 /// A call of the system on a file, with its answer: of bytes the offset, these bytes, and how many of them were read or written.
 #[derive(Clone, Copy)]
 pub enum Call<'a> {
-    /// It was synced as it was opened.
-    Settled,
+    /// It was synced as it was opened, and has this number.
+    Settled(u64),
     Measured(&'a io::Result<usize>),
     Read(usize, &'a [u8], &'a io::Result<usize>),
     /// The same, behind a key and the digest under this key against which the bytes will be tested.

@@ -1,9 +1,10 @@
 //! Writes that are synced.
 
-ghost use Rattle.std.specs.Prelude.{◌≡◌, ◌+◌, ◌-◌, ◌^◌, ◌<◌, ◌≤◌, ◌∷◌, true, false, length, IsTrue, IfOk, OnOk};
+ghost use Rattle.std.specs.Prelude.{◌≡◌, ◌⊎◌, ◌+◌, ◌-◌, ◌^◌, ◌<◌, ◌≤◌, ◌∷◌, true, false, length, IsTrue, IfOk, OnOk, OnErr};
 ghost use Rattle.sqlite_disk.specs.Disk.{Holds, Torn, Mixed, Cut, Follows, Only};
 ghost use Rattle.olr_log.specs.Texts.{counts, ends_blank};
 ghost use Rattle.olr_log.specs.Files.{KeepsFirst, IsBlank, text_in};
+ghost use Rattle.olr_log.specs.Failures.{HasFailed, IsTooLong};
 ghost use Rattle.olr_log.specs.States.{Stands};
 
 use crate::state::State;
@@ -30,6 +31,8 @@ pub fn put<D: Disk>(disk: &mut D, at: usize, bytes: &[u8]) -> io::Result<()>
     requires fits { at + length bytes.now < 2 ^ 64 }
     ensures usable { OnOk result (IsTrue (D.Disk.is_usable disk.new)) }
     ensures calm { D.Disk.is_clean disk.new ≡ D.Disk.is_clean disk.old }
+    ensures key { D.Disk.key_of disk.new ≡ D.Disk.key_of disk.old }
+    ensures failed { OnErr result ((D.Disk.is_mixing disk.new ≡ false) ⊎ HasFailed D.Disk disk.old disk.new) }
     ensures held { OnOk result (0 < length bytes.now → Holds (D.Disk.seen disk.new) at bytes.now) }
     ensures others { Torn at (length bytes.now) (D.Disk.seen disk.old) (D.Disk.seen disk.new) }
     ensures durable { OnOk result (Only (D.Disk.seen disk.new) (D.Disk.may_leave disk.new)) }
@@ -47,6 +50,7 @@ pub fn put<D: Disk>(disk: &mut D, at: usize, bytes: &[u8]) -> io::Result<()>
 pub fn length_for(len: usize, at: usize, records: &[u8]) -> io::Result<usize>
     ensures fits { IfOk result (λ n. (at + length records.now < n) × (len ≤ n)) }
     ensures counts { OnOk result (ends_blank records.now ≡ false) }
+    ensures failed { OnErr result ((ends_blank records.now ≡ true) ⊎ IsTooLong (at + length records.now)) }
 {
     if is_blank_at_end(records) {
         return Err(io::ErrorKind::InvalidInput.into());
@@ -73,6 +77,9 @@ pub fn blank<D: Disk>(disk: &mut D, from: usize, to: usize) -> io::Result<()>
     requires durable { Only (D.Disk.seen disk.old) (D.Disk.may_leave disk.old) }
     ensures usable { OnOk result (IsTrue (D.Disk.is_usable disk.new)) }
     ensures calm { D.Disk.is_clean disk.new ≡ D.Disk.is_clean disk.old }
+    ensures key { D.Disk.key_of disk.new ≡ D.Disk.key_of disk.old }
+    ensures steady { OnOk result (D.Disk.faults disk.new ≡ D.Disk.faults disk.old) }
+    ensures failed { OnErr result (HasFailed D.Disk disk.old disk.new) }
     ensures blank { OnOk result (from < to → IsBlank from to (D.Disk.seen disk.new)) }
     ensures others { Torn from (to - from) (D.Disk.seen disk.old) (D.Disk.seen disk.new) }
     ensures durable { OnOk result (Only (D.Disk.seen disk.new) (D.Disk.may_leave disk.new)) }
@@ -96,6 +103,9 @@ fn write_text<D: Disk>(disk: &mut D, text: &[u8]) -> io::Result<()>
     requires { IsTrue (D.Disk.is_usable disk.old) }
     ensures usable { OnOk result (IsTrue (D.Disk.is_usable disk.new)) }
     ensures seen { OnOk result (D.Disk.seen disk.new ≡ 10 ∷ text.now) }
+    ensures steady { OnOk result (D.Disk.faults disk.new ≡ D.Disk.faults disk.old) }
+    ensures failed { OnErr result (HasFailed D.Disk disk.old disk.new) }
+    ensures key { D.Disk.key_of disk.new ≡ D.Disk.key_of disk.old }
 {
     disk.set_len(0)?;
     disk.write_at(0, b"\n")?;
@@ -109,6 +119,8 @@ pub fn fill<D: Disk>(disk: &mut D, text: &[u8]) -> io::Result<usize>
     requires counts { counts text.now ≡ true }
     ensures stands { IfOk result (λ n. Stands D.Disk disk.new (State.Ready (length text.now) n)) }
     ensures stored { OnOk result (text_in (length text.now) (D.Disk.seen disk.new) ≡ text.now) }
+    ensures failed { OnErr result (IsTooLong (length text.now) ⊎ HasFailed D.Disk disk.old disk.new) }
+    ensures key { D.Disk.key_of disk.new ≡ D.Disk.key_of disk.old }
 {
     let len = text
         .len()
@@ -125,6 +137,7 @@ pub fn cut<D: Disk>(disk: &mut D, len: usize) -> io::Result<()>
     requires usable { IsTrue (D.Disk.is_usable disk.old) }
     ensures usable { OnOk result (IsTrue (D.Disk.is_usable disk.new)) }
     ensures calm { D.Disk.is_clean disk.new ≡ D.Disk.is_clean disk.old }
+    ensures key { D.Disk.key_of disk.new ≡ D.Disk.key_of disk.old }
     ensures len { OnOk result (length (D.Disk.seen disk.new) ≡ len) }
     ensures others { Cut len (D.Disk.seen disk.old) (D.Disk.seen disk.new) }
     ensures durable { OnOk result (Only (D.Disk.seen disk.new) (D.Disk.may_leave disk.new)) }

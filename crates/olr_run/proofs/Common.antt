@@ -49,7 +49,7 @@ pub use Rattle.olr_register.specs.RegisterState.{Represents}
 pub use Rattle.olr_register.specs.Registered.{Registered, AllPublished, HaveEncodings, nothing_registered}
 pub use Rattle.olr_run.specs.Ends.{Begun, Carried_out, Explained, LeftAfter, Log_lacking, No_size, Not_begun, Not_opened, With}
 pub use Rattle.olr_run.specs.Ends.{Without, Without_sources, run_code, No_memory}
-pub use Rattle.olr_run.specs.LogEnds.{AreRecordsOf, Begins, BeginsWith, Unbegun, is_rejected}
+pub use Rattle.olr_run.specs.LogEnds.{AreRecordsOf, Begins, BeginsWith, Unbegun, is_oversized, is_rejected}
 pub use Rattle.olr_run.specs.Logged.{Accepted, IsLogged, Leads, LeadsFrom, Survives, UpTo, closed}
 pub use Rattle.olr_run.specs.Logs.{Began, Lasts, LastsWhole}
 pub use Rattle.olr_run.specs.Opens.{IsFile, Opens, OpensFile}

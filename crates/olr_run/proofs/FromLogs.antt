@@ -61,12 +61,12 @@ module _ {D F : Type 0} {d : disk.Ghosts D} {f : folder.Ghosts F D} where
           (represents, rewritten c represents (dump_leads (records_of (stored_of log)) c l) (compacted is))
 
   -- a log that may have been replaced before the start failed
-  pub unbegun_after : (log read last : LogFile D F d f) (rejected : Bool) (register : Registered) → stored_of read ≡ stored_of log →
+  pub unbegun_after : (log read last : LogFile D F d f) (rejected oversized : Bool) (register : Registered) → stored_of read ≡ stored_of log →
       ((t : List ℕ) → left_of read t → left_of log t)
       → (is_clean read ≡ true → HasContentOf (stored_of log) register)
       → ((t : List ℕ) → left_of last t → left_of read t ⊎ (t ≡ stored_of read) ⊎ AreRecordsOf register t)
-      → rejected ≡ false → Unbegun log last rejected
-  unbegun_after log read last rejected register same less content cut fails = (
+      → (rejected ≡ false) × (oversized ≡ false) → Unbegun log last rejected oversized
+  unbegun_after log read last rejected oversized register same less content cut fails = (
     read,
     same,
     λ t left. elim (cut t left) [
@@ -76,7 +76,8 @@ module _ {D F : Type 0} {d : disk.Ghosts D} {f : folder.Ghosts F D} where
         | inr records ↦ inr (λ clean. let k = content clean in (k.0, k.1, records k.0 k.2))
       ])
     ],
-    λ is. absurd (let never : true ≡ false = sym is ∙ fails in cc),
+    λ is. absurd (let never : true ≡ false = sym is ∙ fails.0 in cc),
+    λ is. absurd (let never : true ≡ false = sym is ∙ fails.1 in cc),
   )
 
   -- ---- the end

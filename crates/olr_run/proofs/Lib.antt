@@ -12,6 +12,7 @@ pub mod Dumped
 pub mod Plain
 pub mod Logging
 pub mod LoggedRuns
+pub mod GateRuns
 pub mod Restoring
 pub mod Refusing
 pub mod LogRecords

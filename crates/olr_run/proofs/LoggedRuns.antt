@@ -1,7 +1,7 @@
 -- The log of a run, from the history of its session.
 use Rattle.olr_run.proofs.Common.{Past_the_most, length-append, IsReplacement, records_taken, SoundOutcome, append_assoc, Outcome}
 use Rattle.olr_run.proofs.Common.{append_known, last_events, Replacement, Appends-nil, append-nil, Registered, IsExchange, IfSome}
-use Rattle.olr_run.proofs.Common.{LastsWhole, Compaction, LogHappens, Keeps-refl, Not_taken, IsContent, Exchanged, In_taking, Cut}
+use Rattle.olr_run.proofs.Common.{LastsWhole, LogHappens, Keeps-refl, Not_taken, IsContent, Exchanged, In_taking, Cut}
 use Rattle.olr_run.proofs.Common.{answer_of, once_sent, events_of, unwritten, Compacted, Untouched, is_closed, Concludes, History}
 use Rattle.olr_run.proofs.Common.{Not_sent, RunFault, flat_map, Exchange, Survives, Buffered, In_text, Appends, EndedOn, Records}
 use Rattle.olr_run.proofs.Common.{No_text, Unasked, Lacking, pending, written, Waiting, waiting, Claims, length, Change, Passes}
@@ -55,45 +55,15 @@ module _ {S W J : Type 0} (left : S → List (List Field) → Type 0) (contents 
 
   pub log_sees : (a b : Logged S J × Buffered W) (e : Event) → Happens a e b →
       Sees (left_of a) (left_of b) (written_of a) (written_of b) e
-  log_sees a b (Took fields) h = (h.3, passes_stores a.0.gate h.0 a.1 b.1 h.1)
-  log_sees a b Ended h = (h.1, passes_stores a.0.gate b.0.gate a.1 b.1 h.0)
-  log_sees a b (Not_taken e) h = passes_stores a.0.gate h.0 a.1 b.1 h.1
+  log_sees a b (Took fields) h = (h.0, passes_stores a.0.gate h.1.0 a.1 b.1 h.1.1)
+  log_sees a b Ended h = (h.0, passes_stores a.0.gate b.0.gate a.1 b.1 h.1)
+  log_sees a b (Not_taken e) h = passes_stores a.0.gate h.1.0 a.1 b.1 h.1.1
   log_sees a b Not_sent h = passes_stores a.0.gate b.0.gate a.1 b.1 h.1
   log_sees a b (Wrote answer) h = (same_left left a.0.source b.0.source h.0, passes_writes h.1.0 b.0.gate a.1 b.1 answer.0 h.1.2)
   log_sees a b (Cut front rest accepts) h = passes_writes h.1.0 b.0.gate a.1 b.1 front h.1.2
-  log_sees a b (Compacted Unasked) h = (
-    same_left left a.0.source b.0.source (ap (λ (t : Logged S J). t.source) h.0),
-    same_written a.1 b.1 h.1,
-  )
-  log_sees a b (Compacted (Given records)) h = (same_left left a.0.source b.0.source h.0, same_written a.1 b.1 h.1)
-  log_sees a b (Compacted Lacking) h = (same_left left a.0.source b.0.source h.0, same_written a.1 b.1 h.1)
-
-  -- a log is replaced from the same length on
-  same_length : (a b : Logged S J × Buffered W) (e : Event) → Happens a e b → b.0.gate.compacted_from ≡ a.0.gate.compacted_from
-  same_length a b (Took fields) h = h.2.untouched.length ∙ ap (λ (c : Compaction). c.compacted_from) h.1.due
-  same_length a b Ended h = ap (λ (c : Compaction). c.compacted_from) h.0.due
-  same_length a b (Not_taken e) h = h.2.untouched.length ∙ ap (λ (c : Compaction). c.compacted_from) h.1.due
-  same_length a b Not_sent h = ap (λ (c : Compaction). c.compacted_from) h.1.due
-  same_length a b (Wrote answer) h = ap (λ (c : Compaction). c.compacted_from) h.1.2.due ∙ h.1.1.untouched.length
-  same_length a b (Cut front rest accepts) h = ap (λ (c : Compaction). c.compacted_from) h.1.2.due ∙ h.1.1.untouched.length
-  same_length a b (Compacted Unasked) h = ap (λ (t : Logged S J). t.gate.compacted_from) h.0
-  same_length a b (Compacted (Given records)) h = h.3.length
-  same_length a b (Compacted Lacking) h = h.3.untouched.length
-
-  keeps_length : (es : List Event) (a b : Logged S J × Buffered W) → History Happens a es b →
-      b.0.gate.compacted_from ≡ a.0.gate.compacted_from
-  keeps_length [] a b h = ap (λ (m : Logged S J × Buffered W). m.0.gate.compacted_from) (sym h)
-  keeps_length (e ∷ es) a b h = keeps_length es h.0 b h.2 ∙ same_length a h.0 e h.1
-
-  pub run_length : (stop : Bool) (old new : Registered) (a b : Logged S J × Buffered W) (r : Result Status RunFault) →
-      IfOk r (RanIn Happens stop old a new b) → IfErr r (CutIn Happens stop old a new b) →
-      b.0.gate.compacted_from ≡ a.0.gate.compacted_from
-  run_length stop old new a b (Ok end) ran cut = keeps_length _ a b ran.x.history
-  run_length stop old new a b (Err e) ran (In_taking of x answered) = keeps_length _ a b x.history
-  run_length stop old new a b (Err e) ran (runs.Not_sent is x answered) = keeps_length _ a b x.history
-  run_length stop old new a b (Err e) ran (Past_the_most is r x most answered) = keeps_length _ a b x.history
-  run_length stop old new a b (Err e) ran (No_text is r w x answered) = keeps_length _ a b x.history
-  run_length stop old new a b (Err e) ran (In_text is r front rest accepts some x answered) = keeps_length _ a b x.history
+  log_sees a b (Compacted Unasked) h = (same_left left a.0.source b.0.source h.0, same_written a.1 b.1 h.1.1)
+  log_sees a b (Compacted (Given records)) h = (same_left left a.0.source b.0.source h.0, same_written a.1 b.1 h.1.0)
+  log_sees a b (Compacted Lacking) h = (same_left left a.0.source b.0.source h.0, same_written a.1 b.1 h.1.0)
 
   module _ (base : Known) (s : State) where
     abbrev Log : List (List Field) → List Outcome → State → List ℕ → Logged S J × Buffered W → Type 0
@@ -108,7 +78,7 @@ module _ {S W J : Type 0} (left : S → List (List Field) → Type 0) (contents 
         Log rs os t [] m → History Happens m (last_events end) n → Log rs os t [] n
     log_end ended.Stopped rs os t m n a h = subst (λ (x : Logged S J × Buffered W). Log rs os t [] x) h a
     log_end end rs os t m n a h =
-        subst (λ (x : Logged S J × Buffered W). Log rs os t [] x) h.2 (log_passes rs os t m h.0 a h.1.0)
+        subst (λ (x : Logged S J × Buffered W). Log rs os t [] x) h.2 (log_passes rs os t m h.0 a h.1.1)
 
     -- what is sent before a record is taken, or can't be
     log_untouched : (rs : List (List Field)) (os : List Outcome) (t : State) (m n : Logged S J × Buffered W) (g : Gate J) →
@@ -120,7 +90,7 @@ module _ {S W J : Type 0} (left : S → List (List Field) → Type 0) (contents 
 
     log_took : (rs : List (List Field)) (os : List Outcome) (t : State) (r : List Field) (m n : Logged S J × Buffered W) →
         Log rs os t [] m → Happens m (Took r) n → Log rs os t [] n
-    log_took rs os t r m n a h = log_untouched rs os t m n h.0 a h.1 h.2.untouched h.2.waits
+    log_took rs os t r m n a h = log_untouched rs os t m n h.1.0 a h.1.1 h.1.2.untouched h.1.2.waits
 
     -- a record whose text is written, or only its first bytes
     log_answered : (rs : List (List Field)) (os : List Outcome) (t u : State) (r : List Field) (o : Outcome)
@@ -131,21 +101,21 @@ module _ {S W J : Type 0} (left : S → List (List Field) → Type 0) (contents 
     log_answered rs os t u r o front rest accepts m k n g size a one is h concludes passes =
         logs_pass j.stored j.may_leave contents base s (rs ++ r ∷ []) (os ++ o ∷ []) u front rest g n.0.gate k.1 n.1
         (logs_conclude j.stored j.may_leave contents base s rs os t u r o (front ++ rest) accepts k.0.gate g k.1 size one is
-        h.2.effect h.2.line (log_took rs os t r m k a h) concludes) passes
+        h.1.2.effect h.1.2.line (log_took rs os t r m k a h) concludes) passes
 
     -- the records of the content may be given
     log_given : (rs : List (List Field)) (os : List Outcome) (t : State) (d : Replacement) (m n : Logged S J × Buffered W) →
         Log rs os t [] m → IsContent t.content → IsReplacement t d → Happens m (Compacted d) n → Log rs os t [] n
     log_given rs os t Unasked m n a sound is h =
         subst (λ (x : Gate J × Buffered W). Logs j.stored j.may_leave contents base s rs os t [] x.0 x.1)
-        (λ k. ((sym h.0 k).gate, sym h.1 k)) a
+        (λ k. (sym h.1.0 k, sym h.1.1 k)) a
     log_given rs os t (Given records) m n a sound is h =
-        subst (λ (x : Buffered W). Logs j.stored j.may_leave contents base s rs os t [] n.0.gate x) (sym h.1)
-        (logs_compact j contents base s rs os t records m.0.gate n.0.gate m.1 a sound is.0 is.1 h.3)
+        subst (λ (x : Buffered W). Logs j.stored j.may_leave contents base s rs os t [] n.0.gate x) (sym h.1.0)
+        (logs_compact j contents base s rs os t records m.0.gate n.0.gate m.1 a sound is.0 is.1 h.1.2)
     log_given rs os t Lacking m n a sound is h =
-        subst (λ (x : Buffered W). Logs j.stored j.may_leave contents base s rs os t [] n.0.gate x) (sym h.1)
-        (logs_same j.stored j.may_leave contents base s rs os t [] m.0.gate n.0.gate m.1 h.3.untouched
-        (ap waiting h.3.unstored) a)
+        subst (λ (x : Buffered W). Logs j.stored j.may_leave contents base s rs os t [] n.0.gate x) (sym h.1.0)
+        (logs_same j.stored j.may_leave contents base s rs os t [] m.0.gate n.0.gate m.1 h.1.2.untouched
+        (ap waiting h.1.2.unstored) a)
 
     log_exchanged : (xs : List Exchange) (es : List Event) (m b : Logged S J × Buffered W) (rs : List (List Field))
         (dos : List Outcome) (t u : State) (os : List Outcome) → length dos ≡ length rs → Log rs dos t [] m →
@@ -234,7 +204,7 @@ module _ {S W J : Type 0} (left : S → List (List Field) → Type 0) (contents 
     gives_part e (In_taking of x answered) s t rest os is claims run = (
       claims,
       one_event (Not_taken e) x s t rest os is run (λ m n now h.
-          log_untouched (contents a.1.device) s (records_taken x.done) os t m n h.0 now h.1 h.2.untouched h.2.waits),
+          log_untouched (contents a.1.device) s (records_taken x.done) os t m n h.1.0 now h.1.1 h.1.2.untouched h.1.2.waits),
     )
     gives_part e (runs.Not_sent write x answered) s t rest os is claims run = (
       claims,

@@ -71,17 +71,17 @@ commit_differs l n inside other s a t ok = by_batches s.content s.batch a.place 
 -- ---- the records of a text
 
 -- a record was taken that no state accepts
-pub none_leads : (text : List ℕ) (m n : InMemory) (l : Loader) (fields : List Field) → Loading (records_of text) m l →
+pub none_leads : (text : List ℕ) (m n : InMemory) (l : Loader) (taken : ℕ) (fields : List Field) → Loading (records_of text) m l taken →
     TakesOne (left_of m) (left_of n) fields → RefusesRecord l fields → LeadsNowhere text
-none_leads text m n l fields a took refuses c leads =
+none_leads text m n l taken fields a took refuses c leads =
     let next = took a.rest a.are_left in
     let first = rw next.1 at (a.splits (closed c) leads) in
     refuses first.0 first.1 first.2 a.state a.loads first.3 first.4
 
 -- all were taken, and a batch is open
-pub open_leads : (text : List ℕ) (m : InMemory) (l : Loader) → Loading (records_of text) m l → HasNone (left_of m) →
+pub open_leads : (text : List ℕ) (m : InMemory) (l : Loader) (taken : ℕ) → Loading (records_of text) m l taken → HasNone (left_of m) →
     ((s : State) → Loads l s → (c : Content) → s ≡ closed c → ⊥) → LeadsNowhere text
-open_leads text m l a none refused c leads =
+open_leads text m l taken a none refused c leads =
     refused a.state a.loads c (rw (none a.rest a.are_left) at (a.splits (closed c) leads))
 
 pub outside_closed : (l : Loader) → l.in_batch ≡ true → (s : State) → Loads l s → (c : Content) → s ≡ closed c → ⊥

@@ -88,8 +88,9 @@ loads_finished l new s a outside stored = by_batches s.content s.batch a
 -- ---- the records of a text
 
 -- of all records those that are left are accepted after those that were taken, which led the loader to a state
-pub record Loading (all : List (List Field)) (m : InMemory) (l : Loader) : Type 0 where
+pub record Loading (all : List (List Field)) (m : InMemory) (l : Loader) (taken : ℕ) : Type 0 where
   pub rest : List (List Field)
+  pub sum : length all ≡ taken + length rest
   pub are_left : left_of m rest
   pub state : State
   pub loads : Loads l state
@@ -97,17 +98,19 @@ pub record Loading (all : List (List Field)) (m : InMemory) (l : Loader) : Type 
   pub splits : (t : State) → Accepted start_state all t → Accepted state rest t
 
 pub loading_start : (all : List (List Field)) (m : InMemory) (l : Loader) → left_of m all → Loads l start_state →
-    Loading all m l
+    Loading all m l 0
 loading_start all m l are_left loads =
-    record { rest = all; are_left = are_left; state = start_state; loads = loads; joins = λ t a. a; splits = λ t a. a }
+    record { rest = all; sum = omega arith; are_left = are_left; state = start_state; loads = loads; joins = λ t a. a; splits = λ t a. a }
 
-pub loading_more : (all : List (List Field)) (m n : InMemory) (l k : Loader) (fields : List Field) → Loading all m l →
-    TakesOne (left_of m) (left_of n) fields → LoadsRecord l fields k → Loading all n k
-loading_more all m n l k fields a took (c, is, stored, loads) =
+pub loading_more : (all : List (List Field)) (m n : InMemory) (l k : Loader) (taken : ℕ) (fields : List Field) → Loading all m l taken →
+    TakesOne (left_of m) (left_of n) fields → LoadsRecord l fields k → Loading all n k (taken + 1)
+loading_more all m n l k taken fields a took (c, is, stored, loads) =
     let next = took a.rest a.are_left in
     let one = loads a.state a.loads in
+    let size = ap length next.1 in
     record {
       rest = next.0;
+      sum = omega (arith, a.sum, size);
       are_left = next.2;
       state = one.0;
       loads = one.2;
@@ -115,10 +118,14 @@ loading_more all m n l k fields a took (c, is, stored, loads) =
       splits = λ t b. accepted_next a.state one.0 t fields next.0 c is one.1 (rw next.1 at (a.splits t b));
     }
 
-pub loading_end : (text : List ℕ) (m : InMemory) (l : Loader) (new : Registered) → Loading (records_of text) m l →
+pub loading_many : (all : List (List Field)) (m n : InMemory) (l : Loader) (taken : ℕ) (fields : List Field) → Loading all m l taken →
+    TakesOne (left_of m) (left_of n) fields → taken < length all
+loading_many all m n l taken fields a took = let size = ap length (took a.rest a.are_left).1 in omega (arith, a.sum, size)
+
+pub loading_end : (text : List ℕ) (m : InMemory) (l : Loader) (new : Registered) (taken : ℕ) → Loading (records_of text) m l taken →
     HasNone (left_of m)
     → ((s : State) → Loads l s → (c : Content) × (s ≡ closed c) × Represents new.state (closed c)) → HasContentOf text new
-loading_end text m l new a none finished =
+loading_end text m l new taken a none finished =
     let f = finished a.state a.loads in (f.0, a.joins (closed f.0) (rw (none a.rest a.are_left) f.1), f.2)
 
 -- what is said of a command that is k is said of k

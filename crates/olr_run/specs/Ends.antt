@@ -13,18 +13,17 @@ use Rattle.olr_run.specs.Explains.{Explains}
 use Rattle.olr_run.specs.Opens.{IsFile}
 use Rattle.olr_run.specs.Options.{Options, keep_app, options}
 use Rattle.olr_run.specs.Sizes.{IsLength, NoSize}
-use Rattle.olr_log.specs.Logs.{stored_of, left_of, is_native_of}
+use Rattle.olr_log.specs.Logs.{as_journal, stored_of, left_of, is_native_of}
 use Rattle.olr_log.specs.declared.folder.Folder as folder
 use Rattle.olr_log.specs.declared.log_file.LogFile.{LogFile}
 use Rattle.olr_log.specs.declared.place.OpenError.{OpenError}
 use Rattle.olr_log.specs.declared.place.OpenError.TheVariants as unopened
 use Rattle.olr_register.specs.Registered.{Registered, nothing_registered}
 use Rattle.olr_run.specs.LogEnds.{Begins, Unbegun}
-use Rattle.olr_run.specs.Logs.{Lasts}
+use Rattle.olr_run.specs.Logs.{Lasts, RanThrough}
 use Rattle.olr_run.specs.Output.{Claims}
 use Rattle.olr_run.specs.Runs.{Records, EndedOn, records_read}
 use Rattle.olr_input.specs.Buffers.{written}
-use Rattle.olr_input.specs.Gates.{compaction}
 use Rattle.olr_input.specs.Sessions.{Known}
 use Rattle.olr_input.specs.Statuses.{exit_code}
 use Rattle.olr_input.specs.declared.buffered.Buffered.{Buffered}
@@ -85,14 +84,14 @@ module _ {D F : Type 0} {d : disk.Ghosts D} {f : folder.Ghosts F D} {W : Type 0}
   -- It could not begin, and nothing was answered; or it began, and its log was replaced from this length on.
   pub data FromLog (log last : LogFile D F d f) (least : ℕ) (stop : Bool) (records : Records) (o p : Buffered W) (code : ℕ) :
       Type 0 where
-    Not_begun : p ≡ o → (rejected : Bool) → UnbegunCode rejected code → Unbegun log last rejected →
+    Not_begun : p ≡ o → (rejected oversized : Bool) → UnbegunCode rejected code → Unbegun log last rejected oversized →
         FromLog log last least stop records o p code
     Begun : (read start : LogFile D F d f) (old new : Registered) → Begins log read start old →
         (end : Result Status RunFault) →
         EndedOn (Lasts stored_of left_of contents start o (left_of last) p)
         (Lasts stored_of left_of contents start o (left_of last) p) stop old records (written contents o) new
         (written contents p) end
-        → (g : Gate (LogFile D F d f)) → (compaction g).compacted_from ≡ least → LeftAfter g end last
+        → (g : Gate (LogFile D F d f)) → RanThrough contents as_journal stop old start least o new g p end → LeftAfter g end last
         → code ≡ run_code end (is_some new.state.batch) → FromLog log last least stop records o p code
 
   -- by whether the log was opened; the log as it was left

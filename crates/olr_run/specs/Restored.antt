@@ -5,8 +5,9 @@
 --     Loads l s      the records so far lead to this state, and the loader has its content once the held changes are made
 --     Loaded old c new      this command of a log is accepted
 --     is_rejection fault      a log is rejected for it, whatever memory there is
+--     is_too_many fault, most_log_records      it has more records than this, the most that are restored
 --     Refuses l c, RefusesRecord l fields      this command of a log, or a record, is accepted in no state that the loader stands for
-use Rattle.std.specs.Prelude.{◌≡◌, ℕ, Bool, true, false, List, length, Option, Some, None, Ok}
+use Rattle.std.specs.Prelude.{◌≡◌, ◌^◌, ℕ, Bool, true, false, List, length, Option, Some, None, Ok}
 use Rattle.olr_commands.specs.State.{Content, Change, Command, State, start_state, step, with_held}
 use Rattle.olr_records.specs.Records.{Field, read}
 use Rattle.olr_register.specs.RegisterState.{Represents}
@@ -44,6 +45,13 @@ abbrev pub is_rejection : RestoreFault → Bool
 is_rejection restore.Memory = false
 is_rejection restore.TooMany = false
 is_rejection fault = true
+
+abbrev pub is_too_many : RestoreFault → Bool
+is_too_many restore.TooMany = true
+is_too_many fault = false
+
+abbrev pub most_log_records : ℕ
+most_log_records = 2 ^ 40
 
 abbrev pub Refuses : Loader → Command → Type 0
 Refuses l c = (s : State) → Loads l s → (t : State) → step s c ≡ Ok t → ⊥

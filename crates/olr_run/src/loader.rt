@@ -1,6 +1,6 @@
 //! A start from a log.
 
-ghost use Rattle.std.specs.Prelude.{◌≡◌, true, IfOk, IfErr, OnOk};
+ghost use Rattle.std.specs.Prelude.{◌≡◌, ◌<◌, true, false, length, IfOk, IfErr, OnOk};
 ghost use Rattle.csv.specs.Records.{fields_of};
 ghost use Rattle.olr_commands.specs.State as state;
 ghost use Rattle.olr_commands.specs.State.{start_state, Content, Begin, Commit};
@@ -8,7 +8,9 @@ ghost use Rattle.olr_commands.specs.Words.{command_of, command_fault_of};
 ghost use Rattle.olr_register.specs.Built.{EncodedOnce, IsChange};
 ghost use Rattle.olr_register.specs.RegisterState.{Represents};
 ghost use Rattle.olr_run.specs.Logged.{closed, IsLogged, Leads};
-ghost use Rattle.olr_run.specs.Restored.{HasContentOf, LeadsNowhere, Loaded, Loads, LoadsRecord, Refuses, RefusesRecord, is_rejection};
+ghost use Rattle.olr_run.specs.Restored.{HasContentOf, LeadsNowhere, Loaded, Loads, LoadsRecord, Refuses, RefusesRecord, is_rejection, is_too_many};
+ghost use Rattle.olr_run.specs.Restored.{most_log_records};
+ghost use Rattle.olr_run.specs.Output.{records_of};
 ghost use Rattle.olr_run.specs.declared.loader.RestoreFault.TheVariants as restore;
 
 use csv::ByteRecord;
@@ -67,7 +69,8 @@ pub struct Loader {
 
 /// The fault of a rejected command of a log.
 fn restore_fault(fault: CommandFault) -> RestoreFault
-    ensures { is_rejection result ≡ true → command_fault_of fault ≡ state.Memory → ⊥ }
+    ensures memory { is_rejection result ≡ true → command_fault_of fault ≡ state.Memory → ⊥ }
+    ensures few { is_too_many result ≡ false }
 {
     let line = fault_text(fault);
     if line == fault_text(CommandFault::Memory) {
@@ -94,6 +97,7 @@ impl Loader {
         requires { IsChange (command_of command) }
         ensures loaded { OnOk result (Loaded self.old (command_of command) self.new) }
         ensures refused { IfErr result (λ e. is_rejection e ≡ true → Refuses self.old (command_of command)) }
+        ensures few { IfErr result (λ e. is_too_many e ≡ false) }
     {
         if self.in_batch && self.count >= FULL {
             return Err(restore_fault(CommandFault::BatchFull));
@@ -112,6 +116,7 @@ impl Loader {
     fn begin(&mut self) -> Result<(), RestoreFault>
         ensures loaded { OnOk result (Loaded self.old Begin self.new) }
         ensures refused { IfErr result (λ e. is_rejection e ≡ true → Refuses self.old Begin) }
+        ensures few { IfErr result (λ e. is_too_many e ≡ false) }
     {
         if self.in_batch {
             return Err(restore_fault(CommandFault::BatchOpen));
@@ -126,6 +131,7 @@ impl Loader {
     fn commit(&mut self, count: u32) -> Result<(), RestoreFault>
         ensures loaded { OnOk result (Loaded self.old (Commit count) self.new) }
         ensures refused { IfErr result (λ e. is_rejection e ≡ true → Refuses self.old (Commit count)) }
+        ensures few { IfErr result (λ e. is_too_many e ≡ false) }
     {
         if !self.in_batch {
             return Err(restore_fault(CommandFault::NoBatch));
@@ -142,6 +148,7 @@ impl Loader {
         ensures loaded { OnOk result (IsLogged (command_of command) × Loaded self.old (command_of command) self.new) }
         ensures refused { IfErr result (λ e. is_rejection e ≡ true
             → IsLogged (command_of command) → Refuses self.old (command_of command)) }
+        ensures few { IfErr result (λ e. is_too_many e ≡ false) }
     {
         match command {
             Command::Edit(_) => self.change(command),
@@ -159,6 +166,7 @@ impl Loader {
     fn take(&mut self, alloc: Global, fields: &ByteRecord) -> Result<(), RestoreFault>
         ensures loads { OnOk result (LoadsRecord self.old (fields_of fields.now) self.new) }
         ensures refused { IfErr result (λ e. is_rejection e ≡ true → RefusesRecord self.old (fields_of fields.now)) }
+        ensures few { IfErr result (λ e. is_too_many e ≡ false) }
     {
         match read_command(alloc, fields) {
             Ok(command) => self.carry_out(command),
@@ -175,6 +183,7 @@ impl Loader {
         ensures counted { IfOk result (λ r. EncodedOnce r) }
         ensures refused { IfErr result (λ e. is_rejection e ≡ true
             → (s : state.State) → Loads self s → (c : Content) → s ≡ closed c → ⊥) }
+        ensures few { IfErr result (λ e. is_too_many e ≡ false) }
     {
         if self.in_batch {
             return Err(RestoreFault::Open);
@@ -208,6 +217,7 @@ pub fn restore(
     ensures leads { IfOk result (λ r. (c : Content) → Leads text.now c → Represents r.state (closed c)) }
     ensures counted { IfOk result (λ r. EncodedOnce r) }
     ensures refused { IfErr result (λ e. is_rejection e ≡ true → LeadsNowhere text.now) }
+    ensures many { IfErr result (λ e. is_too_many e ≡ true → most_log_records < length (records_of text.now)) }
 {
     let mut loader = Loader::new(alloc);
     let mut records = InMemory::new(alloc, text);

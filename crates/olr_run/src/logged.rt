@@ -1,7 +1,7 @@
 //! Runs whose accepted changes are stored in a log before their answers are sent.
 
 ghost use Rattle.std.specs.Prelude.{◌≡◌, [], IfSome, OnOk};
-ghost use Rattle.olr_run.specs.Logs.{Lasts, LastsWhole};
+ghost use Rattle.olr_run.specs.Logs.{Lasts, LastsWhole, RanThrough};
 ghost use Rattle.olr_run.specs.Runs.{once_sent, EndedOn, Records};
 ghost use Rattle.olr_input.specs.Buffers.{pending, written};
 ghost use Rattle.olr_input.specs.Gates.{compaction};
@@ -47,6 +47,7 @@ pub fn run_with_log<S: Source + Drop, W: Write + Drop, J: Journal + Drop>(
         register.old records (written W.contents output.old) register.new (written W.contents output.new) result.0 }
     ensures sent { OnOk result.0 (pending output.new ≡ []) }
     ensures length { (compaction result.1).compacted_from ≡ from }
+    ensures through { RanThrough W.contents J.Journal stop register.old journal from output.old register.new result.1 output.new result.0 }
 {
     register.is_sound();
     let gate = Gate::new(alloc, journal, from);

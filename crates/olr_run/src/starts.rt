@@ -1,9 +1,10 @@
 //! A start from a log in a file.
 
-ghost use Rattle.std.specs.Prelude.{◌≡◌, ◌⊎◌, true, false, ℕ, List, IfOk, IfErr, OnOk};
+ghost use Rattle.std.specs.Prelude.{◌≡◌, ◌⊎◌, ◌<◌, true, false, ℕ, List, length, IfOk, IfErr, OnOk};
 ghost use Rattle.olr_log.specs.Logs.{stored_of, left_of, is_native_of, is_clean};
-ghost use Rattle.olr_run.specs.LogEnds.{AreRecordsOf, BegunFrom, Unbegun, is_rejected};
-ghost use Rattle.olr_run.specs.Restored.{HasContentOf, LeadsNowhere};
+ghost use Rattle.olr_run.specs.LogEnds.{AreRecordsOf, BegunFrom, Unbegun, is_oversized, is_rejected};
+ghost use Rattle.olr_run.specs.Output.{records_of};
+ghost use Rattle.olr_run.specs.Restored.{HasContentOf, LeadsNowhere, most_log_records};
 ghost use Rattle.olr_input.specs.Journals.{Only};
 
 use crate::answers::records_text;
@@ -55,6 +56,8 @@ fn read_log<D: Disk + Drop, G: Folder<D>>(
 ) -> Result<(Register, u64), StartFault>
     ensures content { IfOk result (λ r. is_clean log.new ≡ true → HasContentOf (stored_of log.old) r.0) }
     ensures refused { IfErr result (λ e. is_rejected e ≡ true → is_clean log.new ≡ true → LeadsNowhere (stored_of log.old)) }
+    ensures many { IfErr result (λ e. is_oversized e ≡ true → is_clean log.new ≡ true
+        → most_log_records < length (records_of (stored_of log.old))) }
     ensures stored { stored_of log.new ≡ stored_of log.old }
     ensures kind { is_native_of log.new ≡ is_native_of log.old }
     ensures less { (t : List ℕ) → left_of log.new t → left_of log.old t }
@@ -89,7 +92,7 @@ fn put_records<D: Disk + Drop, G: Folder<D>>(
     ensures kind { IfOk result (λ done. done ≡ false → is_native_of log.new ≡ is_native_of log.old) }
     ensures durable { Only (stored_of log.old) (left_of log.old) → OnOk result (Only (stored_of log.new) (left_of log.new)) }
     ensures cut { (t : List ℕ) → left_of log.new t → left_of log.old t ⊎ AreRecordsOf register.now t }
-    ensures fails { IfErr result (λ e. is_rejected e ≡ false) }
+    ensures fails { IfErr result (λ e. (is_rejected e ≡ false) × (is_oversized e ≡ false)) }
 {
     let Ok(text) = records_text(register) else {
         return Ok(false);
@@ -117,7 +120,7 @@ fn prepare_log<D: Disk + Drop, G: Folder<D>>(
     ensures durable { Only (stored_of log.old) (left_of log.old) → OnOk result (Only (stored_of log.new) (left_of log.new)) }
     ensures cut { (t : List ℕ) → left_of log.new t
         → left_of log.old t ⊎ (t ≡ stored_of log.old) ⊎ AreRecordsOf register.now t }
-    ensures fails { IfErr result (λ e. is_rejected e ≡ false) }
+    ensures fails { IfErr result (λ e. (is_rejected e ≡ false) × (is_oversized e ≡ false)) }
 {
     let is_native = log.is_native();
     if is_native && log.len() < from {
@@ -143,7 +146,7 @@ pub fn begin_with<D: Disk + Drop, G: Folder<D>>(
     from: usize,
 ) -> Result<(Register, u64), StartFault>
     ensures begun { IfOk result (λ r. BegunFrom log.old log.new r.0) }
-    ensures unbegun { IfErr result (λ e. Unbegun log.old log.new (is_rejected e)) }
+    ensures unbegun { IfErr result (λ e. Unbegun log.old log.new (is_rejected e) (is_oversized e)) }
 {
     let (register, records) = read_log(alloc, log)?;
     register.is_sound();

@@ -98,7 +98,7 @@ fn sources<F: Read + Drop, O: FnOnce(&str) -> io::Result<F>, R: Read + Drop, E: 
 /// Reads the arguments, opens the command file if they name one, and then the log if they name one, carries out the commands of
 /// the file and then those of the input, and returns the exit status. With `--lines`, each line of both is one record. Without
 /// a log it begins with an empty register; with one it begins with what the log says, and stores each accepted change there
-/// before the answer is sent. No log is opened or made if the arguments can't be carried out. `open_log` opens the log of a
+/// before the answer is sent. If the arguments can't be carried out, no log is returned. `open_log` opens the log of a
 /// name, or makes it if the options say so. Replies, and help if it is wanted, are written to `output`, and all of them have been sent
 /// if the status is 0, 1 or 6; otherwise the last ones may still be pending, at most 64 KB. Messages are written to `errors`.
 /// Returns also the log as it was left. The register is not dropped: its memory is left to the end of the process.

@@ -9,6 +9,8 @@ invariant-loop-at g l =
     record {
       usable : IsTrue (disk.is_usable l.disk);
       calm : disk.is_clean l.disk ≡ disk.is_clean l.fn.disk;
+      key : disk.key_of l.disk ≡ disk.key_of l.fn.disk;
+      steady : disk.faults l.disk ≡ disk.faults l.fn.disk;
       low : l.from ≤ l.at;
       within : l.at ≤ l.to;
       blank : l.from < l.at → IsBlank l.from l.at (disk.seen l.disk);

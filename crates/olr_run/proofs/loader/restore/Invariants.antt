@@ -5,7 +5,7 @@ use Rattle.olr_run.proofs.loader.restore.Given as goal
 abbrev pub invariant-records : goal.invariant-records
 invariant-records l = record {
   few : l.progress.taken ≤ 1099511627776;
-  loading : Loading (records_of l.text) l.records l.loader;
+  loading : Loading (records_of l.text) l.records l.loader l.progress.taken;
 }
 
 abbrev pub decreases-records : goal.decreases-records

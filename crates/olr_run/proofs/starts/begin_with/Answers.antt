@@ -21,6 +21,7 @@ returns-in_err-register-clause-unbegun g c =
       c.read_log.ensures.stored,
       λ t left. inl (c.read_log.ensures.less t left),
       c.in_err-register.ensures.refused,
+      c.in_err-register.ensures.many,
     ))
 
 pub returns-in_err-prepare_log-clause-unbegun : goal.returns-in_err-prepare_log-clause-unbegun
@@ -28,6 +29,6 @@ returns-in_err-prepare_log-clause-unbegun g c =
     let p = err_from_is_err_and c.from_residual-in_err-prepare_log.result c.from_residual-in_err-prepare_log.ensures.1 in
     rw p.1
     (rw p.2
-    (unbegun_after c.args.log.now c.read_log.new.log c.prepare_log.new.log _ c.in_ok-register.register
+    (unbegun_after c.args.log.now c.read_log.new.log c.prepare_log.new.log _ _ c.in_ok-register.register
     c.read_log.ensures.stored c.read_log.ensures.less c.in_ok-register.ensures.content c.prepare_log.ensures.cut
     c.in_err-prepare_log.ensures.fails))

@@ -9,4 +9,4 @@ returns g c =
     writes_logged g.S.Source.left g.W.Write.contents g.J.Journal s
     (record { source = s.source; gate = c.write.new.self }) c.conclude.new.self c.args.output.now c.write.new.output
     c.args.text.now c.args.accepted c.write.result refl
-    (record { untouched = concluded.untouched; due = concluded.due; concluded = concluded.concluded }) c.write.ensures
+    (record { untouched = concluded.untouched; due = concluded.due; concluded = concluded.concluded }) c.write.ensures.passes

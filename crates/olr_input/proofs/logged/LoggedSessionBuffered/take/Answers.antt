@@ -14,7 +14,7 @@ returns-in_err-take_from g c =
     let p = err_from_is_err_and c.from_residual-in_err-take_from.result c.from_residual-in_err-take_from.ensures.1 in
     let same : Untouched gate gate = record { journal = refl; fault = refl; length = refl } in
     let kept : LostLine gate gate = record { untouched = same; due = refl; waits = refl } in
-    rw p.1 (inl ((gate, c.send_before.ensures.passes, kept), subst IsOfTaking (sym p.2) c.in_err-take_from.ensures.1))
+    rw p.1 (inl ((tt, (gate, c.send_before.ensures.passes, kept)), subst IsOfTaking (sym p.2) c.in_err-take_from.ensures.1))
 
 pub returns-in_err-take : goal.returns-in_err-take
 returns-in_err-take g c =
@@ -22,13 +22,15 @@ returns-in_err-take g c =
     let took = c.take.ensures in
     let p = err_from_is_err_and c.from_residual-in_err-take.result c.from_residual-in_err-take.ensures.1 in
     let lost : LostLine gate c.take.new.self = record { untouched = took.untouched; due = took.due; waits = took.waiting } in
-    rw p.1 (inl ((gate, c.send_before.ensures.passes, lost), subst IsOfTaking (sym p.2) tt))
+    rw p.1 (inl ((tt, (gate, c.send_before.ensures.passes, lost)), subst IsOfTaking (sym p.2) tt))
 
 pub returns : goal.returns
 returns g c =
     let took = c.in_ok-take.ensures in (
-      c.send_before.new.self,
-      c.send_before.ensures.passes,
-      record { untouched = took.untouched; due = took.due; waits = took.waiting; effect = took.effect; line = took.line },
       (rw c.if-not-branch.false at c.in_ok-take_from.ensures),
+      (
+        c.send_before.new.self,
+        c.send_before.ensures.passes,
+        record { untouched = took.untouched; due = took.due; waits = took.waiting; effect = took.effect; line = took.line },
+      ),
     )

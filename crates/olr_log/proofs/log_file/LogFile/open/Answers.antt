@@ -1,4 +1,4 @@
-use Rattle.olr_log.proofs.Common.{◌≡◌, None, true, false, sym, ◌∙◌, ap, Ghosts, left_behind, text_of, left_over_in, Stands}
+use Rattle.olr_log.proofs.Common.{◌≡◌, None, true, false, refl, sym, ◌∙◌, ap, Ghosts, left_behind, text_of, left_over_in, Stands}
 use Rattle.olr_log.proofs.Common.{is_broken_in, is_ready_in, State, Foreign, Opened, Ready, Broken}
 use Rattle.olr_log.proofs.Behind.{found_left, foreign_left}
 use Rattle.olr_log.proofs.Crashes.{only_stored, text_is_stored}
@@ -20,4 +20,5 @@ returns-clause-rest g c clean =
 
 pub returns-clause-durable : goal.returns-clause-durable
 returns-clause-durable g c =
-    only_stored g.D.Disk (g.F.Folder.may_lead c.args.folder) 0 c.examine.new.disk None c.in_ok-state.state c.in_ok-state.ensures.stands c.in_ok-state.ensures.unbroken c.requires.named
+    only_stored g.D.Disk (g.F.Folder.may_lead c.args.folder) c.examine.new.disk None c.in_ok-state.state c.in_ok-state.ensures.stands c.in_ok-state.ensures.unbroken
+    (λ n leads. c.requires.named n leads ∙ sym c.examine.ensures.key) refl

@@ -14,17 +14,17 @@ pub returns-in-Ready-clause-durable : goal.returns-in-Ready-clause-durable
 returns-in-Ready-clause-durable g c =
     let self = c.args.self.now in
     let alive = ap is_broken_in c.in-Ready.is in
-    only_stored g.D.Disk (g.F.Folder.may_lead self.folder) self.number self.disk self.rival self.state self.stands alive (self.led alive)
+    only_stored g.D.Disk (g.F.Folder.may_lead self.folder) self.disk self.rival self.state self.stands alive (self.led alive) (self.alone alive)
 
 pub returns-in_err-len-clause-cut : goal.returns-in_err-len-clause-cut
 returns-in_err-len-clause-cut g c text left =
     let was = Opened c.in-Opened.text_len c.in-Opened.last c.in-Opened.len in
-    inr (left_stored c.args.self.now c.wipe.new.disk was c.in-Opened.is refl c.wipe.ensures.cut text left)
+    inr (left_stored c.args.self.now c.wipe.new.disk was c.wipe.ensures.key c.in-Opened.is refl c.wipe.ensures.cut text left)
 
 pub returns-clause-cut : goal.returns-clause-cut
 returns-clause-cut g c text left =
     let was = Opened c.in-Opened.text_len c.in-Opened.last c.in-Opened.len in
-    inr (left_stored c.args.self.now c.wipe.new.disk was c.in-Opened.is refl c.wipe.ensures.cut text left)
+    inr (left_stored c.args.self.now c.wipe.new.disk was c.wipe.ensures.key c.in-Opened.is refl c.wipe.ensures.cut text left)
 
 pub returns-clause-padded : goal.returns-clause-padded
 returns-clause-padded g c clean =
@@ -35,4 +35,6 @@ returns-clause-padded g c clean =
 pub returns-clause-durable : goal.returns-clause-durable
 returns-clause-durable g c =
     let self = c.args.self.now in
-    only_stored g.D.Disk (g.F.Folder.may_lead self.folder) self.number c.wipe.new.disk self.rival (Ready c.in-Opened.text_len c.in_ok-len.len) c.in_ok-len.ensures.stands refl (self.led (ap is_broken_in c.in-Opened.is))
+    let alive = ap is_broken_in c.in-Opened.is in
+    only_stored g.D.Disk (g.F.Folder.may_lead self.folder) c.wipe.new.disk self.rival (Ready c.in-Opened.text_len c.in_ok-len.len) c.in_ok-len.ensures.stands refl
+    (λ n leads. self.led alive n leads ∙ sym c.wipe.ensures.key) (self.alone alive)

@@ -8,7 +8,7 @@ use Rattle.olr_run.proofs.loader.Loader.change.Goals.{then-self-2, else-self-2}
 pub returns-in-Err-clause-refused : goal.returns-in-Err-clause-refused
 returns-in-Err-clause-refused c = λ is.
     change_never c.args.self.now (command_of c.args.command) (command_fault_of c.in-Err.fault) c.requires
-    c.in-Err.ensures.refused (c.restore_fault-in-Err.ensures is)
+    c.in-Err.ensures.refused (c.restore_fault-in-Err.ensures.memory is)
 
 pub returns-clause-loaded : goal.returns-clause-loaded
 returns-clause-loaded c =
