@@ -8,6 +8,7 @@ pub mod RowLemmas
 pub mod CommandLemmas
 pub mod AmbiguityLemmas
 pub mod PartnerReceivers
+pub mod ElsewhereRowLemmas
 pub mod DependLemmas
 pub mod ShownLemmas
 pub mod LineLemmas

@@ -9,10 +9,13 @@ use Rattle.olr_spec.proofs.FitLemmas.{by_answer}
 use Rattle.olr_spec.proofs.PartnerLemmas.{recovered_elsewhere}
 use Rattle.olr_spec.proofs.ReceiverLemmas.{line_at_point, same_path, size}
 use Rattle.olr_spec.specs.Elsewhere.{RecoversLegs}
+use Rattle.olr_spec.specs.Split.{chains, RecoversRoads}
+use Rattle.olr_spec.specs.Extension.{first, last}
+use Rattle.olr_spec.proofs.SplitLemmas.{recovered_on_roads}
 use Rattle.olr_spec.specs.Margins.{Margin}
 use Rattle.olr_spec.specs.Receiver.{RecoversFrom, last_number, RecoversBy, attributes, Outgoing, Incoming, last_lrp, lrp_at, Lrp}
-use Rattle.olr_spec.specs.Recovery.{IsStretchesWith, stretches}
-use Rattle.olr_laws.specs.ReceiverLaws.{TakesOwn, ReceiverLaws}
+use Rattle.olr_spec.specs.Recovery.{stretches}
+use Rattle.olr_laws.specs.ReceiverLaws.{TakesOwn, TakesRoads, IsRoadsWith, ReceiverLaws}
 use Rattle.olr_laws.proofs.CommandLemmas.{path_in}
 
 -- what is left of a list from an element on
@@ -23,8 +26,8 @@ split_at zero (x ∷ xs) y ys e = (cc, cc)
 split_at (suc k) [] y ys e = absurd cc
 split_at (suc k) (x ∷ xs) y ys e = split_at k xs y ys e
 
-module _ (takes : Lrp → ℕ) {g : Margin} (M N : Map) (m : IsMap M) (P : Path) (is : IsTrue (is_path P.lines))
-    (none : path_fault M P ≡ None) (r : Reference) (e : EncodingWith g M P (Points r)) (own : TakesOwn takes g M P r) where
+module _ (takes : Lrp → ℕ) (chain : ℕ → List ℕ) {g : Margin} (M N : Map) (m : IsMap M) (P : Path) (is : IsTrue (is_path P.lines))
+    (none : path_fault M P ≡ None) (r : Reference) (e : EncodingWith g M P (Points r)) (own : TakesRoads takes chain g M P r) where
   abbrev Lines : List ℕ
   Lines = (extended_path M P e.before e.after).lines
 
@@ -39,56 +42,99 @@ module _ (takes : Lrp → ℕ) {g : Margin} (M N : Map) (m : IsMap M) (P : Path)
   Along h i js = attrs_with g (legs M Lines) h i ∷ map (λ (m : Middle). m.attrs) (middle_points_with g (legs M Lines) h i js)
 
   taken : (k h : ℕ) (hs : List ℕ) (a : Attrs) (bs : List Attrs) → drop k Points_kept ≡ h ∷ hs → drop k (attributes r) ≡ a ∷ bs →
-      takes (lrp_at r k a) ≡ slice_index Lines h
+      takes (lrp_at r k a) ≡ first (chain (slice_index Lines h))
   taken k h hs a bs at along =
       own.outgoing k (slice_index Lines h) a (split_at k (attributes r) a bs along).0
       (line_at_point M m P is none r e Outgoing k h (split_at k Points_kept h hs at).0)
 
-  taken_last : (k h : ℕ) → k ≡ last_number r → drop k Points_kept ≡ h ∷ [] → takes (last_lrp r) ≡ slice_index Lines (h - 1)
+  taken_last : (k h : ℕ) → k ≡ last_number r → drop k Points_kept ≡ h ∷ [] → takes (last_lrp r) ≡ last (chain (slice_index Lines (h - 1)))
   taken_last k h last at =
       own.incoming (slice_index Lines (h - 1)) (line_at_point M m P is none r e Incoming (last_number r) h
       (subst (λ (n : ℕ). slice_get Points_kept n ≡ Some h) last (split_at k Points_kept h [] at).0))
 
+  abbrev Roads : ℕ → ℕ → List ℕ
+  Roads h i = chains chain (stretch Lines h i)
+
   -- from the path's own line at LRP k the legs after it are recovered
   from_point : (k h i : ℕ) (js : List ℕ) → drop k Points_kept ≡ h ∷ i ∷ js → drop k (attributes r) ≡ Along h i js →
-      k + length (h ∷ i ∷ js) ≡ last_number r + 1 → RecoversLegs g M N Lines (h ∷ i ∷ js) → (ws : List (List ℕ)) →
-      RecoversFrom T N r k (slice_index Lines h) (Along h i js) ws ↔ (ws ≡ stretches Lines (h ∷ i ∷ js))
+      k + length (h ∷ i ∷ js) ≡ last_number r + 1 → RecoversRoads g M N chain Lines (h ∷ i ∷ js) → (ws : List (List ℕ)) →
+      RecoversFrom T N r k (first (chain (slice_index Lines h))) (Along h i js) ws
+      ↔ (ws ≡ map (chains chain) (stretches Lines (h ∷ i ∷ js)))
   from_point k h i [] at along long route ws =
       let c = (attrs_with g (legs M Lines) h i).lfrc in
+      let x = first (chain (slice_index Lines h)) in
       let o = taken_last (suc k) i (omega arith) (split_at k Points_kept h (i ∷ []) at).1 in (
         (λ z. z.4 ∙ ap (λ (v : List ℕ). v ∷ [])
-            ((route z.1).0 (coe 0 1 (n. RecoversLast N c (slice_index Lines h) ((z.2 ∙ o) n) z.1) z.3))),
-        (λ q. (slice_index Lines (i - 1), stretch Lines h i, sym o, (route (stretch Lines h i)).1 refl, q)),
+            ((route z.1).0 (coe 0 1 (n. RecoversLast N c x ((z.2 ∙ o) n) z.1) z.3))),
+        (λ q. (last (chain (slice_index Lines (i - 1))), Roads h i, sym o, (route (Roads h i)).1 refl, q)),
       )
   from_point k h i (j ∷ js) at along long route ws =
       let c = (attrs_with g (legs M Lines) h i).lfrc in
+      let x = first (chain (slice_index Lines h)) in
       let later = (split_at k Points_kept h (i ∷ j ∷ js) at).1 in
       let attrs = (split_at k (attributes r) (attrs_with g (legs M Lines) h i) (Along i j js) along).1 in
       let o = taken (suc k) i (j ∷ js) (attrs_with g (legs M Lines) i j) _ later attrs in
       let rest = from_point (suc k) i j js later attrs (omega arith) route.1 in (
         (λ z.
             let yes = z.3 ∙ o in
-            let w = (route.0 z.1).0 (coe 0 1 (n. RecoversTo N c (slice_index Lines h) (yes n) z.1) z.4) in
+            let w = (route.0 z.1).0 (coe 0 1 (n. RecoversTo N c x (yes n) z.1) z.4) in
             z.5 ∙ (λ n. w n ∷ (rest z.2).0 (coe 0 1 (m. RecoversFrom T N r (suc k) (yes m) (Along i j js) z.2) z.6) n)),
-        (λ q. (slice_index Lines i, stretch Lines h i, _, sym o, (route.0 (stretch Lines h i)).1 refl, q, (rest _).1 refl)),
+        (λ q. (first (chain (slice_index Lines i)), Roads h i, _, sym o, (route.0 (Roads h i)).1 refl, q, (rest _).1 refl)),
       )
 
-  recovered : RecoversLegs g M N Lines Points_kept → (ws : List (List ℕ)) → RecoversBy T N r ws ↔ IsStretchesWith g M P ws
+  recovered : RecoversRoads g M N chain Lines Points_kept → (ws : List (List ℕ)) → RecoversBy T N r ws ↔ IsRoadsWith g M chain P ws
   recovered route ws =
       let f = form M P is none r e in
       let along : attributes r ≡ Along f.h f.i f.js = ap attributes f.fields_are in
-      let first = taken 0 f.h (f.i ∷ f.js) r.first.attrs _ f.kept refl in
+      let first_taken = taken 0 f.h (f.i ∷ f.js) r.first.attrs _ f.kept refl in
       let long : 0 + length (f.h ∷ f.i ∷ f.js) ≡ last_number r + 1 = omega (arith, ap length f.kept, size M m P is none r e) in
-      let rest = from_point 0 f.h f.i f.js f.kept along long (coe 0 1 (n. RecoversLegs g M N Lines (f.kept n)) route) ws in
-      let by : RecoversFrom T N r 0 (slice_index Lines f.h) (attributes r) ws ↔ (ws ≡ stretches Lines Points_kept) =
-      coe 1 0 (n. RecoversFrom T N r 0 (slice_index Lines f.h) (along n) ws ↔ (ws ≡ stretches Lines (f.kept n))) rest in (
-        (λ z. path_also e (by.0 (coe 0 1 (n. RecoversFrom T N r 0 ((z.1 ∙ first) n) (attributes r) ws) z.2))),
-        (λ p. (slice_index Lines f.h, sym first, by.1 (same_path M m P is none r e _ p))),
+      let rest = from_point 0 f.h f.i f.js f.kept along long (coe 0 1 (n. RecoversRoads g M N chain Lines (f.kept n)) route) ws in
+      let x = first (chain (slice_index Lines f.h)) in
+      let by : RecoversFrom T N r 0 x (attributes r) ws ↔ (ws ≡ map (chains chain) (stretches Lines Points_kept)) =
+      coe 1 0 (n. RecoversFrom T N r 0 x (along n) ws ↔ (ws ≡ map (chains chain) (stretches Lines (f.kept n)))) rest in (
+        (λ z. path_also e (by.0 (coe 0 1 (n. RecoversFrom T N r 0 ((z.1 ∙ first_taken) n) (attributes r) ws) z.2))),
+        (λ p. (x, sym first_taken, by.1 (path_at m is none e p))),
       )
 
-pub read_elsewhere : LawOf (λ (l : ReceiverLaws). l.read_elsewhere)
-read_elsewhere c i N n other a b within p at r e nearly classes takes own ws =
+pub read_on_roads : LawOf (λ (l : ReceiverLaws). l.read_on_roads)
+read_on_roads c i N n a b within chain p at r e along roads takes own ws =
     let is = path_in c.paths p i.paths at in
     let x = by_answer c.map p.path r e in
-    let legs_there = recovered_elsewhere c.margin c.map N i.map n other a b within p.path is r e nearly classes in
-    recovered takes c.map N i.map p.path is x.0 r x.1 own (path_at i.map is x.0 x.1 legs_there).1 ws
+    let legs_there = recovered_on_roads c.margin c.map N i.map n a b within chain p.path is r e along roads in
+    recovered takes chain c.map N i.map p.path is x.0 r x.1 own (path_at i.map is x.0 x.1 legs_there).1 ws
+
+-- ---- a map that splits none
+
+abbrev single : ℕ → List ℕ
+single x = x ∷ []
+
+chains_single : (xs : List ℕ) → chains single xs ≡ xs
+chains_single [] = refl
+chains_single (x ∷ xs) = ap (λ zs. x ∷ zs) (chains_single xs)
+
+all_single : (xss : List (List ℕ)) → map (chains single) xss ≡ xss
+all_single [] = refl
+all_single (xs ∷ xss) = λ n. chains_single xs n ∷ all_single xss n
+
+as_roads : (g : Margin) (M N : Map) (ls ks : List ℕ) → RecoversLegs g M N ls ks → RecoversRoads g M N single ls ks
+as_roads g M N ls [] h = tt
+as_roads g M N ls (p ∷ []) h = tt
+as_roads g M N ls (p ∷ q ∷ []) h =
+    subst (λ zs. (w : List ℕ) → RecoversLast N (attrs_with g (legs M ls) p q).lfrc (slice_index ls p) (slice_index ls (q - 1)) w ↔ (w ≡ zs))
+    (sym (chains_single (stretch ls p q))) h
+as_roads g M N ls (p ∷ q ∷ r ∷ ks) h = (
+  subst (λ zs. (w : List ℕ) → RecoversTo N (attrs_with g (legs M ls) p q).lfrc (slice_index ls p) (slice_index ls q) w ↔ (w ≡ zs))
+      (sym (chains_single (stretch ls p q))) h.0,
+  as_roads g M N ls (q ∷ r ∷ ks) h.1,
+)
+
+pub read_elsewhere : LawOf (λ (l : ReceiverLaws). l.read_elsewhere)
+read_elsewhere c i N n a b within p at r e along classes ours takes own ws =
+    let is = path_in c.paths p i.paths at in
+    let x = by_answer c.map p.path r e in
+    let legs_there = path_at i.map is x.0 x.1 (recovered_elsewhere c.margin c.map N i.map n a b within p.path is r e along classes ours) in
+    let roads : TakesRoads takes single c.margin c.map p.path r = record { outgoing = own.outgoing; incoming = own.incoming } in
+    let by = recovered takes single c.map N i.map p.path is x.0 r x.1 roads (as_roads c.margin c.map N _ _ legs_there.1) ws in (
+      (λ z. path_also x.1 (path_at i.map is x.0 x.1 (by.0 z) ∙ all_single _)),
+      (λ s. by.1 (path_also x.1 (path_at i.map is x.0 x.1 s ∙ sym (all_single _)))),
+    )

@@ -259,8 +259,8 @@ module _ {D F : Type 0} (d : disk.Ghosts D) (f : folder.Ghosts F D) {W : Type 0}
       BeginsWith (is_native_of log) (stored_of log) c → (start : LogFile D F d f) × Leads (stored_of start) c
       × (Only (stored_of log) (left_of log) → Only (stored_of start) (left_of start))
       × WrittenOutcomes (Lasts stored_of left_of contents start o (left_of last) p) (closed c) rs (written contents o) (written contents p)
-  ran log last least stop rs o p code (Not_begun same rejected status gone) began honest c says = absurd began
-  ran log last least stop rs o p code (Begun read start old new begins end run g length after status) began honest c says =
+  ran log last least stop rs o p code (Not_begun same rejected oversized status gone) began honest c says = absurd began
+  ran log last least stop rs o p code (Begun read start old new begins end run g through after status) began honest c says =
       let b = begins.leads honest.0 honest.1 c says in
       let Each = Lasts stored_of left_of contents start o (left_of last) p in
       (start, b.1, begins.only, outcomes_of Each stop old rs (written contents o) new (written contents p) end run (closed c) b.0)

@@ -48,13 +48,13 @@ NextContinues =
 module _ {D F : Type 0} {d : disk.Ghosts D} {f : folder.Ghosts F D} {W : Type 0} {contents : W → Known}
     {log last : LogFile D F d f} {least : ℕ} {stop : Bool} {records : Option (List (List Field))} {o p : Buffered W} {code : ℕ} where
   abbrev pub HasBegun : FromLog contents log last least stop records o p code → Type 0
-  HasBegun (Not_begun same rejected status left) = ⊥
-  HasBegun (Begun read start old new begins end run g length after status) = ⊤
+  HasBegun (Not_begun same rejected oversized status left) = ⊥
+  HasBegun (Begun read start old new begins end run g through after status) = ⊤
 
   -- the disk did what it reported
   abbrev pub IsHonest : FromLog contents log last least stop records o p code → Type 0
-  IsHonest (Not_begun same rejected status left) = ⊤
-  IsHonest (Begun read start old new begins end run g length after status) =
+  IsHonest (Not_begun same rejected oversized status left) = ⊤
+  IsHonest (Begun read start old new begins end run g through after status) =
       (is_clean read ≡ true) × (is_clean start ≡ true)
 
 module _ {D F : Type 0} (d : disk.Ghosts D) (f : folder.Ghosts F D) {W : Type 0} (contents : W → Known) where

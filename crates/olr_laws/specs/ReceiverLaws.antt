@@ -22,16 +22,18 @@ use Rattle.olr_spec.specs.Extension.{Path, first, last}
 use Rattle.olr_spec.specs.Margins.{Margin}
 use Rattle.olr_spec.specs.Bearings.{Leg, Vector, vector, beyond, quarters, IsSector}
 use Rattle.olr_spec.specs.Directions.{direction_on, is_direction, is_beyond}
-use Rattle.olr_spec.specs.Reference.{Reference, leg, Attrs}
+use Rattle.olr_spec.specs.Points.{OfPathWith}
+use Rattle.olr_spec.specs.Reference.{Reference, leg, legs, kept_points, Attrs}
 use Rattle.olr_spec.specs.Decoded.{decoded_bound, decoded, IsNear}
 use Rattle.olr_spec.specs.Receiver.{Side, Outgoing, Incoming, node_on, coordinate_on, sector_on, Lrp, Measure, Rating}
 use Rattle.olr_spec.specs.Receiver.{NowhereWorse, SomewhereBetter, candidates, decoded_coord, last_number, RecoversBy}
 use Rattle.olr_spec.specs.Receiver.{attributes, is_nearest, last_lrp, lrp_at, Receiver}
-use Rattle.olr_spec.specs.Recovery.{IsLineAtWith, IsStretchesWith, IsKeptPartWith, OwnLinesWith, DistinctWith, are_cosines}
+use Rattle.olr_spec.specs.Recovery.{IsLineAtWith, IsStretchesWith, stretches, IsKeptPartWith, OwnLinesWith, DistinctWith, are_cosines}
 use Rattle.olr_spec.specs.Recovery.{IsLeftWith, IsCut, IsClose, IsStep, IsWeighted, are_spaced, Weighted, lon_apart, lat_apart}
 use Rattle.olr_spec.specs.Routes.{dm_of}
 use Rattle.olr_spec.specs.Encoding.{EncodesWith, IsPointWith, Points}
-use Rattle.olr_spec.specs.Elsewhere.{HasNoOther, IsNearlyAlong, HasClasses, KeptLines, suffices}
+use Rattle.olr_spec.specs.Split.{chains, HasRoadsAlong, HasKeptRoads}
+use Rattle.olr_spec.specs.Elsewhere.{HasAlong, HasClasses, KeptLines, KeptLegs, LegHasOurs, suffices}
 use Rattle.olr_spec.specs.Ambiguity.{least_cosine, is_farther, usual_slack, obstacles}
 use Rattle.olr_commands.specs.State.{Named, Content, IsContent}
 use Rattle.olr_commands.specs.Ambiguities.{NamedObstacle, AskedAmbiguities}
@@ -211,6 +213,17 @@ pub record TakesOwn (takes : Lrp → ℕ) (g : Margin) (M : Map) (P : Path) (r :
       takes (lrp_at r k a) ≡ x
   pub incoming : (x : ℕ) → IsLineAtWith g M P Incoming (last_number r) x → takes (last_lrp r) ≡ x
 
+-- or the first line of the road that is the path's own line, at the last LRP the last line of it
+pub record TakesRoads (takes : Lrp → ℕ) (chain : ℕ → List ℕ) (g : Margin) (M : Map) (P : Path) (r : Reference) : Type 0 where
+  pub outgoing : (k x : ℕ) (a : Attrs) → slice_get (attributes r) k ≡ Some a → IsLineAtWith g M P Outgoing k x →
+      takes (lrp_at r k a) ≡ first (chain x)
+  pub incoming : (x : ℕ) → IsLineAtWith g M P Incoming (last_number r) x → takes (last_lrp r) ≡ last (chain x)
+
+-- the roads of each leg
+abbrev pub IsRoadsWith : Margin → Map → (ℕ → List ℕ) → Path → List (List ℕ) → Type 0
+IsRoadsWith g M chain P ws =
+    OfPathWith g M P (λ E _ _ js. ws ≡ map (chains chain) (stretches E.lines (kept_points (legs M E.lines) E.pos E.neg js)))
+
 pub record StandsFor (g : Margin) (M : Map) (p : Named) (e : NamedObstacle) : Type 0 where
   pub reference : Reference
   pub lines : List ℕ
@@ -236,15 +249,22 @@ pub record ReceiverLaws : Type 0 where
   pub some_by_weights : (d : Differences) (w : Rating) → 0 < w.far → 0 < w.frc → 0 < w.fow → 0 < w.bearing →
       w.bearing * d.reach ≤ w.far * d.slack → (D : DirectionReceiver) × (D.by ≡ d)
       × ((a b : Rating) → D.prefers a b ≡ nat_lt (weighted w a) (weighted w b))
-  -- a partner's map has no road that ours lacks, and its lengths and classes along the path differ from ours within the
-  -- margin: there a receiver that takes the right line at each LRP of the path's string recovers the legs between them, and
-  -- nothing else
-  pub read_elsewhere : (c : Content) → IsContent c → (N : Map) → IsMap N → HasNoOther c.map N → (a b : ℕ) →
-      IsTrue (suffices c.margin a b) → (p : Named) → Contains c.paths p → (r : Reference) →
-      EncodesWith c.margin c.map p.path (Points r) → KeptLines c.margin c.map p.path (IsNearlyAlong a b c.map N) →
-      KeptLines c.margin c.map p.path (HasClasses c.margin c.map N) → (takes : Lrp → ℕ) →
+  -- a partner's map has the lines of the path, and within reach of each leg no line that ours lacks; their lengths and
+  -- classes differ from ours within the margin: there a receiver that takes the right line at each LRP of the path's string
+  -- recovers the legs between them, and nothing else
+  pub read_elsewhere : (c : Content) → IsContent c → (N : Map) → IsMap N → (a b : ℕ) → IsTrue (suffices c.margin a b) →
+      (p : Named) → Contains c.paths p → (r : Reference) → EncodesWith c.margin c.map p.path (Points r) →
+      KeptLines c.margin c.map p.path (HasAlong a c.map N) → KeptLines c.margin c.map p.path (HasClasses c.margin c.map N) →
+      KeptLegs c.margin c.map p.path (LegHasOurs c.margin b c.map N) → (takes : Lrp → ℕ) →
       TakesOwn takes c.margin c.map p.path r → (ws : List (List ℕ)) →
       RecoversBy (λ t y. y ≡ takes t) N r ws ↔ IsStretchesWith c.margin c.map p.path ws
+  -- and on one that splits roads it recovers the roads of the legs
+  pub read_on_roads : (c : Content) → IsContent c → (N : Map) → IsMap N → (a b : ℕ) → IsTrue (suffices c.margin a b) →
+      (chain : ℕ → List ℕ) → (p : Named) → Contains c.paths p → (r : Reference) → EncodesWith c.margin c.map p.path (Points r) →
+      KeptLines c.margin c.map p.path (HasRoadsAlong c.margin a c.map N chain) →
+      HasKeptRoads c.margin b c.map N chain p.path → (takes : Lrp → ℕ) →
+      TakesRoads takes chain c.margin c.map p.path r → (ws : List (List ℕ)) →
+      RecoversBy (λ t y. y ≡ takes t) N r ws ↔ IsRoadsWith c.margin c.map chain p.path ws
   -- a path with a string that the answer to the question about all paths doesn't name is distinct for both kinds of
   -- receivers
   pub unnamed_is_distinct : (c : Content) → IsContent c → (es : List NamedObstacle) → AskedAmbiguities c None es →

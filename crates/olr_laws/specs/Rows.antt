@@ -14,10 +14,14 @@
 --         along one of them, and its reference
 --     roads a b      from node 2 to node 3 line 20 of length a, on which the path is, and line 21 of length b
 --     roads_path      the lines of the path
+--     theirs      a partner's map of these roads, of 1,024 and 1,035 dm, with lines that ours lacks: 40 in another town, 41 of a
+--         class below that of the reference, and 42, which begins behind the leg
+--     split_roads, split_chain      a partner's map on which line 20 is split in two at node 5
 --     loop_map, loop_path      a path that comes to node 2 twice, and goes on to node 3 by line 11, of 100 dm, and then by the
 --         lines 14 and 15, of 49 and 51 dm
 --     TakesOther      a receiver that compares directions takes the other one
 use Rattle.std.specs.Prelude.{◌≡◌, ℕ, ◌+◌, ◌-◌, ◌*◌, ◌/◌, List, [], ◌∷◌, pos, neg_ℤ, nat_abs, map, Some, None}
+use Rattle.std.specs.Prelude.{◌==◌, if◌then◌else◌}
 use Rattle.olr_spec.specs.Coordinates.{Coord, coord}
 use Rattle.olr_spec.specs.Map.{ShapePoint, Map, Line}
 use Rattle.olr_spec.specs.Bearings.{Leg, thousandths}
@@ -238,6 +242,25 @@ roads a b = map_of row_nodes (roads_records a b)
 
 abbrev pub roads_path : List ℕ
 roads_path = 10 ∷ 20 ∷ 30 ∷ []
+
+abbrev pub theirs_records : List (ℕ × Line)
+theirs_records =
+    (10, row_line 1 2 100) ∷ (20, row_line 2 3 1024) ∷ (21, row_line 2 3 1035) ∷ (30, row_line 3 4 100) ∷ (40, row_line 5 6 7)
+    ∷ (41, record (row_line 2 3 10) { frc = 7 }) ∷ (42, row_line 4 2 1) ∷ []
+
+abbrev pub theirs : Map
+theirs = map_of row_nodes theirs_records
+
+abbrev pub split_records : List (ℕ × Line)
+split_records =
+    (10, row_line 1 2 100) ∷ (21, row_line 2 3 1035) ∷ (30, row_line 3 4 100) ∷ (201, row_line 2 5 512)
+    ∷ (202, row_line 5 3 512) ∷ []
+
+abbrev pub split_roads : Map
+split_roads = map_of row_nodes split_records
+
+abbrev pub split_chain : ℕ → List ℕ
+split_chain x = if x == 20 then 201 ∷ 202 ∷ [] else x ∷ []
 
 abbrev pub loop_records : List (ℕ × Line)
 loop_records =

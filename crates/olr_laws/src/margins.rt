@@ -1,10 +1,12 @@
 //! Worked rows of margins.
-ghost use Rattle.std.specs.Prelude.{◌≡◌, ℕ, true, false, [], ◌∷◌};
+ghost use Rattle.std.specs.Prelude.{◌≡◌, ◌↔◌, ℕ, true, false, List, [], ◌∷◌};
 ghost use Rattle.olr_spec.specs.Margins.{allowed, counted_dm};
-ghost use Rattle.olr_spec.specs.Elsewhere.{suffices};
+ghost use Rattle.olr_spec.specs.Elsewhere.{HasNoOther, HasOurs, suffices};
+ghost use Rattle.olr_spec.specs.Split.{HasRoads};
+ghost use Rattle.olr_spec.specs.Receiver.{RecoversTo};
 ghost use Rattle.olr_spec.specs.Routes.{UniqueShortest};
 ghost use Rattle.olr_spec.specs.Points.{CoveredWith};
-ghost use Rattle.olr_laws.specs.Rows.{Gives, fifty, roads, roads_path, loop_map, loop_path};
+ghost use Rattle.olr_laws.specs.Rows.{Gives, fifty, roads, roads_path, theirs, split_roads, split_chain, loop_map, loop_path};
 
 /// What lines count is rounded up to a decimetre, and is at most twice their length. With 50 thousandths lengths may
 /// differ by 24, with 100 by 47, and with 0 not at all. A class is allowed to be one less important, but not beyond 7.
@@ -32,4 +34,16 @@ pub fn rows_partner()
     ensures there { ¬ UniqueShortest (roads 1012 1005) 2 3 (20 ∷ []) }
     ensures not_covered { ¬ CoveredWith fifty (roads 1000 1010) roads_path 0 3 }
     ensures own_alone { ¬ CoveredWith fifty loop_map loop_path 0 2 }
+{}
+
+/// Line 20 has 1,000 dm and line 21 1,060 dm; with 50 thousandths line 20 is the way from line 10 to line 30. It is so on a
+/// partner's map where they have 1,024 and 1,035 dm, and which has three lines that ours lacks: one in another town, one of a
+/// class below the reference's, and one that begins behind the leg. It is so on one where line 20 is split in two.
+#[tactic(auto, using(crate::proofs::ElsewhereRowLemmas::theirs_has_others, crate::proofs::ElsewhereRowLemmas::split_has_roads))]
+pub fn rows_elsewhere()
+    ensures ours { HasOurs 24 (roads 1000 1060) theirs 4 2 1124 }
+    ensures others { ¬ HasNoOther (roads 1000 1060) theirs }
+    ensures recovered { (w : List ℕ) → RecoversTo theirs 4 10 30 w ↔ (w ≡ 10 ∷ 20 ∷ []) }
+    ensures roads { HasRoads 24 (roads 1000 1060) split_roads split_chain 4 2 1024 }
+    ensures split { (w : List ℕ) → RecoversTo split_roads 4 10 30 w ↔ (w ≡ 10 ∷ 201 ∷ 202 ∷ []) }
 {}

@@ -1,16 +1,17 @@
 -- A route that is the unique shortest one where its own lines count longer is so on a map whose lengths are nearly the
 -- same.
 use Rattle.olr_spec.proofs.Common.{inl, inr, [], ◌||◌, ◌≡◌, ◌≢◌, ◌⊎◌, ◌+◌, ◌-◌, ◌*◌, ◌≤◌, ◌<◌, ◌∷◌, sym, ap, ◌∙◌, not, has, Map}
-use Rattle.olr_spec.proofs.Common.{end, dm, ℕ, IsTrue, IsRoute, UniqueShortest, leb-true, le-leb, Margin, counted, cases_eq}
+use Rattle.olr_spec.proofs.Common.{start, end, dm, ℕ, IsTrue, IsRoute, UniqueShortest, leb-true, le-leb, Margin, counted, cases_eq}
 use Rattle.olr_spec.proofs.Common.{not-true, or_comm, Bool, true, false, List, ◌++◌, refl, subst, arith, ◌&&◌, ◌==◌, IsMap}
 use Rattle.olr_spec.proofs.Common.{dm_of, get_or, ne_eqb, cases_Bool, none_twice, and_parts, and_from, has_line, counted_dm}
 use Rattle.olr_spec.proofs.Common.{IsSoundFor, get_or-take, list_any-append, append_assoc, CountedRoute, length-take-le}
-use Rattle.olr_spec.proofs.Common.{cases_lt, length, take_all, sum_by-append, MarginLaws, LawOf}
-use Rattle.olr_spec.specs.Elsewhere.{HasNoOther, IsNearly, suffices}
+use Rattle.olr_spec.proofs.Common.{cases_lt, length, take_all, sum_by-append, MarginLaws, LawOf, Within, ◌↔◌}
+use Rattle.olr_spec.specs.Elsewhere.{HasAlong, InReach, HasOurs, suffices}
+use Rattle.olr_spec.specs.Receiver.{Shortest}
 use Rattle.std.proofs.Math.Nat.{mul-le-mul_left, mul-le-mul_right, mul-add, lt_of_mul-lt-mul_left}
 use Rattle.std.proofs.lemmas.List.Sums.{sum_by-cons, split_at_first, fails_before_first, passes_at_first, prefix_len-le-length}
 use Rattle.std.specs.List.{sum_by, before_first, after_first, position_or_len}
-use Rattle.olr_spec.proofs.ListLemmas.{Each, Each-nil, has_cases, dec_same, has_here, has_there, at_index}
+use Rattle.olr_spec.proofs.ListLemmas.{Each, Each-nil, Each-cons, Each-right, has_cases, dec_same, has_here, has_there, at_index}
 use Rattle.olr_spec.proofs.RouteLemmas.{positive, IsRoute-split, IsRoute-append, dm_of-append, prefix_of_unique}
 use Rattle.olr_spec.proofs.WayLemmas.{route_known}
 use Rattle.olr_spec.proofs.CountedLemmas.{counted_other, counted_own, counted_route, route_counted, counted_least, counted_zero}
@@ -25,7 +26,7 @@ from_line y (x ∷ ys) on = elim (has_cases x ys y on) [
   | inr there ↦ let r = from_line y ys there in (x ∷ r.0, r.1, ap (λ zs. x ∷ zs) r.2)
 ]
 
-once_right : (xs ys : List ℕ) → none_twice (xs ++ ys) ≡ true → none_twice ys ≡ true
+pub once_right : (xs ys : List ℕ) → none_twice (xs ++ ys) ≡ true → none_twice ys ≡ true
 once_right [] ys once = once
 once_right (x ∷ xs) ys once = once_right xs ys (and_parts (not (has (xs ++ ys) x)) (none_twice (xs ++ ys)) once).1
 
@@ -34,12 +35,14 @@ record Cut (N : Map) (s t : ℕ) (ys : List ℕ) : Type 0 where
   rest : List ℕ
   route : IsRoute N s t rest
   once : none_twice rest ≡ true
+  part : Each (λ x. has ys x ≡ true) rest
   shorter : (rest ≡ ys) ⊎ (dm_of N rest < dm_of N ys)
 
 cut : (N : Map) → IsMap N → (s t : ℕ) (ys : List ℕ) → IsRoute N s t ys → Cut N s t ys
-cut N n s t [] w = record { rest = []; route = w; once = refl; shorter = inl refl }
+cut N n s t [] w = record { rest = []; route = w; once = refl; part = λ x i. i; shorter = inl refl }
 cut N n s t (y ∷ ys) w =
     let c = cut N n (end N y) t ys w.2 in
+    let later : Each (λ x. has (y ∷ ys) x ≡ true) c.rest = λ x i. has_there y ys x (c.part x i) in
     elim (cases_Bool (has c.rest y)) [
       | inl on ↦
           let p = from_line y c.rest on in
@@ -48,21 +51,29 @@ cut N n s t (y ∷ ys) w =
             rest = y ∷ p.1;
             route = (part.2.0, w.1, part.2.2);
             once = once_right p.0 (y ∷ p.1) (subst (λ zs. none_twice zs ≡ true) p.2 c.once);
+            part = Each-right (λ x. has (y ∷ ys) x ≡ true) p.0 (y ∷ p.1) (subst (Each (λ x. has (y ∷ ys) x ≡ true)) p.2 later);
             shorter = inr (grind (arith, c.shorter, positive N n y w.0, p.2, dm_of-append N p.0 (y ∷ p.1)));
           }
       | inr off ↦ record {
         rest = y ∷ c.rest;
         route = (w.0, w.1, c.route);
         once = and_from (not (has c.rest y)) (none_twice c.rest) (ap not off) c.once;
+        part = Each-cons (λ x. has (y ∷ ys) x ≡ true) y c.rest (has_here y ys) later;
         shorter = grind (arith, c.shorter);
       }
     ]
 
 -- ---- sums over the lines of a list
 
-scaled : (c : ℕ) (M : Map) (xs : List ℕ) → sum_by (λ x. c * dm M x) xs ≡ c * dm_of M xs
-scaled c M [] = omega arith
-scaled c M (x ∷ xs) = omega (arith, sum_by-cons (λ y. c * dm M y) x xs, scaled c M xs, mul-add c (dm M x) (dm_of M xs))
+scaled : (c : ℕ) (len : ℕ → ℕ) (xs : List ℕ) → sum_by (λ x. c * len x) xs ≡ c * sum_by len xs
+scaled c len [] = omega arith
+scaled c len (x ∷ xs) =
+    let both = ap (λ n. c * n) (sum_by-cons len x xs) in
+    omega (arith, sum_by-cons (λ y. c * len y) x xs, both, scaled c len xs, mul-add c (len x) (sum_by len xs))
+
+pub sum_of : (M : Map) (xs : List ℕ) → sum_by (dm M) xs ≡ dm_of M xs
+sum_of M [] = refl
+sum_of M (x ∷ xs) = omega (arith, sum_by-cons (dm M) x xs, sum_of M xs)
 
 sum_most : (p q : ℕ → ℕ) (xs : List ℕ) → Each (λ x. p x ≤ q x) xs → sum_by p xs ≤ sum_by q xs
 sum_most p q [] h = omega arith
@@ -114,60 +125,154 @@ other_weight r a c d n enough h =
     let by_margin : (1000 + a) * 1000 * d ≤ c * (1000 + r) * d = mul-le-mul_right d enough in
     omega (arith, by_length, by_margin)
 
--- ---- on the other map
+-- ---- where lines have other lengths
 
-module _ (g : Margin) (M N : Map) (n : IsMap N) (no_other : HasNoOther M N) (a b : ℕ)
-    (enough : IsTrue (suffices g a b)) (xs : List ℕ) (nearly : IsNearly a b M N xs) where
-  abbrev K : Map
-  K = counted g M xs
+-- len is how long each line is there
+module _ (g : Margin) (M : Map) (a b : ℕ) (enough : IsTrue (suffices g a b)) (xs : List ℕ)
+    (on_M : Each (λ x. IsTrue (has_line M x)) xs) (len : ℕ → ℕ) (own : Each (λ x. 1000 * len x ≤ (1000 + a) * dm M x) xs) where
+  abbrev Counted : Map
+  Counted = counted g M xs
 
   abbrev here : ℕ → ℕ
-  here x = (1000 + a) * 1000 * dm K x
+  here x = (1000 + a) * 1000 * dm Counted x
 
   abbrev there : ℕ → ℕ
-  there x = (1000 + g.routes) * 1000 * dm N x
+  there x = (1000 + g.routes) * 1000 * len x
 
-  route_there : (s t : ℕ) (ys : List ℕ) → Each (λ x. IsTrue (has_line N x)) ys → IsRoute M s t ys → IsRoute N s t ys
-  route_there s t [] on w = w
-  route_there s t (y ∷ ys) on w =
-      grind (arith, no_other.starts y (on y (has_here y ys)), no_other.ends y (on y (has_here y ys)), route_there (end M y) t ys (λ x i. on x (has_there y ys x i)))
-
-  route_here : (s t : ℕ) (ys : List ℕ) → IsRoute N s t ys → IsRoute M s t ys × Each (λ x. IsTrue (has_line N x)) ys
-  route_here s t [] w = (w, Each-nil (λ x. IsTrue (has_line N x)))
-  route_here s t (y ∷ ys) w =
-      grind (arith, no_other.known y, no_other.starts y, no_other.ends y, has_cases y ys, route_here (end N y) t ys)
+  -- line y isn't too short, unless it is one of xs
+  abbrev pub IsLong : ℕ → Type 0
+  IsLong y = has xs y ≡ false → (1000 - b) * dm M y ≤ 1000 * len y
 
   own_most : Each (λ x. there x ≤ here x) xs
   own_most x on =
-      grind (arith, counted_own g M xs x (no_other.known x (nearly.known x on)) on, own_weight g a (dm M x) (dm N x) (nearly.own x on))
+      grind (arith, counted_own g M xs x (on_M x on) on, own_weight g a (dm M x) (len x) (own x on))
 
-  other_most : (y : ℕ) → IsTrue (has_line N y) → has xs y ≡ false → here y ≤ there y
-  other_most y known off =
-      grind (arith, counted_other g M xs y off, other_weight g.routes a (1000 - b) (dm M y) (dm N y) (leb-true _ _ enough) (nearly.others y known off))
+  other_most : (y : ℕ) → IsLong y → has xs y ≡ false → here y ≤ there y
+  other_most y r off =
+      grind (arith, counted_other g M xs y off, other_weight g.routes a (1000 - b) (dm M y) (len y) (leb-true _ _ enough) (r off))
 
-  -- a route without a line twice that is longer here is longer there
-  longer_there : (ys : List ℕ) → Each (λ x. IsTrue (has_line N x)) ys → none_twice ys ≡ true → dm_of K xs < dm_of K ys →
-      dm_of N xs < dm_of N ys
-  longer_there ys known once lt =
-      let less : (1000 + a) * 1000 * dm_of K xs < (1000 + a) * 1000 * dm_of K ys = grind (arith, mul-le-mul_left ((1000 + a) * 1000) lt) in
-      let sums = exchange there here xs ys own_most (λ y on off. other_most y (known y on) off) once in
-      let of_K = scaled ((1000 + a) * 1000) K in
-      let of_N = scaled ((1000 + g.routes) * 1000) N in
+  -- lines without one twice that are longer where xs counts longer are longer there
+  pub longer_by : (ys : List ℕ) → Each IsLong ys → none_twice ys ≡ true → dm_of Counted xs < dm_of Counted ys → sum_by len xs < sum_by len ys
+  longer_by ys long once lt =
+      let less : (1000 + a) * 1000 * dm_of Counted xs < (1000 + a) * 1000 * dm_of Counted ys = grind (arith, mul-le-mul_left ((1000 + a) * 1000) lt) in
+      let sums = exchange there here xs ys own_most (λ y on off. other_most y (long y on) off) once in
+      let of_K : (zs : List ℕ) → sum_by here zs ≡ (1000 + a) * 1000 * dm_of Counted zs =
+      λ zs. scaled ((1000 + a) * 1000) (dm Counted) zs ∙ ap (λ n. (1000 + a) * 1000 * n) (sum_of Counted zs) in
+      let of_N = scaled ((1000 + g.routes) * 1000) len in
       lt_of_mul-lt-mul_left ((1000 + g.routes) * 1000)
       (omega (arith, less, sums, of_K xs, of_K ys, of_N xs, of_N ys))
 
-  pub unique_there : (s t : ℕ) → UniqueShortest K s t xs → UniqueShortest N s t xs
-  unique_there s t u = record { route = route_there s t xs nearly.known (route_counted g M xs s t xs u.route); others = others }
-    where
-      others : (ys : List ℕ) → IsRoute N s t ys → ys ≢ xs → dm_of N xs < dm_of N ys
-      others ys w ne =
-          let c = cut N n s t ys w in
-          let r = route_here s t c.rest c.route in
-          let k = counted_route g M xs s t c.rest r.0 in
-          elim (dec_same c.rest xs) [
-            | yes same ↦ grind (arith, c.shorter, same, ne)
-            | no other ↦ grind (arith, longer_there c.rest r.1 c.once (u.others c.rest k other), c.shorter)
-          ]
+-- ---- on the other map
+
+module _ (g : Margin) (M N : Map) (n : IsMap N) (a b : ℕ) (enough : IsTrue (suffices g a b)) (xs : List ℕ)
+    (on_M : Each (λ x. IsTrue (has_line M x)) xs) (along : HasAlong a M N xs) where
+  abbrev K : Map
+  K = counted g M xs
+
+  -- a line of both maps, which isn't too short if it isn't one of xs
+  record Rival (y : ℕ) : Type 0 where
+    known : IsTrue (has_line M y)
+    starts : start N y ≡ start M y
+    ends : end N y ≡ end M y
+    long : IsLong g M a b enough xs on_M (dm N) along.own y
+
+  route_there : (s t : ℕ) (ys : List ℕ) → Each (λ x. has xs x ≡ true) ys → IsRoute M s t ys → IsRoute N s t ys
+  route_there s t [] on w = w
+  route_there s t (y ∷ ys) on w =
+      let i = on y (has_here y ys) in
+      grind (arith, along.known y i, along.starts y i, along.ends y i, route_there (end M y) t ys (λ x j. on x (has_there y ys x j)))
+
+  route_here : (s t : ℕ) (ys : List ℕ) → Each Rival ys → IsRoute N s t ys → IsRoute M s t ys
+  route_here s t [] on w = w
+  route_here s t (y ∷ ys) on w =
+      let r = on y (has_here y ys) in
+      grind (arith, r.known, r.starts, r.ends, route_here (end N y) t ys (λ x j. on x (has_there y ys x j)))
+
+  -- a route without a line twice that is longer here is longer there
+  longer_there : (ys : List ℕ) → Each Rival ys → none_twice ys ≡ true → dm_of K xs < dm_of K ys → dm_of N xs < dm_of N ys
+  longer_there ys rivals once lt =
+      let r = longer_by g M a b enough xs on_M (dm N) along.own ys (λ y i. (rivals y i).long) once lt in
+      omega (arith, r, sum_of N xs, sum_of N ys)
+
+  route_kept : (s t : ℕ) → UniqueShortest K s t xs → IsRoute N s t xs
+  route_kept s t u = route_there s t xs (λ x i. i) (route_counted g M xs s t xs u.route)
+
+  -- each other route over lines of both maps is longer
+  rivals_longer : (s t : ℕ) → UniqueShortest K s t xs → (ys : List ℕ) → IsRoute N s t ys → Each Rival ys → ys ≢ xs → dm_of N xs < dm_of N ys
+  rivals_longer s t u ys w rivals ne =
+      let c = cut N n s t ys w in
+      let r : Each Rival c.rest = λ y i. rivals y (c.part y i) in
+      let k = counted_route g M xs s t c.rest (route_here s t c.rest r c.route) in
+      elim (dec_same c.rest xs) [
+        | yes same ↦ grind (arith, c.shorter, same, ne)
+        | no other ↦ grind (arith, longer_there c.rest r c.once (u.others c.rest k other), c.shorter)
+      ]
+
+pub unique_there : (g : Margin) → LawOf (λ (l : MarginLaws g). l.unique_elsewhere)
+unique_there g M N n no_other a b enough xs nearly s t u =
+    let on_M : Each (λ x. IsTrue (has_line M x)) xs = λ x i. no_other.known x (nearly.known x i) in
+    let along : HasAlong a M N xs =
+    record {
+      known = nearly.known;
+      starts = λ x i. no_other.starts x (nearly.known x i);
+      ends = λ x i. no_other.ends x (nearly.known x i);
+      own = nearly.own;
+    } in
+    let rival : (y : ℕ) → IsTrue (has_line N y) → Rival g M N n a b enough xs on_M along y = λ y i.
+    record { known = no_other.known y i; starts = no_other.starts y i; ends = no_other.ends y i; long = nearly.others y i } in
+    record {
+      route = route_kept g M N n a b enough xs on_M along s t u;
+      others = λ ys w. rivals_longer g M N n a b enough xs on_M along s t u ys w (λ y i. rival y (route_known N s t ys w y i));
+    }
+
+-- ---- within reach
+
+-- the lines of a route over lines of at least the importance c begin within its length
+pub in_reach : (N : Map) → IsMap N → (c s t most : ℕ) (ys : List ℕ) → IsRoute N s t ys → Within N c ys → dm_of N ys ≤ most →
+    Each (InReach N c s most) ys
+in_reach N n c s t most [] w i le = Each-nil (InReach N c s most)
+in_reach N n c s t most (y ∷ ys) w i le =
+    let long = positive N n y w.0 in
+    let first : InReach N c s most y =
+    record { known = w.0; class = i.0; way = []; route = sym w.1; within = tt; near = omega (arith, long, le) } in
+    let rest = in_reach N n c (end N y) t (most - dm N y) ys w.2 i.1 (omega (arith, le)) in
+    Each-cons (InReach N c s most) y ys first (λ z j.
+    let r = rest z j in
+    record {
+      known = r.known;
+      class = r.class;
+      way = y ∷ r.way;
+      route = (w.0, w.1, r.route);
+      within = (i.0, r.within);
+      near = omega (arith, r.near, le);
+    })
+
+-- xs is the only shortest route over such lines
+abbrev pub OnlyShortest : Map → ℕ → ℕ → ℕ → List ℕ → Type 0
+OnlyShortest M c s t xs = (ys : List ℕ) → Shortest M c s t ys ↔ (ys ≡ xs)
+
+-- where the lines in reach are ours
+pub only_there : (g : Margin) (M N : Map) → IsMap N → (a b : ℕ) → IsTrue (suffices g a b) → (xs : List ℕ) → HasAlong a M N xs → (c s t most : ℕ) →
+    Within N c xs → dm_of N xs ≤ most → HasOurs b M N c s most → UniqueShortest (counted g M xs) s t xs → OnlyShortest N c s t xs
+only_there g M N n a b enough xs along c s t most within le ours u ys =
+    let on_M = route_known M s t xs (route_counted g M xs s t xs u.route) in
+    let route = route_kept g M N n a b enough xs on_M along s t u in
+    let longer : (zs : List ℕ) → IsRoute N s t zs → Within N c zs → zs ≢ xs → dm_of N xs < dm_of N zs = λ zs w i ne.
+    elim (cases_lt (dm_of N xs) (dm_of N zs)) [
+      | inl lt ↦ lt
+      | inr less ↦
+          let reach = in_reach N n c s t most zs w i (omega (arith, le, less)) in
+          rivals_longer g M N n a b enough xs on_M along s t u zs w (λ y j.
+          let o = ours y (reach y j) in
+          record { known = o.known; starts = o.starts; ends = o.ends; long = λ off. o.length }) ne
+    ] in (
+      (λ h. elim (dec_same ys xs) [ yes e ↦ e | no ne ↦ absurd (omega (arith, longer ys h.route h.within ne, h.first xs route within)) ]),
+      (λ e. subst (Shortest N c s t) (sym e) (record {
+        route = route;
+        within = within;
+        first = λ zs w i. elim (dec_same zs xs) [ yes f ↦ omega (arith, ap (dm_of N) f) | no ne ↦ omega (arith, longer zs w i ne) ];
+      })),
+    )
 
 -- ---- on the same map
 

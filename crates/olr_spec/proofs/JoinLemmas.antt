@@ -58,6 +58,22 @@ joins_before M ls p k h g r =
     ∙ ap (λ (zs : List ℕ). slice_index ls p ∷ zs) (stretch_last ls (p + 1) k (omega arith) g) in
     grind (arith)
 
+-- from line p to the last line of a leg of several lines
+pub counted_last : (g : Margin) (M : Map) → IsSoundFor g M → (ls : List ℕ) (p k : ℕ) → p < k → CandidateWith g M ls p (k + 1) → CountedTo g M ls p k
+counted_last g M sound ls p k lt c =
+    elim (cases_eq (k + 1) (length ls)) [
+      | inl whole ↦ covered_to g M ls p (k + 1) k (omega arith) lt c.covered
+      | inr within ↦
+          let s = end M (slice_index ls p) in
+          let t = start M (slice_index ls (k + 1)) in
+          let xs = stretch ls (p + 1) k in
+          let x = slice_index ls k in
+          let parts : stretch ls (p + 1) (k + 1) ≡ xs ++ x ∷ [] = stretch_last ls (p + 1) k (omega arith) (omega (arith, c.upto)) in
+          let u = subst (CountedRoute g M s t) parts (covered_to g M ls p (k + 1) (k + 1) (omega (arith, c.upto)) c.after c.covered) in
+          let ends = IsRoute-split M s t xs (x ∷ []) (route_counted g M (xs ++ x ∷ []) s t (xs ++ x ∷ []) u.route) in
+          subst (λ (v : ℕ). CountedRoute g M s v xs) (sym ends.2.1) (counted_part g M sound s ends.0 t xs (x ∷ []) u ends.1 ends.2)
+    ]
+
 module _ (g : Margin) (M K : Map) (sound : IsSoundFor g M) (ls : List ℕ) (a b : ℕ) (carries : Carries g M K ls a b) where
   pub joins_to : (p q : ℕ) → a ≤ p → q < b → q < length ls → CandidateWith g M ls p q → JoinsTo K ls p q
   joins_to p q from to h c =
@@ -70,18 +86,7 @@ module _ (g : Margin) (M K : Map) (sound : IsSoundFor g M) (ls : List ℕ) (a b 
         let k = q - 1 in
         let on : k + 1 ≡ q = omega arith in
         subst (JoinsLast K ls p) on (joins_before K ls p k (omega arith) (omega arith) (carries p k from (omega arith)
-        (omega arith) (omega arith) (elim (cases_eq q (length ls)) [
-          | inl whole ↦ covered_to g M ls p q k (omega arith) (omega arith) c.covered
-          | inr within ↦
-              let s = end M (slice_index ls p) in
-              let t = start M (slice_index ls q) in
-              let xs = stretch ls (p + 1) k in
-              let x = slice_index ls k in
-              let parts : stretch ls (p + 1) q ≡ xs ++ x ∷ [] = ap (λ (m : ℕ). stretch ls (p + 1) m) (sym on) ∙ stretch_last ls (p + 1) k (omega arith) (omega arith) in
-              let u = subst (CountedRoute g M s t) parts (covered_to g M ls p q q (omega arith) c.after c.covered) in
-              let ends = IsRoute-split M s t xs (x ∷ []) (route_counted g M (xs ++ x ∷ []) s t (xs ++ x ∷ []) u.route) in
-              subst (λ (v : ℕ). CountedRoute g M s v xs) (sym ends.2.1) (counted_part g M sound s ends.0 t xs (x ∷ []) u ends.1 ends.2)
-        ])))
+        (omega arith) (omega arith) (counted_last g M sound ls p k (omega arith) (subst (CandidateWith g M ls p) (sym on) c))))
   ]
 
 -- ---- all legs

@@ -21,6 +21,7 @@ pub mod FitLemmas
 pub mod DecodedLemmas
 pub mod ReceiverLemmas
 pub mod ElsewhereLemmas
+pub mod SplitLemmas
 pub mod SectorLemmas
 pub mod BytesLemmas
 pub mod ReadLemmas

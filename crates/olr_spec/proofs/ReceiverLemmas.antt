@@ -13,7 +13,7 @@ use Rattle.olr_spec.proofs.Common.{suc, ◌+◌, ◌-◌, ◌∷◌, map, ◌<�
 use Rattle.olr_spec.specs.Receiver.{decoded_coord, RecoversFrom, last_number, RecoversBy, More_lines, sector_on, Outgoing, Lrp}
 use Rattle.olr_spec.specs.Receiver.{Incoming, last_lrp, Shortest, One_line, rating, lrp_at, Takes}
 use Rattle.olr_spec.specs.Recovery.{IsStretchesWith, IsLineAtWith, stretches, line_by}
-use Rattle.olr_spec.proofs.Facts.{extended_keeps, has_number, LinkedWith, joins_last, has_index, path_also, at_index, joins_to}
+use Rattle.olr_spec.proofs.Facts.{OnlyShortest, empty_stretch, stretch_first, stretch_last, extended_keeps, has_number, LinkedWith, joins_last, has_index, path_also, at_index, joins_to}
 use Rattle.olr_spec.proofs.Facts.{path_at, Known, Each, carries_here, Carries, Each-range, Each-head, Each-tail, dec_same}
 use Rattle.olr_spec.proofs.FitLemmas.{range_legs, extended_sound, by_answer}
 use Rattle.olr_spec.proofs.DecodedLemmas.{answer_decodes, Front, Back, Form, Kept, form}
@@ -21,7 +21,7 @@ use Rattle.olr_spec.specs.Reference as fields
 
 -- ---- lists
 
-within_parts : (M : Map) (c : ℕ) (xs ys : List ℕ) → Within M c (xs ++ ys) → Within M c xs × Within M c ys
+pub within_parts : (M : Map) (c : ℕ) (xs ys : List ℕ) → Within M c (xs ++ ys) → Within M c xs × Within M c ys
 within_parts M c [] ys w = (tt, w)
 within_parts M c (x ∷ xs) ys w = let r = within_parts M c xs ys w.1 in ((w.0, r.0), r.1)
 
@@ -52,6 +52,12 @@ shortest_is M c s t xs r w ys h = grind (arith, dec_same ys xs)
 route_shortest : (M : Map) (c s t : ℕ) (xs : List ℕ) → UniqueShortest M s t xs → Within M c xs → Shortest M c s t xs
 route_shortest M c s t xs r w = grind (arith, dec_same)
 
+-- a line, and the only shortest route behind it
+pub recovers_only : (M : Map) (c x y : ℕ) (xs : List ℕ) → OnlyShortest M c (end M x) (start M y) xs → (w : List ℕ) →
+    RecoversTo M c x y w ↔ (w ≡ x ∷ xs)
+recovers_only M c x y xs only w =
+    ((λ z. z.1 ∙ ap (λ zs. x ∷ zs) ((only z.0).0 z.2)), (λ e. (xs, e, (only xs).1 refl)))
+
 pub recovers_to : (M : Map) (ls : List ℕ) (c p q : ℕ) → Within M c (stretch ls p q) → JoinsTo M ls p q →
     (w : List ℕ) → RecoversTo M c (slice_index ls p) (slice_index ls q) w ↔ (w ≡ stretch ls p q)
 recovers_to M ls c p q within j w = grind (arith, shortest_is, route_shortest)
@@ -62,14 +68,22 @@ one_line : (M : Map) (ls : List ℕ) (c p q : ℕ) → q ≡ p + 1 → stretch l
     RecoversLast M c (slice_index ls p) (slice_index ls (q - 1)) w ↔ (w ≡ stretch ls p q)
 one_line M ls c p q e is w = grind (arith, One_line)
 
+pub only_more : (M : Map) (c x y : ℕ) (all r : List ℕ) → x ≢ y → (line_at M y).frc ≤ c → all ≡ x ∷ (r ++ y ∷ []) →
+    OnlyShortest M c (end M x) (start M y) r → (w : List ℕ) → RecoversLast M c x y w ↔ (w ≡ all)
+only_more M c x y all r n class is only w =
+    let same : (xs : List ℕ) → Shortest M c (end M x) (start M y) xs → xs ≡ r = λ xs. (only xs).0 in
+    ((λ k. grind (arith, same)), (λ g. More_lines r n (g ∙ is) ((only r).1 refl) class))
+
 more_lines : (M : Map) (c x y : ℕ) (all r : List ℕ) → x ≢ y → Within M c all → all ≡ x ∷ (r ++ y ∷ []) →
     UniqueShortest M (end M x) (start M y) r → (w : List ℕ) → RecoversLast M c x y w ↔ (w ≡ all)
 more_lines M c x y all r n within is route w =
     let parts : Within M c (x ∷ (r ++ y ∷ [])) = subst (Within M c) is within in
     let ends = within_parts M c r (y ∷ []) parts.1 in
-    let found = route_shortest M c (end M x) (start M y) r route ends.0 in
-    let same = shortest_is M c (end M x) (start M y) r route ends.0 in
-    ((λ k. grind (arith, same)), (λ g. More_lines r n (g ∙ is) found ends.1.0))
+    let only : OnlyShortest M c (end M x) (start M y) r = λ xs. (
+      shortest_is M c (end M x) (start M y) r route ends.0 xs,
+      λ e. subst (Shortest M c (end M x) (start M y)) (sym e) (route_shortest M c (end M x) (start M y) r route ends.0),
+    ) in
+    only_more M c x y all r n ends.1.0 is only w
 
 pub recovers_last : (M : Map) (ls : List ℕ) (c p q : ℕ) → p < q → q ≤ length ls →
     (p + 1 < q → slice_index ls p ≢ slice_index ls (q - 1)) → Within M c (stretch ls p q) → JoinsLast M ls p q →
@@ -82,6 +96,27 @@ recovers_last M ls c p q lt up differ within j w =
           more_lines M c (slice_index ls p) (slice_index ls (q - 1)) (stretch ls p q) t.0
           (differ (omega (arith, ap (λ (xs : List ℕ). length xs) t.1, length-append t.0 (slice_index ls (q - 1) ∷ []))))
           within t.1 t.2 w
+    ]
+
+-- from line p to line k, the last of its leg
+pub recovers_last_only : (M : Map) (ls : List ℕ) (c p k : ℕ) → p ≤ k → k < length ls → (p < k → slice_index ls p ≢ slice_index ls k) →
+    Within M c (stretch ls p (k + 1)) → (p < k → OnlyShortest M c (end M (slice_index ls p)) (start M (slice_index ls k)) (stretch ls (p + 1) k)) →
+    (w : List ℕ) → RecoversLast M c (slice_index ls p) (slice_index ls k) w ↔ (w ≡ stretch ls p (k + 1))
+recovers_last_only M ls c p k le up differ within only w =
+    let first = stretch_first ls p (k + 1) (omega arith) (omega arith) in
+    let on : k + 1 - 1 ≡ k = omega arith in
+    elim (cases_eq p k) [
+      | inl e ↦
+          let alone : stretch ls p (k + 1) ≡ slice_index ls p ∷ [] = first ∙ ap (λ zs. slice_index ls p ∷ zs) (empty_stretch ls (p + 1) (k + 1) (omega arith)) in
+          subst (λ (j : ℕ). RecoversLast M c (slice_index ls p) (slice_index ls j) w ↔ (w ≡ stretch ls p (k + 1))) on
+          (one_line M ls c p (k + 1) (omega arith) alone w)
+      | inr ne ↦
+          let lt : p < k = omega arith in
+          let parts = stretch_last ls (p + 1) k (omega arith) up in
+          let all : stretch ls p (k + 1) ≡ slice_index ls p ∷ (stretch ls (p + 1) k ++ slice_index ls k ∷ []) = first ∙ ap (λ zs. slice_index ls p ∷ zs) parts in
+          let tail : Within M c (slice_index ls p ∷ (stretch ls (p + 1) k ++ slice_index ls k ∷ [])) = subst (Within M c) all within in
+          let ends = within_parts M c (stretch ls (p + 1) k) (slice_index ls k ∷ []) tail.1 in
+          only_more M c (slice_index ls p) (slice_index ls k) (stretch ls p (k + 1)) (stretch ls (p + 1) k) (differ lt) ends.1.0 all (only lt) w
     ]
 
 -- ---- no line twice

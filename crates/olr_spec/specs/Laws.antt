@@ -22,7 +22,8 @@ use Rattle.olr_spec.specs.Map.{Map, empty_map, IsMap, Line, has_line, lines_in, 
 use Rattle.olr_spec.specs.Map.{touched_lines, Enters, Leaves, Agree, SameLine, SameRound, has, HasCoord}
 use Rattle.olr_spec.specs.Routes.{IsRoute, dm_of, Least, UniqueShortest, Settled}
 use Rattle.olr_spec.specs.Margins.{Margin, counted, IsSoundFor}
-use Rattle.olr_spec.specs.Elsewhere.{HasNoOther, IsNearly, IsNearlyAlong, HasClasses, KeptLines, RecoversLegs, suffices}
+use Rattle.olr_spec.specs.Split.{HasRoadsAlong, HasKeptRoads, RecoversRoads}
+use Rattle.olr_spec.specs.Elsewhere.{HasNoOther, IsNearly, IsNearlyAlong, HasAlong, HasClasses, KeptLines, KeptLegs, LegHasOurs, RecoversLegs, suffices}
 use Rattle.olr_spec.specs.Extension.{Path, is_path, first, last, LongestStart, LongestEnd, limit}
 use Rattle.olr_spec.specs.Points.{stretch, CoveredWith, NextWith, FollowWith, last_position, OfPathWith}
 use Rattle.olr_spec.specs.Bearings.{IsSector, sector}
@@ -131,13 +132,21 @@ pub record AnswerLaws (g : Margin) : Type 0 where
   -- if the path's own line is distinct at each LRP, every receiver recovers the legs between the LRPs, and nothing else
   pub recovered : (R : Receiver) → OfReferences g (λ M P r. DistinctWith g R.far M P r → (ws : List (List ℕ)) →
       Recovers R M r ws ↔ IsStretchesWith g M P ws)
-  -- and on another map that has no other roads, if what its lengths and classes differ by is within the margin: there each
-  -- leg of an answer is recovered from the path's own lines at its LRPs, by the reference of the first map
-  pub recovered_elsewhere : (M N : Map) → IsMap M → IsMap N → HasNoOther M N → (a b : ℕ) → IsTrue (suffices g a b) →
-      (P : Path) → IsTrue (is_path P.lines) → (r : Reference) → EncodesWith g M P (Points r) →
-      KeptLines g M P (IsNearlyAlong a b M N) → KeptLines g M P (HasClasses g M N) →
+  -- and on another map that has the path's lines, and within reach of each leg no others than ours, if what its lengths and
+  -- classes differ by is within the margin: there each leg of an answer is recovered from the path's own lines at its LRPs,
+  -- by the reference of the first map
+  pub recovered_elsewhere : (M N : Map) → IsMap M → IsMap N → (a b : ℕ) → IsTrue (suffices g a b) → (P : Path) →
+      IsTrue (is_path P.lines) → (r : Reference) → EncodesWith g M P (Points r) → KeptLines g M P (HasAlong a M N) →
+      KeptLines g M P (HasClasses g M N) → KeptLegs g M P (LegHasOurs g b M N) →
       OfPathWith g M P (λ E _ _ js. (r ≡ reference_with g (legs M E.lines) E.pos E.neg js)
       × RecoversLegs g M N E.lines (kept_points (legs M E.lines) E.pos E.neg js))
+  -- and on one that splits roads: there each leg is recovered as the roads of its lines, from the first line of the road of
+  -- the path's own line at each LRP
+  pub recovered_on_roads : (M N : Map) → IsMap M → IsMap N → (a b : ℕ) → IsTrue (suffices g a b) → (chain : ℕ → List ℕ) →
+      (P : Path) → IsTrue (is_path P.lines) → (r : Reference) → EncodesWith g M P (Points r) →
+      KeptLines g M P (HasRoadsAlong g a M N chain) → HasKeptRoads g b M N chain P →
+      OfPathWith g M P (λ E _ _ js. (r ≡ reference_with g (legs M E.lines) E.pos E.neg js)
+      × RecoversRoads g M N chain E.lines (kept_points (legs M E.lines) E.pos E.neg js))
 
 pub record FieldLaws : Type 0 where
   -- a direction is in at most one sector

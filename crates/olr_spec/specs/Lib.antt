@@ -17,6 +17,7 @@ pub mod Footprint
 pub mod Receiver
 pub mod Recovery
 pub mod Elsewhere
+pub mod Split
 pub mod Directions
 pub mod Ambiguity
 pub mod Laws

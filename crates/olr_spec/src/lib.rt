@@ -4,7 +4,7 @@
 //! and whole numbers. The contracts of the other crates refer to these definitions; nothing here is
 //! executed. In reading order: `Coordinates`, `Degrees`, `Map`, `Routes`, `Margins`,
 //! `Extension`, `Points`, `Bearings`, `Reference`, `Encoding`, `Bytes`, `Decoded`, `Joins`, `Detours`, `Queries`,
-//! `Footprint`, `Receiver`, `Recovery`, `Elsewhere`, and `Laws`, which says what follows from them. `Codes`
+//! `Footprint`, `Receiver`, `Recovery`, `Elsewhere`, `Split`, and `Laws`, which says what follows from them. `Codes`
 //! defines how the values are stored, for the compiler.
 //!
 //! The lemmas in `proofs/` are those that the other crates cite. That all laws hold, and rows that

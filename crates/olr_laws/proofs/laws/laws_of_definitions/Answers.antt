@@ -14,6 +14,7 @@ use Rattle.olr_spec.proofs.PartnerLemmas.{routes_join_elsewhere, recovered_elsew
 use Rattle.olr_spec.proofs.QueryLemmas.{to_same, clear_routes, query_stays, covered_stays}
 use Rattle.olr_spec.proofs.ReceiverLemmas.{recovered_with}
 use Rattle.olr_spec.proofs.SectorLemmas.{one_sector, sector_is}
+use Rattle.olr_spec.proofs.SplitLemmas.{recovered_on_roads}
 use Rattle.olr_spec.proofs.StayLemmas.{kept, untouched_retained_with}
 use Rattle.olr_spec.proofs.TestedLemmas.{one_last_tested_with, some_last_tested, one_queries_with, some_queries}
 use Rattle.olr_spec.proofs.TestedLemmas.{foot_queried_with, foot_affected_with}
@@ -70,6 +71,7 @@ returns-clause-answers c g =
       routes_join_elsewhere = routes_join_elsewhere g;
       recovered = recovered_with g;
       recovered_elsewhere = recovered_elsewhere g;
+      recovered_on_roads = recovered_on_roads g;
     }
 
 pub returns-clause-fields : goal.returns-clause-fields

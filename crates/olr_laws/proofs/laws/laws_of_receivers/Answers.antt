@@ -1,7 +1,7 @@
 use Rattle.olr_laws.proofs.AmbiguityLemmas.{clear_is_distinct, no_sharper_test}
 use Rattle.olr_laws.proofs.CommandLemmas.{unnamed_is_distinct, named_stands}
 use Rattle.olr_laws.proofs.DirectionLemmas.{sees_by_limits, recovered_by_direction, some_by_weights}
-use Rattle.olr_laws.proofs.PartnerReceivers.{read_elsewhere}
+use Rattle.olr_laws.proofs.PartnerReceivers.{read_elsewhere, read_on_roads}
 use Rattle.olr_laws.proofs.ReceiverLemmas.{decoded_near, decoded_points, stretches_join, offsets_close, steps_close}
 use Rattle.olr_laws.proofs.ReceiverLemmas.{nearest_own, some_receiver, some_weighted, clear_stands_out}
 use Rattle.olr_laws.proofs.laws.laws_of_receivers.Goals as goal
@@ -28,6 +28,7 @@ returns-clause-receivers c =
       sees_by_limits = sees_by_limits;
       some_by_weights = some_by_weights;
       read_elsewhere = read_elsewhere;
+      read_on_roads = read_on_roads;
       unnamed_is_distinct = unnamed_is_distinct;
       named_stands = named_stands;
       no_sharper_test = no_sharper_test;
