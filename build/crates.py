@@ -1,6 +1,7 @@
-"""The crates of this repository by crates.txt: the dependencies and the source files of each."""
+"""The crates of this repository by crates.txt: the dependencies, the source files and the sum of the sources of each."""
+import hashlib
 import os
-from typing import Collection, Dict, Iterator, List
+from typing import Collection, Dict, Iterator, List, Sequence
 
 TOP = os.path.dirname(os.path.dirname(os.path.realpath(__file__)))
 
@@ -23,7 +24,8 @@ def uses() -> Dict[str, List[str]]:
 
 def dependencies() -> Dict[str, List[str]]:
     """The crates of this repository on which each of them depends."""
-    return {name: [it for it in used if it in uses()] for name, used in uses().items()}
+    found = uses()
+    return {name: [it for it in used if it in found] for name, used in found.items()}
 
 
 def libraries(crate: str) -> List[str]:
@@ -55,4 +57,19 @@ def sources(crate: str) -> Iterator[str]:
     """The source files of a crate."""
     for part in ("src", "specs", "proofs"):
         for folder, _, files in os.walk(f"{TOP}/crates/{crate}/{part}"):
-            yield from (os.path.join(folder, file) for file in files)
+            yield from (os.path.join(folder, file) for file in files if file.endswith((".rt", ".antt")))
+
+
+def sums(crates: Sequence[str], version: str = "") -> Dict[str, str]:
+    """Of each crate a sum of its line in crates.txt, of its sources, of those of the crates below it, and of the toolchain's
+    version, if one is given. `crates` has the lowest first."""
+    made: Dict[str, str] = {}
+    below = dependencies()
+    for crate in crates:
+        whole = hashlib.sha256(repr((version, declarations([crate]))).encode())
+        for path in sorted(sources(crate)):
+            with open(path, "rb") as file:
+                whole.update(repr((path[len(TOP) + 1 :], hashlib.sha256(file.read()).digest())).encode())
+        whole.update(repr([made[it] for it in below[crate]]).encode())
+        made[crate] = whole.hexdigest()[:24]
+    return made
