@@ -16,12 +16,14 @@ import time
 from typing import NamedTuple
 
 sys.path.insert(0, f"{os.path.dirname(os.path.abspath(__file__))}/../python")
+from disk import Disk, events  # noqa: E402
 from whole import PROGRAM, TOP, run  # noqa: E402
 from olr_keep_tools.replies import read_reply  # noqa: E402
 
 PYTHON = "/usr/bin/python3" if os.access("/usr/bin/python3", os.X_OK) else sys.executable
 SERVED = os.environ.get("SERVED_PROGRAM", PROGRAM)
 LIMIT = 120  # seconds for what takes a moment, unless the machine is busy
+WRITERS = 5
 ACCEPTED, REJECTED, NOT_SERVED, NOT_KNOWN = "accepted", "rejected", "not served", "not known"
 
 
@@ -253,6 +255,7 @@ class Manager:
             shutil.copytree(f"{TOP}/{name}", f"{local}/share/olr-keep/{name}", ignore=shutil.ignore_patterns("__pycache__"))
         os.makedirs(f"{local}/bin")
         shutil.copy(SERVED, f"{local}/bin/olr-keep")
+        os.chmod(f"{local}/bin/olr-keep", 0o755)
         for name in os.listdir(f"{TOP}/tools"):
             os.symlink(f"../share/olr-keep/tools/{name}", f"{local}/bin/olr-keep-{name}")
         os.makedirs(f"{folder}/units/olr-keep.service.d")
@@ -326,12 +329,15 @@ class Sent(NamedTuple):
 
 
 class Writer(threading.Thread):
-    """Sends single records, several at once, and batches, until it is stopped. Each record has another text, and each batch a
-    node of its own for each change that could be missing."""
+    """Sends records until it is stopped, in the way of one of four kinds of writers. Each record has another text, no other writer
+    changes its lines and paths, and each batch has a node of its own, which is there if the batch is."""
+
+    kinds = ("drops", "waits", "streams", "batches")
 
     def __init__(self, served, number, lines):
         super().__init__(daemon=True)
-        self.served, self.lines = served, lines
+        self.served, self.kind = served, self.kinds[number % len(self.kinds)]
+        self.lines = lines[number % WRITERS :: WRITERS]
         self.rnd, self.stopped, self.sent = random.Random(number), threading.Event(), []
         self.count, self.names, self.wrong = number * 100_000, [], None
         # No other writer of a log has these, of 80 in a row.
@@ -350,18 +356,28 @@ class Writer(threading.Thread):
                 self.wrong = repr(error)
                 return
 
+    def node(self):
+        """A node that nobody else makes."""
+        self.count += 1
+        return f"node,{self.count + 1_000_000_000},0,0"
+
+    def path(self):
+        """A path that nobody else registers."""
+        self.count += 1
+        self.names.append(f"w{self.count}")
+        return f"path,{self.names[-1]},0,0,{self.rnd.choice(self.lines)}"
+
     def change(self):
         """A change that nobody sends twice."""
-        self.count += 1
         kind = self.rnd.random()
         if kind < 0.5:
-            return f"node,{self.count + 1_000_000_000},0,0"
+            return self.node()
+        self.count += 1
         line = self.rnd.choice(self.lines)
         if kind < 0.8:
             return f"set-line,{line},{self.count // 1_000_000 % 8},{self.count // 8_000_000 % 8},{self.count % 1_000_000 + 1}"
         if kind < 0.9 or not self.names:
-            self.names.append(f"w{self.count}")
-            return f"path,{self.names[-1]},0,0,{line}"
+            return self.path()
         if kind < 0.96:
             return f"drop-path,{self.names.pop()}"
         rejected = f"drop-line,{self.count + 2_000_000_000}"
@@ -369,11 +385,21 @@ class Writer(threading.Thread):
 
     def step(self, to, replies):
         """Sends something and reads what becomes of it. Whether the connection can still be used."""
-        kind = self.rnd.random()
-        if kind < 0.4:
-            return self.batch(to, replies)
-        texts = [self.change() for _ in range(1 if kind < 0.8 else 40)]
-        return self.singles(to, replies, texts)
+        if self.rnd.random() < 0.02:
+            return self.singles(to, replies, ["compact"])
+        if self.kind == "drops":
+            return self.drops(to, replies)
+        if self.kind == "batches" or self.rnd.random() < 0.2:
+            return self.batch(to, replies, [self.change() for _ in range(self.rnd.randrange(1, 30))])
+        return self.singles(to, replies, [self.change() for _ in range(1 if self.kind == "waits" else 40)])
+
+    def drops(self, to, replies):
+        """Registers many paths, or drops a third of them, in a batch or not."""
+        if len(self.names) < 60:
+            return self.batch(to, replies, [self.path() for _ in range(60)])
+        self.rnd.shuffle(self.names)
+        texts = [f"drop-path,{self.names.pop()}" for _ in range(20)]
+        return (self.batch if self.rnd.random() < 0.5 else self.singles)(to, replies, texts)
 
     def singles(self, to, replies, texts):
         """Sends records that are not in a batch."""
@@ -390,9 +416,9 @@ class Writer(threading.Thread):
             self.sent += [Sent([it], NOT_KNOWN) for it in texts[done:]]
         return done == len(texts)
 
-    def batch(self, to, replies):
+    def batch(self, to, replies, texts):
         """Sends a batch; some writers end before its commit, or don't wait for the reply."""
-        texts, outcome = [self.change() for _ in range(self.rnd.randrange(1, 30))], NOT_KNOWN
+        texts, outcome = [*texts, self.node()], NOT_KNOWN
         way = self.rnd.random()
         try:
             if way < 0.1:
@@ -419,20 +445,78 @@ def outcome_of(reply):
         return ACCEPTED
     if reply.number:
         return REJECTED
-    return {"NotKnown": NOT_KNOWN, "NotServed": NOT_SERVED}[reply.rest.split(",")[0]]
+    return {"NotKnown": NOT_KNOWN, "NotCompacted": REJECTED}.get(reply.rest.split(",")[0], NOT_SERVED)
 
 
-def check_records(sent, records):
-    """Whether a log has exactly what was accepted, batches as a whole."""
-    there = set(records)
+def effect_of(record):
+    """What a record sets, and to what; in a dump a line has its nodes before its attributes."""
+    word, name, *more = record.split(",")
+    if word in ("line", "set-line"):
+        return f"line,{name}", ",".join(more[2:5] if word == "line" else more[:3])
+    return f"{word.replace('drop-', '')},{name}", "" if word.startswith("drop-") else "there"
+
+
+def state_of(dump):
+    """What a dump has: nodes, paths, and the attributes of lines."""
+    return dict(effect_of(it) for it in dump.split("\n") if it.startswith(("node,", "line,", "path,")))
+
+
+def check_state(sent, before, there):
+    """Whether a state has exactly what a writer had accepted, batches as a whole. Of what isn't known each record or batch may have
+    been carried out, also later."""
+    sure, maybe = {}, {}
     for texts, outcome in sent:
-        found = [it in there for it in texts]
-        if outcome == ACCEPTED and not all(found):
-            raise Failed(f"accepted, and not in the log: {texts} {found}")
-        if outcome in (REJECTED, NOT_SERVED) and any(found):
-            raise Failed(f"{outcome}, and in the log: {texts} {found} {[it for it in records if it in texts]}")
-        if any(found) and not all(found):
-            raise Failed(f"a batch is there in part: {texts} {found}")
+        effects = [effect_of(it) for it in texts if "," in it and not it.startswith("margin,")]
+        nodes = [key in there for key, _ in effects if key.startswith("node,")]
+        if any(nodes) and (outcome in (REJECTED, NOT_SERVED) or not all(nodes)):
+            raise Failed(f"{outcome}, and it is there, or in part: {texts} {nodes}")
+        if outcome == ACCEPTED:
+            sure.update(effects)
+        for key, value in effects if outcome == NOT_KNOWN else []:
+            maybe.setdefault(key, []).append(value)
+    for key in {*sure, *maybe}:
+        allowed = [sure.get(key, before.get(key, "")), *maybe.get(key, [])]
+        if there.get(key, "") not in allowed:
+            raise Failed(f"{key} is {there.get(key)!r}, and not one of {allowed}")
+
+
+class Power:
+    """The disk of a service and of its programs, whose power is cut: what isn't synced of the log and of its note is lost, or parts of
+    it. The table is on another disk."""
+
+    names = ("log.csv", "log.csv.compacting", "log.csv.last", ".olr-keep-*.part")
+
+    def __init__(self, folder, library):
+        self.folder, self.trace, self.disk, self.at = folder, f"{folder}/trace", None, 0
+        self.env = {"LD_PRELOAD": library, "TRACE": self.trace}
+        self.begin()
+
+    def begin(self):
+        """All that is there now is on the disk."""
+        write(self.trace, "")
+        self.disk = Disk(self.folder, self.names)
+        for name in filter(self.disk.has, os.listdir(self.folder)):
+            with open(f"{self.folder}/{name}", "rb") as file:
+                self.disk.put(name, file.read())
+
+    def cut(self, it, rnd):
+        """Cuts the power."""
+        program = it.program()
+        it.kill()
+        until = time.monotonic() + LIMIT
+        while program and is_running(program) and time.monotonic() < until:
+            time.sleep(0.01)
+        for event in events(self.trace):
+            self.disk.take(event)
+        self.disk.crash(rnd, self.folder)
+        self.begin()
+
+
+def is_running(pid):
+    """Whether a process runs, and is not only waited for."""
+    with contextlib.suppress(OSError), open(f"/proc/{pid}/stat", encoding="ascii") as file:
+        return file.read().rpartition(")")[2].split()[0] not in "ZX"
+    return False
 
 
 def check_table(served, rows):

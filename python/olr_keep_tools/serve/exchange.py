@@ -1,7 +1,7 @@
 """Passes the jobs of all connections to the program in turns, and the replies back."""
 import collections
 import time
-from typing import Callable, Deque, List, Protocol
+from typing import Callable, Deque, List, Protocol, Set
 
 from olr_keep_tools.serve.framing import NoReply, Replies, Span
 from olr_keep_tools.serve.jobs import WEIGHT, Change, Job, Kind, Owner
@@ -21,6 +21,19 @@ class Source(Owner, Protocol):
 
     def sent(self, size: int) -> None:
         """So many bytes of its jobs were passed to the program."""
+
+
+class Compaction(Protocol):
+    """Who has to know of each `compact` before it is sent."""
+
+    def may_begin(self) -> bool:
+        """Whether it may be sent now. If not, jobs are dispatched again once it may."""
+
+    def begin(self) -> None:
+        """It is sent, and nothing else is until it has its reply."""
+
+    def end(self) -> str:
+        """It has its reply. Returns why the log was not replaced, or nothing."""
 
 
 class Counts:
@@ -43,13 +56,16 @@ class Counts:
 class Exchange:
     """Jobs that wait, jobs that were sent, and the window: how many records are sent before their replies have arrived. It is
     what the program carries out in a moment, so that it never waits, and a connection that sends many holds up no other for long. A
-    question about all that there is fills the window. A `compact` is sent when nothing is awaited, so that what the program says
+    question whose reply may be long fills the window: it waits until there is room for its reply, and after the last one until all
+    who had other jobs then had their turn. A `compact` is sent when nothing is awaited, so that what the program says
     until its reply is about it."""
 
-    def __init__(self, publish: Callable[[List[Change], str], None], may_send: Callable[[], bool],
-                 why_uncompacted: Callable[[], str]) -> None:
-        self.publish, self.may_send, self.why_uncompacted = publish, may_send, why_uncompacted
+    def __init__(self, publish: Callable[[List[Change], str], None], may_send: Callable[[], bool], compaction: Compaction,
+                 has_room: Callable[[Job], bool]) -> None:
+        self.publish, self.may_send, self.compaction = publish, may_send, compaction
+        self.has_room = has_room  # whether there is room for a long reply
         self.turns: Deque[Source] = collections.deque()
+        self.before_long: Set[Source] = set()  # whose turn is before that of a long reply
         self.sent: Deque[Job] = collections.deque()
         self.counts, self.replies = Counts(), Replies()
         self.program: "Program | None" = None
@@ -71,16 +87,17 @@ class Exchange:
         """Sends jobs, as many as the window has room for."""
         texts: List[bytes] = []
         now = time.monotonic()
-        turns = len(self.turns)
-        while turns and self.program and self._has_room() and self.may_send():
+        turns = 2 * len(self.turns)
+        while turns and self.turns and self.program and self._has_room() and self.may_send():
             source = self.turns.popleft()
             turns -= 1
+            self.before_long.discard(source)
             if not source.unsent:
                 continue
-            if source.is_slow:
+            if source.is_slow or source.unsent[0].is_long and (self.before_long or not self.has_room(source.unsent[0])):
                 self.turns.append(source)
                 continue
-            if source.unsent[0].is_compact and self.sent:
+            if source.unsent[0].is_compact and (self.sent or not self.compaction.may_begin()):
                 self.turns.appendleft(source)
                 break
             texts.append(self._send_one(source, now))
@@ -97,8 +114,8 @@ class Exchange:
     def _send_one(self, source: Source, now: float) -> bytes:
         """Moves the first job of a source, or as much of it as there is room for, to those that were sent."""
         job, room = source.unsent[0], self.window - self.awaited
-        if job.kind is Kind.CHANGES and job.count > room:
-            job = job.split(room)
+        if not job.kind.is_batch and job.count > 1 and job.weight > room:
+            job = job.split(max(1, room // job.weight_of_one))
         else:
             source.unsent.popleft()
         if not self.sent:
@@ -107,7 +124,7 @@ class Exchange:
                 self.measured_since, self.measured, self.was_full = now, 0, False
             self.last_progress = self.last_end = now
         if job.is_compact:
-            self.why_uncompacted()  # whatever was said before
+            self.compaction.begin()
         job.sent_at = now
         self.sent.append(job)
         self.awaited += job.weight
@@ -121,7 +138,7 @@ class Exchange:
         self.replies.feed(data)
         while self.sent:
             job = self.sent[0]
-            span = self.replies.take(job.next_most())
+            span = self.replies.take(job.next_most(), job.kind is Kind.QUESTION)
             if span is None:
                 break
             self.measured += span.count
@@ -140,8 +157,8 @@ class Exchange:
     def _reply_of(self, job: Job, span: Span) -> bytes:
         """What the owner of a job gets for replies. The program accepts `compact` also where the log can't be replaced."""
         text = job.take(span)
-        why = self.why_uncompacted() if job.is_compact and text.startswith(b"ok,") else ""
-        return job.uncompacted(why) if why else text
+        why = self.compaction.end() if job.is_compact else ""
+        return job.uncompacted(why) if why and text.startswith(b"ok,") else text
 
     def _finish(self, job: Job, now: float) -> None:
         """A job has all its replies."""
@@ -149,6 +166,8 @@ class Exchange:
         self.awaited_bytes -= len(job.text)
         self.counts.add(job, max(job.sent_at, self.last_end), now)
         self.last_end = now
+        if job.is_long:
+            self.before_long = {it for it in self.turns if it.unsent and not it.unsent[0].is_long}
         if job.changes:
             self.publish(job.changes, job.owner.user)
         job.owner.finish(job)
@@ -167,10 +186,13 @@ class Exchange:
         """The program has ended: of the jobs that were sent nothing more is known."""
         lost, self.sent = self.sent, collections.deque()
         self.program, self.awaited, self.awaited_bytes = None, 0, 0
+        self.before_long.clear()
         for job in lost:
             text = job.not_known()
             self.counts.not_known += text.count(b"\n")
-            if text:
+            if job.has_begun:
+                job.owner.cut()
+            elif text:
                 job.owner.reply(text)
             job.owner.finish(job)
 
@@ -178,9 +200,21 @@ class Exchange:
         """Since when the program has been silent although replies are awaited."""
         return self.last_progress if self.sent else None
 
+    def refuse_compact(self, why: str) -> None:
+        """Answers the next `compact`, which can't be sent."""
+        for source in self.turns:
+            if source.unsent and source.unsent[0].is_compact:
+                job = source.unsent.popleft()
+                source.sent(len(job.text))
+                job.owner.reply(job.uncompacted(why))
+                job.owner.finish(job)
+                break
+        self.dispatch()
+
     def drop_unsent(self, why: str) -> None:
         """Answers what waits to be sent, when nothing else is awaited: it isn't carried out."""
         assert not self.sent
+        self.before_long.clear()
         turns, self.turns = self.turns, collections.deque()
         for source in turns:
             while source.unsent:

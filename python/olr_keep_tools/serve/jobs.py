@@ -6,12 +6,13 @@ from typing import Iterator, List, NamedTuple, Optional, Protocol, Tuple
 
 from olr_keep_tools.serve.faults import COUNT_DIFFERS, Word, fault
 from olr_keep_tools.serve.framing import Span
+from olr_keep_tools.serve.lines import LONG
 
 FAULT = re.compile(rb"^fault,([^\n]*)\n", re.M)
 REJECTED_COUNT = COUNT_DIFFERS + b"\n"
 SHOWN = 100
-# Questions about all that there is. One counts as so many records while its reply is awaited.
-ABOUT_ALL, WEIGHT = (b"report", b"dump", b"ambiguous", b"compact"), 1 << 17
+# How many records a question counts as while its reply is awaited: one whose reply may be long, and another one.
+WEIGHT, OF_QUESTION = 1 << 17, 8
 
 
 class Kind(enum.Enum):
@@ -46,6 +47,9 @@ class Owner(Protocol):
     def reply(self, text: bytes) -> None:
         """Takes whole replies to its oldest job."""
 
+    def cut(self) -> None:
+        """The reply of which it has a part has no end."""
+
     def finish(self, job: "Job") -> None:
         """A job of its has all its replies, in the order in which they were sent."""
 
@@ -63,6 +67,12 @@ class Job:
     rejected: int = 0
     cause: bytes = b""  # of a batch: the first change that was rejected, and its fault
     changes: List[Change] = field(default_factory=list)
+    has_begun: bool = False  # a part of its reply was passed on
+
+    @property
+    def is_long(self) -> bool:
+        """Whether its reply may be long."""
+        return self.kind is Kind.QUESTION and self.text.rstrip(b"\n").partition(b",")[0] in LONG
 
     @property
     def is_compact(self) -> bool:
@@ -72,8 +82,12 @@ class Job:
     @property
     def weight(self) -> int:
         """How many records it counts as while its replies are awaited."""
-        is_about_all = self.kind is Kind.QUESTION and self.text.rstrip(b"\n").partition(b",")[0] in ABOUT_ALL
-        return WEIGHT if is_about_all else self.count
+        return WEIGHT if self.is_long else self.count * self.weight_of_one
+
+    @property
+    def weight_of_one(self) -> int:
+        """How many records each of its records counts as, if it isn't long."""
+        return OF_QUESTION if self.kind is Kind.QUESTION else 1
 
     def next_most(self) -> int:
         """How many of the next replies may be taken together."""
@@ -84,14 +98,16 @@ class Job:
     def take(self, span: Span) -> bytes:
         """Notes replies, and returns what its owner gets for them."""
         first, self.done = self.done, self.done + span.count
+        self.has_begun |= not span.count
         if self.kind.is_batch:
             return self._take_of_batch(first, span)
         if not span.lines:
             self.rejected += span.text.count(b"fault,")
         if self.kind is Kind.CHANGES and span.lines:
             self.changes += answers(span.text)
-        elif self.kind is Kind.DROP_PATH and span.text.startswith(b"ok"):
-            self.changes.append(Change(name_of(self.text.rstrip(b"\n")), None))
+        elif self.kind is Kind.DROP_PATH:
+            asked = self.text.split(b"\n")[first : first + span.count]
+            self.changes += [Change(name_of(it), None) for it, reply in zip(asked, span.text.split(b"\n")) if reply.startswith(b"ok")]
         return span.text
 
     def uncompacted(self, why: str) -> bytes:
@@ -144,14 +160,14 @@ class Job:
         return fault(Word.NOT_SERVED, why) * (1 if self.kind.is_batch else self.count)
 
 
-def batch(owner: Owner, changes: bytes, count: int) -> Job:
+def batch(owner: Owner, changes: List[bytes], count: int) -> Job:
     """A batch with its `begin` and `commit`. An `abort` follows, which is rejected if the commit was accepted."""
-    return Job(owner, Kind.BATCH, b"begin\n%scommit,%d\nabort\n" % (changes, count), count + 3)
+    return Job(owner, Kind.BATCH, b"".join([b"begin\n", *changes, b"commit,%d\nabort\n" % count]), count + 3)
 
 
-def preview(owner: Owner, changes: bytes, count: int) -> Job:
+def preview(owner: Owner, changes: List[bytes], count: int) -> Job:
     """What a batch of these changes would change. It is aborted."""
-    return Job(owner, Kind.PREVIEW, b"begin\n%spreview\nabort\n" % changes, count + 3)
+    return Job(owner, Kind.PREVIEW, b"".join([b"begin\n", *changes, b"preview\nabort\n"]), count + 3)
 
 
 def answers(reply: bytes) -> List[Change]:

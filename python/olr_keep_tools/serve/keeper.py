@@ -4,10 +4,10 @@ import math
 import queue
 import threading
 import time
-from typing import Any, Callable, Dict, List, NamedTuple, Optional, Tuple, Union
+from typing import Any, Callable, Dict, List, NamedTuple, Optional, Union
 
 from olr_keep_tools.serve.jobs import Change
-from olr_keep_tools.serve.table import Entry, Row, Table, TableError, Taken, now
+from olr_keep_tools.serve.table import Entry, Table, TableError, Taken, now
 
 MOST_BEHIND = 100_000  # changes that wait for the table, after which no more records are carried out
 AT_ONCE = 20_000  # changes of one transaction
@@ -209,20 +209,3 @@ def _set_result(future: "asyncio.Future[Any]", result: Any) -> None:
 def _set_error(future: "asyncio.Future[Any]", error: TableError) -> None:
     if not future.done():
         future.set_exception(error)
-
-
-def page_of(after: int, most: int) -> Callable[[Table], List[Row]]:
-    """The question for changes after a position."""
-    return lambda table: table.changes(after, most)
-
-
-def start_of(position: Optional[int]) -> Callable[[Table], Optional[Tuple[int, List[Row]]]]:
-    """The question whether a reader can continue from a position: None if so; else the position to continue from and all that is
-    published."""
-
-    def ask(table: Table) -> Optional[Tuple[int, List[Row]]]:
-        if position is not None and table.has_all_after(position):
-            return None
-        return table.position, table.published()
-
-    return ask

@@ -10,7 +10,11 @@ from olr_keep_tools.replies import NO_RECORD, is_one_record
 MOST_LINE = 1 << 20  # bytes of a line
 # Changes of the map and of paths without quotes, other than `drop-path`, which follow each other.
 CHANGES = re.compile(rb"(?:(?:node|move|line|set-line|drop-node|drop-line|path|repath|margin),[^\n]*\n)+")
+DROPS = re.compile(rb"(?:drop-path,[^\n]*\n)+")
 COMMIT = re.compile(rb"commit,[0-9]{1,20}")
+# What is taken alone: questions whose replies may be long, and `preview`.
+LONG = frozenset(b"report dump ambiguous depends compact".split())
+ALONE = LONG | {b"preview"}
 CHANGE_WORDS = frozenset(b"node move line set-line drop-node drop-line path repath drop-path margin".split())
 MOST_COUNT = 4294967295
 
@@ -23,13 +27,14 @@ class Sort(enum.Enum):
     BEGIN = enum.auto()
     COMMIT = enum.auto()
     ABORT = enum.auto()
-    OTHER = enum.auto()  # a question, or what is no record
+    ALONE = enum.auto()
+    OTHER = enum.auto()  # questions, or what is no record
     TOO_LONG = enum.auto()
 
 
 @dataclass(frozen=True)
 class Piece:
-    """Lines that follow each other, with their ends: several changes, or one line of another sort."""
+    """Lines that follow each other, with their ends: several changes, paths that are dropped, or others, or one line of another sort."""
 
     sort: Sort
     text: bytes
@@ -38,7 +43,7 @@ class Piece:
 
 def plain(line: bytes) -> bytes:
     """A line with a quote or a carriage return as the program has to read it: without quotes that aren't needed, or, if it is not
-    one record, a line that is rejected."""
+    one record or has nothing in its quotes, a line that is rejected. Only an empty line is none."""
     line = line.rstrip(b"\r")
     if not line:
         return b""
@@ -48,7 +53,7 @@ def plain(line: bytes) -> bytes:
     fields = next(csv.reader([line.decode("latin-1").replace("\0", "\1")]))
     text = ",".join(fields).encode("latin-1")
     is_same = not any(set(it) & set(',"\1') for it in fields)
-    return text if is_same else line
+    return text or NO_RECORD if is_same else line
 
 
 def sort_of(line: bytes) -> Sort:
@@ -62,6 +67,8 @@ def sort_of(line: bytes) -> Sort:
         return Sort.BEGIN
     if line == b"abort":
         return Sort.ABORT
+    if word in ALONE:
+        return Sort.ALONE
     return Sort.COMMIT if COMMIT.fullmatch(line) and int(line[7:]) <= MOST_COUNT else Sort.OTHER
 
 
@@ -72,15 +79,27 @@ def pieces(block: bytes) -> Iterator[Piece]:
         block = b"".join(it + b"\n" for it in kept if it)
     at = 0
     while at < len(block):
-        found = CHANGES.match(block, at)
-        if found:
-            text = found[0]
-            yield Piece(Sort.CHANGES, text, text.count(b"\n"))
-            at = found.end()
+        for sort, many in (Sort.CHANGES, CHANGES), (Sort.DROP_PATH, DROPS):
+            if found := many.match(block, at):
+                yield Piece(sort, found[0], found[0].count(b"\n"))
+                at = found.end()
+                break
         else:
-            end = block.index(b"\n", at) + 1
-            yield Piece(sort_of(block[at : end - 1]), block[at:end])
-            at = end
+            piece = others(block, at)
+            yield piece
+            at += len(piece.text)
+
+
+def others(block: bytes, at: int) -> Piece:
+    """The lines from here on that are neither changes nor taken alone, or the one line that is."""
+    end, count = at, 0
+    while end < len(block):
+        after = block.index(b"\n", end) + 1
+        sort = sort_of(block[end : after - 1])
+        if sort is not Sort.OTHER:
+            return Piece(Sort.OTHER, block[at:end], count) if count else Piece(sort, block[at:after])
+        end, count = after, count + 1
+    return Piece(Sort.OTHER, block[at:end], count)
 
 
 class Input:

@@ -4,17 +4,21 @@ import asyncio
 import os
 import re
 import shutil
+import signal
 import subprocess
 from typing import List
 
 from olr_keep_tools.command import STREAM, USAGE, Failure, command_line, say
+from olr_keep_tools.files import beside, refuse_inputs
 from olr_keep_tools.program import program_name
-from olr_keep_tools.serve.logfile import MOST_FEWER, NOT_SERVED, look, refusal
+from olr_keep_tools.serve.logfile import MOST_FEWER, NOT_SERVED, accept, look, refusal
 from olr_keep_tools.serve.notify import Systemd, passed_sockets
 from olr_keep_tools.serve.program import STARTED
-from olr_keep_tools.serve.service import Service, Settings
+from olr_keep_tools.serve.service import HANDLED, Service, Settings
 from olr_keep_tools.serve.sockets import listening
 from olr_keep_tools.serve.table import is_url
+from olr_keep_tools.serve.unread import Unread
+from olr_keep_tools.serve.writer import Limits
 
 
 def mode(text: str) -> int:
@@ -38,6 +42,14 @@ def amount(text: str) -> float:
     return float(text)
 
 
+def size(text: str) -> int:
+    """An argument that is a number of bytes."""
+    found = re.fullmatch("([0-9]{1,12})([KMG]?)", text)
+    if not found or not int(found[1]):
+        raise argparse.ArgumentTypeError(f"{text!r} is no number of bytes such as 500M")
+    return int(found[1]) << {"": 0, "K": 10, "M": 20, "G": 30}[found[2]]
+
+
 def arguments(about: str) -> argparse.Namespace:
     """The command-line arguments."""
     parser = command_line(about)
@@ -47,7 +59,7 @@ def arguments(about: str) -> argparse.Namespace:
     add("--new", action="store_true", help="make LOG from the records of --map, and end; LOG must not exist")
     add("--map", metavar="FILE", help="the records of a new log")
     add("--most-fewer", type=amount, default=MOST_FEWER, metavar="PERCENT",
-        help="of the records or paths that may be missing beside the last time (1)")
+        help="of the records or paths that may be missing where only counts are compared (1)")
     add("--socket", metavar="SOCKET", help="where writers connect (LOG.socket)")
     add("--mode", type=mode, default=0o660, metavar="MODE", help="of SOCKET (0660)")
     add("--group", default="", metavar="GROUP", help="of SOCKET")
@@ -58,12 +70,17 @@ def arguments(about: str) -> argparse.Namespace:
     add("--notify", nargs="?", const="published", default="", metavar="CHANNEL",
         help="let PostgreSQL notify this channel (published) of each position")
     add("--history", type=number, default=0, metavar="N", help="changes that stay in the history (all)")
-    add("--compact-at", default="", metavar="SIZE", help="the program's option")
-    add("--deadline", type=amount, metavar="SECONDS", help="for a reply, before the program is ended (60, and 20 for each MB of LOG)")
+    add("--compact-at", type=size, metavar="SIZE", help="replace LOG by a dump when it has SIZE bytes, as 500M, and when it has doubled since")
+    add("--deadline", type=amount, metavar="SECONDS",
+        help="for a reply, before the program is ended (a minute and ten times what the last start took)")
     add("--most-connections", type=number, default=100, metavar="N", help="of writers, and of readers (100)")
     add("--idle", type=amount, default=60.0, metavar="SECONDS",
         help="after which a writer that waits for nothing gives its place to another, if all places are taken (60)")
-    add("--most-waiting", type=number, default=256, metavar="MB", help="of open batches, and of replies that a writer doesn't read (256)")
+    add("--most-waiting", type=number, default=256, metavar="MB", help="of all open batches (256)")
+    add("--most-batch", type=number, metavar="MB", help="of one open batch (three quarters of --most-waiting)")
+    add("--batch-idle", type=amount, default=60.0, metavar="SECONDS",
+        help="after which an open batch is aborted of which nothing is sent (60)")
+    add("--most-unread", type=number, default=64, metavar="MB", help="of replies that aren't read, beside which no long one begins (64)")
     add("--metrics", default="", metavar="FILE", help="write metrics for Prometheus to this file")
     add("log", metavar="LOG", help="the log")
     add("program", nargs="*", metavar="PROGRAM", help="the program (the one beside the tools, or olr-keep)")
@@ -76,37 +93,46 @@ def arguments(about: str) -> argparse.Namespace:
 
 
 def check(log: str, most_fewer: float) -> List[str]:
-    """What speaks against serving a log."""
+    """What speaks against serving a log. All that was found is said."""
     if not os.path.exists(log):
         raise Failure(USAGE, f"{log} is missing: is its disk mounted? --new --map FILE makes one")
-    return [it.text for it in look(log, most_fewer)]
+    found = look(log, most_fewer)
+    for it in found:
+        say(it.text)
+    return [it.text for it in found if it.is_against]
 
 
 def make(log: str, name: str, program: List[str]) -> None:
     """Makes a log from a file of records. Nothing is left if that fails."""
     if os.path.lexists(log):
         raise Failure(USAGE, f"{log} is there, and stays as it is")
-    beside = f"{log}.making"
     try:
         for why in look(name, 100.0):
-            raise Failure(NOT_SERVED, f"{name}: {why.text}")
-        shutil.copyfile(name, beside)
-        ended = subprocess.run([*program, "-l", beside], stdin=subprocess.DEVNULL, capture_output=True, text=True, check=False)
-        said = ended.stderr.strip().replace(beside, name).replace("olr-keep: ", "")
-        if ended.returncode:
-            raise Failure(NOT_SERVED if ended.returncode == NOT_SERVED else STREAM, f"{said or 'the program failed'}")
-        if not STARTED.search(ended.stderr):
-            raise Failure(STREAM, f"{program[0]} is not olr-keep")
-        os.link(beside, log)
-        say(f"{log} is made: {said.splitlines()[-1]}")
+            if why.is_against:
+                raise Failure(NOT_SERVED, f"{name}: {why.text}")
+        with beside(log) as folder:
+            os.mkdir(folder)
+            made = f"{folder}/log"
+            shutil.copyfile(name, made)
+            ended = subprocess.run([*program, "-l", made], stdin=subprocess.DEVNULL, capture_output=True, text=True, check=False)
+            said = ended.stderr.strip().replace(made, name).replace("olr-keep: ", "")
+            if ended.returncode:
+                raise Failure(NOT_SERVED if ended.returncode == NOT_SERVED else STREAM, f"{said or 'the program failed'}")
+            if not STARTED.search(ended.stderr):
+                raise Failure(STREAM, f"{program[0]} is not olr-keep")
+            os.link(made, log)
+            say(f"{log} is made: {said.splitlines()[-1]}")
     except FileExistsError:
         raise Failure(USAGE, f"{log} is there, and stays as it is") from None
     except OSError as error:
         raise Failure(STREAM, f"{error.filename if error.filename in (name, program[0]) else log}: {error.strerror}") from None
-    finally:
-        for left in (beside, f"{beside}.lock"):
-            if os.path.lexists(left):
-                os.unlink(left)
+
+
+def limits_of(chosen: argparse.Namespace) -> Limits:
+    """What all connections share."""
+    waiting = chosen.most_waiting << 20
+    most_batch = chosen.most_batch << 20 if chosen.most_batch else waiting * 3 // 4
+    return Limits(chosen.most_connections, chosen.idle, waiting, most_batch, chosen.batch_idle, Unread(chosen.most_unread << 20))
 
 
 def settings_of(chosen: argparse.Namespace, program: List[str], accepted: List[str]) -> Settings:
@@ -114,10 +140,10 @@ def settings_of(chosen: argparse.Namespace, program: List[str], accepted: List[s
     passed = passed_sockets(os.environ)
     records = passed.get("records") or listening(chosen.socket or f"{chosen.log}.socket", chosen.mode, chosen.group)
     changes = passed.get("changes") or listening(chosen.changes or f"{chosen.log}.changes", chosen.changes_mode, chosen.changes_group)
-    command = [*program, "-l", chosen.log, "--lines", *(["--compact-at", chosen.compact_at] if chosen.compact_at else [])]
+    command = [*program, "-l", chosen.log, "--lines"]
     table = chosen.table or f"{chosen.log}.published.sqlite"
-    return Settings(chosen.log, command, table, chosen.notify, chosen.history, chosen.deadline, chosen.most_connections,
-                    chosen.idle, chosen.most_waiting << 20, chosen.most_fewer, accepted, chosen.metrics, records, changes)
+    return Settings(chosen.log, command, chosen.compact_at, table, chosen.notify, chosen.history, chosen.deadline, chosen.most_connections,
+                    limits_of(chosen), chosen.most_fewer, accepted, chosen.metrics, records, changes)
 
 
 async def serve(settings: Settings, systemd: Systemd) -> int:
@@ -128,16 +154,19 @@ async def serve(settings: Settings, systemd: Systemd) -> int:
 def main(about: str) -> int:
     """Checks, makes or serves a log, and returns the exit status."""
     chosen = arguments(about)
+    refuse_inputs([chosen.metrics], [chosen.log, chosen.map])
     program = chosen.program or [program_name()]
+    if chosen.new or chosen.check:
+        signal.pthread_sigmask(signal.SIG_UNBLOCK, HANDLED)
     if chosen.new:
         make(chosen.log, chosen.map, program)
         return 0
     found = check(chosen.log, chosen.most_fewer)
-    for why in found:
-        say(why)
     if chosen.check:
         print(f"{chosen.log}: {'to be looked at' if found else 'nothing speaks against serving it'}")
         return NOT_SERVED if found else 0
     if found and not chosen.accept:
         raise Failure(NOT_SERVED, refusal(chosen.log))
+    if found:
+        accept(chosen.log)
     return asyncio.run(serve(settings_of(chosen, program, found), Systemd(os.environ)))

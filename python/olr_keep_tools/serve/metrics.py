@@ -5,6 +5,7 @@ import time
 from dataclasses import dataclass, field
 from typing import Iterator, List, NamedTuple
 
+from olr_keep_tools.files import replaced
 from olr_keep_tools.serve.exchange import Counts
 
 
@@ -41,6 +42,7 @@ class Health:
     connections: int = 0
     readers: int = 0
     waiting_bytes: int = 0
+    unread_bytes: int = 0
     paths: int = 0
     refused: int = 0
     records: int = 0
@@ -53,6 +55,8 @@ class Health:
             found.append(f"the program {self.state.value}" + (f", since {self.why_down}" if self.why_down else ""))
         if self.table_fault:
             found.append(f"the table is not written: {self.table_fault}")
+        elif self.position < 0:
+            found.append("the table is not compared yet")
         return found
 
     def line(self) -> str:
@@ -67,7 +71,7 @@ class Health:
         """All as metrics."""
         counts = self.counts
         yield Metric("up", "gauge", "Whether records are carried out.", int(self.state is State.SERVING))
-        yield Metric("table_up", "gauge", "Whether the table is written.", int(not self.table_fault))
+        yield Metric("table_up", "gauge", "Whether the table is written.", int(self.position >= 0 and not self.table_fault))
         yield Metric("records_total", "counter", "Records that were carried out or rejected.", counts.records)
         yield Metric("rejected_total", "counter", "Records that were rejected, a batch as one.", counts.rejected)
         yield Metric("changed_total", "counter", "Answers of paths that changed.", counts.changed)
@@ -86,6 +90,7 @@ class Health:
         yield Metric("connections", "gauge", "Connections that send records.", self.connections)
         yield Metric("readers", "gauge", "Connections that read changes.", self.readers)
         yield Metric("waiting_bytes", "gauge", "Bytes of open batches.", self.waiting_bytes)
+        yield Metric("unread_bytes", "gauge", "Bytes of replies that aren't read.", self.unread_bytes)
         yield Metric("read_seconds", "gauge", "Time of these metrics.", int(time.time()))
 
     def prometheus(self) -> str:
@@ -104,6 +109,5 @@ def size_of(log: str) -> int:
 
 def write_metrics(name: str, text: str) -> None:
     """Replaces a file of metrics as a whole."""
-    with open(f"{name}.part", "w", encoding="utf-8") as file:
-        file.write(text)
-    os.replace(f"{name}.part", name)
+    with replaced(name, is_synced=False) as file:
+        file.write(text.encode())

@@ -7,6 +7,7 @@ import fcntl
 import os
 import re
 import signal
+import time
 from typing import Any, Callable, Deque, List, NamedTuple, Optional, Protocol
 
 PIPE_SIZE = 1 << 20
@@ -14,6 +15,7 @@ PR_SET_PDEATHSIG = 1
 PRCTL = ctypes.CDLL(None).prctl  # looked up here, since little may be done between fork and exec
 STARTED = re.compile(r"olr-keep: .* has \d+ records? and \d+ paths?")
 UNCOMPACTED = re.compile(r"olr-keep: .* is not compacted, and is used as it is: (.*)")
+AGAIN = 60.0  # seconds after which it is said again that a log is not compacted, for the same reason
 ENDING = 4096  # bytes of a message that is kept until its line ends
 LAST_MESSAGES = 2  # the cause, and what follows from it
 
@@ -44,6 +46,7 @@ def dies_with_service() -> None:
     """Called in the new process: it is killed when the service dies, so that it doesn't hold the log any longer. A file that grows
     beyond a limit is a failed write, and no signal."""
     signal.signal(signal.SIGXFSZ, signal.SIG_IGN)
+    signal.pthread_sigmask(signal.SIG_SETMASK, ())
     PRCTL(PR_SET_PDEATHSIG, signal.SIGKILL)
 
 
@@ -56,6 +59,7 @@ class Program(asyncio.SubprocessProtocol):
         self.transport: Optional[asyncio.SubprocessTransport] = None
         self.input: Optional[asyncio.WriteTransport] = None
         self.messages, self.uncompacted = b"", ""
+        self.said_why, self.said_at = "", 0.0  # why the log is not compacted, and when that was said
         self.last_messages: Deque[str] = collections.deque(maxlen=LAST_MESSAGES)
 
     @classmethod
@@ -121,12 +125,15 @@ class Program(asyncio.SubprocessProtocol):
 
     def take_message(self, message: str) -> None:
         """Takes a message."""
+        if found := UNCOMPACTED.match(message):
+            self.uncompacted, now = found[1], time.monotonic()
+            if self.said_why == self.uncompacted and now - self.said_at < AGAIN:
+                return
+            self.said_why, self.said_at = self.uncompacted, now
         self.say(message)
         self.last_messages.append(message.replace("olr-keep: ", "", 1))
         if STARTED.match(message):
             self.last_messages.clear()
-        elif found := UNCOMPACTED.match(message):
-            self.uncompacted = found[1]
 
     def why_uncompacted(self) -> str:
         """Why the log was not replaced since this was asked last, or nothing. It is said before the reply to `compact` leaves."""

@@ -1,6 +1,8 @@
 """The service: the program and everything around it, from the start to the end."""
 import asyncio
 import collections
+import contextlib
+import math
 import os
 import signal
 import socket
@@ -10,12 +12,14 @@ from typing import Any, Deque, Dict, List, Optional, Set, cast
 
 from olr_keep_tools.command import STREAM, Failure, say
 from olr_keep_tools.serve.changes import Readers
+from olr_keep_tools.serve.compaction import Compaction
 from olr_keep_tools.serve.exchange import Exchange
 from olr_keep_tools.serve.framing import NoReply
 from olr_keep_tools.serve.jobs import Change, Job, Kind
 from olr_keep_tools.serve.keeper import Events, Keeper
-from olr_keep_tools.serve.logfile import NOT_SERVED, Contents, Last, Scan, fewer, look, read_last, refusal, write_last
+from olr_keep_tools.serve.logfile import NOT_SERVED, look, refusal, room_for_more
 from olr_keep_tools.serve.metrics import Health, State, size_of, write_metrics
+from olr_keep_tools.serve.notes import Notes, in_thread
 from olr_keep_tools.serve.notify import Systemd
 from olr_keep_tools.serve.program import Ended, Program
 from olr_keep_tools.serve.table import Table
@@ -24,10 +28,11 @@ from olr_keep_tools.serve.writer import Limits, Writer
 FINAL = (2, 5, 7)  # statuses of the program after which another start doesn't help
 IN_USE, LOCK_WAIT = 7, 20.0  # a program that was killed holds the lock until its last write is on the disk
 ENDING = signal.SIGTERM, signal.SIGINT
-TICK, NOTE_EVERY = 0.25, 10.0
+HANDLED = signal.SIGTERM, signal.SIGHUP  # kept from the start on until they are handled
+TICK, METRICS_EVERY, ASK_AGAIN = 0.25, 10.0, 1.0
 FIRST_PAUSE, LONGEST_PAUSE, GOOD_RUN = 0.1, 5.0, 60.0
 LAST_MOMENTS = 5.0  # in which connections may read their last replies
-DEADLINE, DEADLINE_PER_MB = 60.0, 20.0
+DEADLINE, PER_START, PER_MB = 60.0, 10.0, 20.0  # of a reply: seconds, times of a start, or seconds for each MB if none was measured
 
 
 @dataclass
@@ -36,13 +41,13 @@ class Settings:
 
     log: str
     command: List[str]
+    compact_at: Optional[int]  # bytes of the log
     table: str
     channel: str
     retained: int
     deadline: Optional[float]  # seconds for a reply; by the size of the log if None
     connections: int
-    idle: float  # seconds
-    waiting: int
+    limits: Limits
     most_fewer: float
     accepted: List[str]  # what speaks against serving the log, and is right
     metrics: str
@@ -53,14 +58,10 @@ class Settings:
         """This service, as it is named to others that want the table."""
         return f"{os.path.realpath(self.log)} on {socket.gethostname()}"
 
-    def seconds_for_reply(self) -> float:
-        """How long a reply may take."""
-        return self.deadline or DEADLINE + DEADLINE_PER_MB * size_of(self.log) / 1e6
-
 
 @dataclass(eq=False)
 class Questions:
-    """The service as the owner of jobs: it asks for all that is published."""
+    """The service as the owner of jobs: it asks for all that is published, and has the log replaced."""
 
     service: "Service"
     user: str = "-"
@@ -68,22 +69,29 @@ class Questions:
     is_slow: bool = False
     answer: bytes = b""
 
-    def ask(self) -> None:
+    def ask(self, text: bytes = b"report\n") -> None:
         """Asks once more."""
-        self.unsent.append(Job(self, Kind.QUESTION, b"report\n", 1))
+        self.unsent.append(Job(self, Kind.QUESTION, text, 1))
         self.service.exchange.offer(self)
 
     def sent(self, size: int) -> None:
         """Nothing is counted."""
 
     def reply(self, text: bytes) -> None:
-        self.answer = text
+        self.answer += text
+
+    def cut(self) -> None:
+        self.answer = b""
 
     def finish(self, job: Job) -> None:
         answer, self.answer = self.answer, b""
+        if job.is_compact:
+            return
         if answer.startswith(b"ok,"):
             lines = answer.decode("latin-1").split("\n")[1:-1]
             self.service.take_report(dict(it.split(",", 1) for it in lines))
+        elif not answer.startswith(b"fault,0,"):
+            self.service.take_no_report(answer.decode("latin-1").strip())
 
 
 class Service:
@@ -92,13 +100,15 @@ class Service:
     def __init__(self, settings: Settings, systemd: Systemd) -> None:
         self.settings, self.systemd = settings, systemd
         self.keeper = Keeper(
-            lambda: Table(settings.table, settings.channel, settings.retained, settings.name()),
+            lambda: Table(settings.table, settings.channel, settings.retained, settings.name(), f"{settings.log}.position"),
             Events(self.take_written, self.ask_for_all, self.take_table_fault))
-        self.exchange = Exchange(self.publish, self.may_send, self.why_uncompacted)
+        self.notes = Notes(settings.log, settings.most_fewer)
+        self.compaction = Compaction(self.notes, self.why_uncompacted, lambda: self.exchange.dispatch(), self.refuse_compact)
+        self.limits = settings.limits
+        self.exchange = Exchange(self.publish, self.may_send, self.compaction, self.has_room)
         self.questions = Questions(self)
-        self.limits = Limits(settings.connections, settings.waiting, settings.idle)
         self.health = Health(self.exchange.counts, settings.log)
-        self.readers = Readers(self.keeper, self.current_health, settings.connections)
+        self.readers = Readers(self.keeper, self.current_health, settings.connections, self.limits.unread)
         self.program: Optional[Program] = None
         self.ended: "asyncio.Queue[Ended]" = asyncio.Queue()
         self.began = self.down_since = time.monotonic()
@@ -108,8 +118,9 @@ class Service:
         self.first_try = time.monotonic()
         self.names: Set[str] = set()
         self.refused: Set[str] = set()
-        self.scan, self.last = Scan(settings.log), read_last(settings.log)
-        self.noted_at, self.inode, self.noting = time.monotonic(), 0, asyncio.Lock()
+        self.written_at, self.inode = time.monotonic(), 0
+        self.counting: "asyncio.Future[None]" = asyncio.get_running_loop().create_future()
+        self.counting.set_result(None)
 
     # ---- what the program writes
 
@@ -127,9 +138,16 @@ class Service:
         """Why the log was not replaced since this was asked last, or nothing."""
         return self.program.why_uncompacted() if self.program else ""
 
+    def refuse_compact(self, why: str) -> None:
+        """The log can't be replaced, since that can't be noted."""
+        say(f"{self.settings.log} is not compacted: {why}")
+        self.exchange.refuse_compact(why)
+
     def take_end(self, ended: Ended) -> None:
         """The program has ended."""
         self.program = None
+        self.notes.end()
+        self.compaction.reset()
         self.exchange.disconnect()
         self.questions.unsent.clear()
         self.ended.put_nowait(ended)
@@ -143,6 +161,19 @@ class Service:
         self.keeper.put_all(answers, "-")
         if not self.is_loaded.is_set():
             self.is_loaded.set()
+            self.notes.begin(time.monotonic() - self.began, size_of(self.settings.log))
+            self.compaction.start(self.settings.compact_at or math.inf)
+
+    def take_no_report(self, fault: str) -> None:
+        """The program could not say all that is published, as without memory for it. It is asked again in a moment."""
+        self.health.why_down = f"report got {fault}"
+        say(f"{self.health.why_down}; it is asked again")
+        asyncio.get_running_loop().call_later(ASK_AGAIN, self.ask_again)
+
+    def ask_again(self) -> None:
+        """Asks for all that is published."""
+        if self.program:
+            self.questions.ask()
 
     # ---- the table
 
@@ -157,14 +188,20 @@ class Service:
 
     def may_send(self) -> bool:
         """Whether records may be carried out now."""
-        return self.keeper.has_room()
+        return self.keeper.has_room() and not self.compaction.is_held()
+
+    def has_room(self, job: Job) -> bool:
+        """Whether a long reply may begin. That to a `compact` isn't, and what is asked here is read at once."""
+        return job.is_compact or job.owner is self.questions or self.limits.unread.has_room()
 
     def take_written(self, count: int, position: int) -> None:
         """So many changes are in the table, up to this position; it is negative if they aren't."""
         if position >= 0:
             if self.health.table_fault:
                 say("the table is written again")
-            self.health.position, self.health.table_fault = position, ""
+            is_first, self.health.position, self.health.table_fault = self.health.position < 0, position, ""
+            if is_first and self.health.state is State.SERVING:
+                self.systemd.tell(f"STATUS={self.status()}")
         self.readers.wake()
         self.exchange.dispatch()
 
@@ -188,6 +225,7 @@ class Service:
         for number in ENDING:
             loop.add_signal_handler(number, self.stop_asked.set)
         loop.add_signal_handler(signal.SIGHUP, self.reload)
+        signal.pthread_sigmask(signal.SIG_UNBLOCK, HANDLED)
         self.keeper.start()
         ticking = asyncio.ensure_future(self.tick())
         try:
@@ -218,6 +256,8 @@ class Service:
             if final:
                 status = final
                 break
+            if ended.result().status == STREAM:
+                await self.wait_for_room(asked)
             if not self.is_reloading:
                 await asyncio.wait({asked}, timeout=pause)
         asked.cancel()
@@ -250,15 +290,13 @@ class Service:
 
     async def open_sockets(self, servers: List[asyncio.AbstractServer]) -> None:
         """The map is loaded: records are carried out, and writers are taken."""
-        seconds, self.was_loaded = time.monotonic() - self.began, True
+        self.was_loaded = True
         self.health.state, self.health.why_down = State.SERVING, ""
-        self.scan = Scan(self.settings.log)
         if len(servers) == 1:
             loop, found = asyncio.get_running_loop(), self.settings.records_socket
             servers.append(await loop.create_unix_server(lambda: Writer(self.exchange, self.limits), sock=found))
         self.exchange.dispatch()
         self.systemd.tell("READY=1", f"STATUS={self.status()}")
-        await self.note(seconds)
 
     def take_program_end(self, ended: Ended) -> int:
         """Notes how the program ended. Returns the status with which the service has to end, or 0."""
@@ -281,16 +319,28 @@ class Service:
         """Looks at the log before another program begins with it. Returns the status with which the service has to end if it is not
         what was served, or 0."""
         try:
-            if self.was_loaded and self.scan.is_continued():
-                # What was carried out since is no finding.
-                await self.note_contents()
-            found = await asyncio.get_running_loop().run_in_executor(None, look, self.settings.log, self.settings.most_fewer)
+            await self.notes.save()
+        except OSError as error:
+            say(f"{error.filename or self.settings.log}: {error.strerror}")
+        try:
+            found = await in_thread(look, self.settings.log, self.settings.most_fewer)
         except OSError:
             return 0  # the program says it
-        wrong = [it.text for it in found if it.text not in self.settings.accepted]
-        for text in [*wrong, refusal(self.settings.log)] if wrong else []:
-            say(text)
-        return NOT_SERVED if wrong else 0
+        for it in found:
+            say(it.text)
+        if any(it.is_against and it.text not in self.settings.accepted for it in found):
+            say(refusal(self.settings.log))
+            return NOT_SERVED
+        return 0
+
+    async def wait_for_room(self, asked: "asyncio.Future[Any]") -> None:
+        """The program failed to write: waits until there is room for as much as it asks for. Each start in vain would read the whole log."""
+        said = ""
+        while not asked.done() and (why := await in_thread(room_for_more, self.settings.log)):
+            if why != said:
+                say(f"{self.settings.log}: {why}: the program is started again once there is room")
+            said = why
+            await asyncio.wait({asked}, timeout=ASK_AGAIN)
 
     def reload(self) -> None:
         """Starts the program again, when it has answered all that was sent to it. Connections stay."""
@@ -326,9 +376,9 @@ class Service:
             writer.end()
         if self.program:
             self.program.end_input()
-            await self.ended.get()
-        if was_serving:
-            await self.note()
+            ended = await self.ended.get()
+            if was_serving and ended.status == 0:
+                await self.note_end()
         await self.keeper.stop()
         until = time.monotonic() + LAST_MOMENTS
         while self.limits.open and time.monotonic() < until:
@@ -344,17 +394,21 @@ class Service:
             # No deadline counts the time in which this process, or the machine, was stopped.
             self.exchange.last_progress += max(0.0, time.monotonic() - before - 2 * TICK)
             self.check_deadline()
+            self.limits.look()
+            self.exchange.dispatch()
             words = ["WATCHDOG=1"] if self.systemd.watchdog else []
             if self.health.state is State.LOADING:
                 words += [f"STATUS={self.progress()}", "EXTEND_TIMEOUT_USEC=30000000"]
             if words:
                 self.systemd.tell(*words)
-            if time.monotonic() - self.noted_at > NOTE_EVERY:
-                await self.note()
+            if self.health.state is State.SERVING and self.counting.done():
+                self.counting = asyncio.ensure_future(self.count())
+            if time.monotonic() - self.written_at > METRICS_EVERY:
+                self.write_metrics()
 
     def check_deadline(self) -> None:
         """Ends a program that is silent for too long, and answers what waits too long for one that isn't started."""
-        seconds, now = self.settings.seconds_for_reply(), time.monotonic()
+        seconds, now = self.seconds_for_reply(), time.monotonic()
         since = self.exchange.waits_since()
         if self.program and since is not None and now - since > seconds:
             say(f"the program has not replied for {seconds:.0f} s; it is ended")
@@ -362,13 +416,17 @@ class Service:
         if self.program is None and now - self.down_since > seconds:
             self.exchange.drop_unsent(f"{self.health.why_down}, and is not started yet")
 
+    def seconds_for_reply(self) -> float:
+        """How long a reply may take: no question and no edit takes longer than a start, which encodes each path."""
+        size = size_of(self.settings.log)
+        start = self.notes.seconds_of_start(size)
+        return self.settings.deadline or DEADLINE + (PER_START * start if start else PER_MB * size / 1e6)
+
     def progress(self) -> str:
         """How far the start is, by the time that the last one took."""
         seconds, size = time.monotonic() - self.began, size_of(self.settings.log)
-        text = f"loads {size / 1e6:.1f} MB: {seconds:.0f} s"
-        if self.last and self.last.seconds and self.last.size:
-            text += f" of about {self.last.seconds * size / self.last.size:.0f} s"
-        return text
+        start = self.notes.seconds_of_start(size)
+        return f"loads {size / 1e6:.1f} MB: {seconds:.0f} s" + (f" of about {start:.0f} s" if start else "")
 
     def status(self) -> str:
         """The line for systemd."""
@@ -379,39 +437,40 @@ class Service:
         health = self.health
         health.connections, health.readers = len(self.limits.open), self.readers.following
         health.behind, health.waiting_bytes = self.keeper.behind, self.limits.held
+        health.unread_bytes = self.limits.unread.size()
         return health
 
-    async def note(self, seconds: float = 0.0) -> None:
-        """Notes what is known of the log, and writes the metrics."""
+    async def count(self) -> None:
+        """Counts what the log has, notes it, and has the log replaced when that is due."""
         try:
-            if self.health.state in (State.SERVING, State.STOPPING):
-                await self.note_contents(seconds)
-                self.systemd.tell(f"STATUS={self.status()}")
+            await self.notes.update(lambda: self.exchange.sent[-1] if self.exchange.sent else None)
+        except OSError as error:
+            say(f"{error.filename or self.settings.log}: {error.strerror}")
+        self.health.records = self.notes.scan.contents.records
+        if self.inode != self.notes.scan.inode:
+            with contextlib.suppress(OSError):
+                self.health.compacted_at = os.stat(self.settings.log).st_ctime
+            self.inode = self.notes.scan.inode
+        if self.program and self.compaction.is_due():
+            self.questions.ask(b"compact\n")
+
+    async def note_end(self) -> None:
+        """Notes what the log has at a clean end."""
+        try:
+            await self.notes.finish()
+        except OSError as error:
+            say(f"{error.filename or self.settings.log}: {error.strerror}")
+
+    def write_metrics(self) -> None:
+        """Writes the metrics, and reports the status."""
+        self.written_at = time.monotonic()
+        if self.health.state in (State.SERVING, State.STOPPING):
+            self.systemd.tell(f"STATUS={self.status()}")
+        try:
             if self.settings.metrics:
                 write_metrics(self.settings.metrics, self.current_health().prometheus())
         except OSError as error:
-            say(f"{error.filename or self.settings.log}: {error.strerror}")
-        finally:
-            self.noted_at = time.monotonic()
-
-    async def note_contents(self, seconds: float = 0.0) -> None:
-        """Counts what the log has, and notes it. One that was cut stays noted as it was: so it isn't served again."""
-        async with self.noting:
-            found = await asyncio.get_running_loop().run_in_executor(None, self.scan.update)
-            if not (self.scan.was_cut and fewer(self.settings.log, found, self.last, self.settings.most_fewer)):
-                self.note_log(found, seconds)
-
-    def note_log(self, found: Contents, seconds: float) -> None:
-        """Notes what the log has, for the next start."""
-        if self.inode != self.scan.inode:
-            self.inode, self.health.compacted_at = self.scan.inode, os.stat(self.settings.log).st_ctime
-        self.health.records = found.records
-        before = self.last
-        start = (seconds, size_of(self.settings.log)) if seconds else (before.seconds, before.size) if before else (0.0, 0)
-        last = Last(found.nodes, found.lines, found.paths, *start)
-        if last != before:
-            write_last(self.settings.log, last)
-            self.last = last
+            say(f"{error.filename or self.settings.metrics}: {error.strerror}")
 
 
 def print_message(text: str) -> None:

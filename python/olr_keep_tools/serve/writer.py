@@ -1,24 +1,27 @@
 """A connection that sends records."""
 import asyncio
 import collections
+import itertools
 import pwd
 import socket
 import struct
 import time
 from dataclasses import dataclass, field
-from typing import Deque, Optional, Set, Union
+from typing import Deque, List, Optional, Set, Union
 
 from olr_keep_tools.serve.exchange import Exchange
 from olr_keep_tools.serve.faults import ACCEPTED, BATCH_FULL, BATCH_OPEN, COUNT_DIFFERS, Word, fault
 from olr_keep_tools.serve.jobs import Job, Kind, batch, preview
 from olr_keep_tools.serve.lines import MOST_LINE, Input, Piece, Sort
+from olr_keep_tools.serve.unread import Unread
 
 MOST_HELD = 100_000
 MOST_UNSENT = 1 << 20  # bytes of records of a connection that wait; no more are read then
-MOST_TEXTS = 10_000  # replies of the service itself that wait
+MOST_DUE = 1000  # jobs, and replies of the service itself, that wait
+ARRIVED = bytearray(1 << 16)  # what is read at once, of any connection
 OUTPUT_HIGH = 1 << 20
 REFUSED_FOR = 1.0  # seconds until a connection that isn't taken is closed
-IN_BATCH = (b"show", b"show-margin", b"report", b"explain")  # questions that are answered while a batch is open
+# Questions that are rejected while a batch is open.
 ASKED_OUTSIDE = (b"dump", b"compact", b"ambiguous", b"show-node", b"show-line", b"depends")
 
 
@@ -27,8 +30,11 @@ class Limits:
     """What all connections share."""
 
     connections: int
-    waiting: int  # bytes of open batches, and of the replies that one connection doesn't read
     idle: float  # seconds after which a connection that waits for nothing gives its place to another
+    waiting: int  # bytes of all open batches
+    batch: int  # bytes of one open batch
+    batch_idle: float  # seconds after which an open batch is aborted of which nothing is sent
+    unread: Unread
     open: "Set[Writer]" = field(default_factory=set)
     refused: "Set[Writer]" = field(default_factory=set)  # connections that get the answer that there are too many
     held: int = 0  # bytes of open batches
@@ -45,13 +51,28 @@ class Limits:
             min(idle, key=lambda it: (it.batch is not None, it.active)).give_place()
         return bool(idle)
 
+    def look(self) -> None:
+        """Aborts the batches of which nothing is sent for too long, and looks at what isn't read."""
+        now = time.monotonic()
+        for it in self.open:
+            if it.batch and not it.batch.aborted and not it.due and now - it.active > self.batch_idle:
+                it.drop_batch(f"nothing of this batch was sent for {self.batch_idle:g} s (--batch-idle), and it is aborted: send it again")
+        self.unread.look(now)
+
 
 @dataclass
 class Batch:
-    """The changes of an open batch."""
+    """The changes of an open batch; or, if it was aborted before its end, what its records get."""
 
-    text: bytearray = field(default_factory=bytearray)
+    texts: List[bytes] = field(default_factory=list)
+    size: int = 0
     count: int = 0
+    aborted: bytes = b""
+
+
+def is_asked_outside(line: bytes) -> bool:
+    """Whether a line is a question that is rejected while a batch is open."""
+    return line.rstrip(b"\n").partition(b",")[0] in ASKED_OUTSIDE
 
 
 def user_of(connection: socket.socket) -> str:
@@ -66,7 +87,7 @@ def user_of(connection: socket.socket) -> str:
         return str(uid)
 
 
-class Writer(asyncio.Protocol):
+class Writer(asyncio.BufferedProtocol):
     """Takes lines and gives the replies to them, in their order. The changes of a batch stay here until its `commit`."""
 
     def __init__(self, exchange: Exchange, limits: Limits) -> None:
@@ -76,6 +97,7 @@ class Writer(asyncio.Protocol):
         self.unsent_bytes = 0
         # The replies that are due, in order: jobs, and texts of the service itself behind them.
         self.due: Deque[Union[Job, bytes]] = collections.deque()
+        self.due_bytes = 0  # of these texts
         self.input, self.batch = Input(), None  # type: Input, Optional[Batch]
         self.is_slow = self.is_paused = self.has_ended = self.is_lost = False
         self.transport: Optional[asyncio.Transport] = None
@@ -92,6 +114,7 @@ class Writer(asyncio.Protocol):
         self.user = user_of(transport.get_extra_info("socket"))
         transport.set_write_buffer_limits(high=OUTPUT_HIGH)
         self.limits.open.add(self)
+        self.limits.unread.add(transport)
 
     def _refuse(self, transport: asyncio.Transport) -> None:
         """Says why this connection is not taken, unless as many are being answered: each has a file descriptor."""
@@ -105,19 +128,23 @@ class Writer(asyncio.Protocol):
         # What it sends meanwhile is dropped; so it isn't kept from reading why.
         asyncio.get_running_loop().call_later(REFUSED_FOR, transport.close)
 
-    def data_received(self, data: bytes) -> None:
+    def get_buffer(self, sizehint: int) -> bytearray:
+        return ARRIVED
+
+    def buffer_updated(self, nbytes: int) -> None:
         if self.has_ended:
             return
         self.active = time.monotonic()
-        for piece in self.input.feed(data):
+        for piece in self.input.feed(bytes(memoryview(ARRIVED)[:nbytes])):
             self._take(piece)
         if self.unsent:
             self.exchange.offer(self)
         self._pause_or_resume()
 
     def eof_received(self) -> bool:
+        # It is received again whenever reading is resumed. The connection stays until its replies are written.
         if self.has_ended:
-            return False
+            return True
         self.has_ended = True
         if self.input.is_cut:
             self._say(fault(Word.NO_LINE_END, "the last line has no line end and is not carried out"))
@@ -132,7 +159,13 @@ class Writer(asyncio.Protocol):
         self.has_ended = self.is_lost = True
         self.limits.open.discard(self)
         self.limits.refused.discard(self)
+        if self.transport:
+            self.limits.unread.discard(self.transport)
         self._end_batch()
+        self._drop_unsent()
+
+    def _drop_unsent(self) -> None:
+        """What was not sent to the program isn't carried out."""
         for job in self.unsent:
             self.due.remove(job)
         self.unsent.clear()
@@ -150,7 +183,7 @@ class Writer(asyncio.Protocol):
     def _pause_or_resume(self) -> None:
         """Reads no more while enough of this connection waits."""
         assert self.transport is not None
-        much = self.is_slow or self.unsent_bytes > MOST_UNSENT or len(self.due) > MOST_TEXTS
+        much = self.is_slow or max(self.unsent_bytes, self.due_bytes) > MOST_UNSENT or len(self.due) > MOST_DUE
         if much != self.is_paused and not self.transport.is_closing():
             self.is_paused = much
             (self.transport.pause_reading if much else self.transport.resume_reading)()
@@ -169,36 +202,48 @@ class Writer(asyncio.Protocol):
         elif piece.sort is Sort.CHANGES:
             self._offer(Job(self, Kind.CHANGES, piece.text, piece.count))
         elif piece.sort is Sort.DROP_PATH:
-            self._offer(Job(self, Kind.DROP_PATH, piece.text, 1))
+            self._offer(Job(self, Kind.DROP_PATH, piece.text, piece.count))
         else:
-            self._offer(Job(self, Kind.QUESTION, piece.text, 1))
+            self._offer(Job(self, Kind.QUESTION, piece.text, piece.count))
 
     def _take_in_batch(self, held: Batch, piece: Piece) -> None:
         """Takes records while a batch is open."""
-        if piece.sort in (Sort.CHANGES, Sort.DROP_PATH):
+        is_preview = piece.sort is Sort.ALONE and piece.text == b"preview\n"
+        if held.aborted and (is_preview or piece.sort in (Sort.CHANGES, Sort.DROP_PATH, Sort.COMMIT)):
+            self._say(held.aborted * piece.count)
+            if piece.sort is Sort.COMMIT:
+                self._end_batch()
+        elif piece.sort in (Sort.CHANGES, Sort.DROP_PATH):
             self._hold(held, piece)
-        elif piece.sort is Sort.BEGIN or piece.text.rstrip(b"\n").partition(b",")[0] in ASKED_OUTSIDE:
+        elif piece.sort is Sort.BEGIN:
             self._say(BATCH_OPEN)
         elif piece.sort is Sort.ABORT:
             self._end_batch()
             self._say(ACCEPTED)
         elif piece.sort is Sort.COMMIT:
             self._commit(held, int(piece.text[7:]))
-        elif piece.text.rstrip(b"\n") == b"preview":
-            self._offer(preview(self, bytes(held.text), held.count))
+        elif is_preview:
+            self._offer(preview(self, held.texts, held.count))
         else:
-            self._offer(Job(self, Kind.QUESTION, piece.text, 1))
+            for is_outside, lines in itertools.groupby(piece.text.splitlines(True), is_asked_outside):
+                text = list(lines)
+                if is_outside:
+                    self._say(BATCH_OPEN * len(text))
+                else:
+                    self._offer(Job(self, Kind.QUESTION, b"".join(text), len(text)))
 
     def _hold(self, held: Batch, piece: Piece) -> None:
         """Holds changes, as far as the batch has room for them."""
         text, count = piece.text, min(piece.count, MOST_HELD - held.count)
-        if self.limits.held + len(text) > self.limits.waiting:
-            why = f"the changes of open batches have {self.limits.waiting} bytes at most"
-            self._say(fault(Word.TOO_MUCH_WAITS, why) * piece.count)
-            return
+        for what, size, most, option in (("a batch", held.size, self.limits.batch, "--most-batch"),
+                                         ("all open batches", self.limits.held, self.limits.waiting, "--most-waiting")):
+            if size + len(text) > most:
+                self._say(fault(Word.TOO_MUCH_WAITS, f"the changes of {what} have {most} bytes at most ({option})") * piece.count)
+                return
         if count < piece.count:
             text = b"".join(text.splitlines(True)[:count])
-        held.text += text
+        held.texts.append(text)
+        held.size += len(text)
         self.limits.held += len(text)
         replies = b"".join(b"held,%d\n" % it for it in range(held.count + 1, held.count + count + 1))
         held.count += count
@@ -210,13 +255,18 @@ class Writer(asyncio.Protocol):
         if count != held.count:
             self._say(COUNT_DIFFERS + b"\n")
         else:
-            self._offer(batch(self, bytes(held.text), held.count))
+            self._offer(batch(self, held.texts, held.count))
 
     def _end_batch(self) -> None:
         """No batch is open any more."""
         if self.batch:
-            self.limits.held -= len(self.batch.text)
+            self.limits.held -= self.batch.size
         self.batch = None
+
+    def drop_batch(self, why: str) -> None:
+        """Aborts the open batch. Its records that follow get this answer, until its end."""
+        self._end_batch()
+        self.batch = Batch(aborted=fault(Word.IDLE, why))
 
     def _offer(self, job: Job) -> None:
         """Has a job carried out."""
@@ -236,17 +286,26 @@ class Writer(asyncio.Protocol):
         """A reply of the service itself, after those that are due."""
         if self.due:
             self.due.append(text)
+            self.due_bytes += len(text)
         else:
             self.reply(text)
 
     def reply(self, text: bytes) -> None:
-        """Writes replies. A connection that has not read as much as the limit before is ended."""
+        """Writes replies. A connection that has not read as much as the limit before is ended, but not within a reply."""
         if self.transport is None or self.is_lost or self.transport.is_closing():
             return
-        if self.transport.get_write_buffer_size() > self.limits.waiting:
+        is_within = self.due and isinstance(self.due[0], Job) and self.due[0].has_begun
+        if self.transport.get_write_buffer_size() > self.limits.unread.most and not is_within:
             self.transport.abort()
         else:
             self.transport.write(text)
+
+    def cut(self) -> None:
+        """The program has ended within a reply. What follows it could not be distinguished from its lines."""
+        self.has_ended = True
+        self._drop_unsent()
+        if self.transport is not None:
+            self.transport.close()
 
     def finish(self, job: Job) -> None:
         """A job has all its replies. Of one that was sent in parts, the last part is the job itself."""
@@ -254,6 +313,7 @@ class Writer(asyncio.Protocol):
         if self.due and self.due[0] is job:
             self.due.popleft()
         while self.due and isinstance(self.due[0], bytes):
+            self.due_bytes -= len(self.due[0])
             self.reply(self.due.popleft())  # type: ignore[arg-type]
         if self.has_ended:
             self._close_if_done()
