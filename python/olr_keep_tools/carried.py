@@ -8,11 +8,11 @@ import re
 from typing import Dict, Iterator, List, Mapping, NamedTuple, Optional, Tuple
 
 from .command import Failure
-from .places import Shares
 from .program import Program, ProgramEnded, Run
 from .records import ENDS, QUESTIONS, Batch, coordinate_of
 from .replies import Reply
-from .stream import is_plain
+from .shares import Shares
+from .stream import SHOWN, is_plain
 
 OUT_OF_MEMORY, MEMORY = 4, 13
 PATH_COMMANDS = ("path", "repath", "drop-path")
@@ -85,7 +85,7 @@ class Share:
                 if line and is_plain(line):
                     yield from self.carry_out_plain(line + b"\n", index)
                 elif line:
-                    yield from self.report(Command(index, line.decode("ascii", "replace"), ""), NOT_PLAIN)
+                    yield from self.report(Command(index, line.translate(SHOWN).decode("ascii"), ""), NOT_PLAIN)
         yield from self.flush()
 
     def carry_out_plain(self, text: bytes, index: int = 0) -> Iterator[Outcome]:

@@ -25,8 +25,11 @@ SAMPLE = 10.0  # metres between the points at which a line is compared with the 
 SHARE = 0.01
 OTHER = 0.01  # the added mean distance of a line that isn't preferred
 SAME = 1e-6  # costs that differ by less are equal
+MISSED = 100.0  # the cost of another end than one at a junction, where the road has a price
+NEARNESS = 0.2  # what a metre from the course costs there
 FORCED = 1e9  # the cost of an end along a line where an end at a junction is sought
 CELL = 0.002  # degrees of the cells by which the lines near a place are found
+MOST_CELLS = 500  # of one straight segment, a degree of a map: a longer one is an error, and is near its ends alone
 START, END = "start", "end"
 
 Place = Tuple[float, float]
@@ -107,8 +110,29 @@ def cells_along(a: Place, b: Place, cell: float) -> Collection[Tuple[int, int]]:
         return ((x, y),)
     if abs(right - x) <= 1 and abs(top - y) <= 1:
         return (x, y), (x, top), (right, y), (right, top)
+    if max(abs(right - x), abs(top - y)) > MOST_CELLS:
+        return (x, y), (right, top)
     middle = (a[0] + b[0]) / 2, (a[1] + b[1]) / 2
     return {*cells_along(a, middle, cell), *cells_along(middle, b, cell)}
+
+
+def reach(course: Sequence[Place], tolerance: float) -> Place:
+    """Somewhat more than the tolerance, in degrees east and north of a course."""
+    high = 1.1 * tolerance / METRES
+    return high / max(0.01, math.cos(math.radians(max([abs(it[1]) for it in course])))), high
+
+
+def cells_near(course: Sequence[Place], tolerance: float, cell: float = CELL) -> Set[Tuple[int, int]]:
+    """The cells of this size in which lines near a course may have points."""
+    wide, high = reach(course, tolerance)
+    places = list(course[:1])
+    for a, b in zip(course, course[1:]):
+        count = int(max(abs(b[0] - a[0]), abs(b[1] - a[1])) / cell) + 1
+        places += [between(a, b, k / count) for k in range(1, count)] if count > 1 else ()
+        places.append(b)
+    boxes = [((x - wide) // cell, (x + wide) // cell, (y - high) // cell, (y + high) // cell) for x, y in places]
+    ranges = {(min(a[0], b[0]), max(a[1], b[1]), min(a[2], b[2]), max(a[3], b[3])) for a, b in {*zip(boxes, boxes[1:])}}
+    return {(x, y) for w, e, s, n in ranges for x in range(int(w), int(e) + 1) for y in range(int(s), int(n) + 1)}
 
 
 class Polyline:
@@ -253,15 +277,45 @@ class Ends(NamedTuple):
 
 
 class Wish(NamedTuple):
-    """What a search for the lines of a course prefers: lines on these streets, an end within `snap` metres of a node at the
-    node, and, if it is given, lines for which `unlike(number, line, low, high, length)` is least, from 0 to 1: that are the road
-    where the path was, between these positions of the course of that length. `has_rivals` asks for a second road that follows."""
+    """What a search for the lines of a course prefers: lines on these streets, and an end within `snap` metres of a node at the
+    node. `has_rivals` asks for a second road that follows. With a `price(number, low, high)`, in metres, the distance counts less
+    than this, and the start and the end are sought at `junctions` first, which are nodes, and then where the course has them."""
 
     preferred: FrozenSet[str] = frozenset()
     snap: float = SNAP
     ends: Ends = Ends()
-    unlike: Optional[Callable[[int, Line, float, float, float], float]] = None
     has_rivals: bool = False
+    price: Optional[Callable[[int, float, float], float]] = None
+    junctions: Tuple[FrozenSet[int], FrozenSet[int]] = (frozenset(), frozenset())
+
+    def at_node(self, node: int, far: float, side: int) -> float:
+        """The cost of a start (0) or an end (1) at a node so many metres from it."""
+        if self.price is None:
+            return far * far
+        wanted = self.junctions[side]
+        return far if node in wanted or not wanted and far <= self.snap else MISSED + far
+
+    def along(self, side: int) -> float:
+        """The cost of a start (0) or an end (1) along a line."""
+        if self.price is not None:
+            return MISSED - 1 if self.junctions[side] else 0.0
+        return FORCED if self.ends[side] else 0.0
+
+
+def course_of(lines: Sequence[Line], start: int, end: int) -> Tuple[Place, ...]:
+    """The coordinates of lines in order, without these decimetres at their start and end."""
+    points = list(lines[0].points)
+    for it in lines[1:]:
+        points += it.points[1:]
+    if not (start or end):
+        return tuple(points)
+    plane = Plane(points[0][1])
+    shape = Polyline([plane.flat(it) for it in points])
+    first, last = Polyline([plane.flat(it) for it in lines[0].points]), Polyline([plane.flat(it) for it in lines[-1].points])
+    begin = start / lines[0].length * first.length
+    finish = shape.length - end / lines[-1].length * last.length
+    inner = [it for it, far in zip(points, shape.far) if begin < far < finish]
+    return (plane.degrees(shape.at(begin)), *inner, plane.degrees(shape.at(max(begin, finish))))
 
 
 class Best(NamedTuple):
@@ -359,7 +413,7 @@ class Follower:
             if shape.distance(self.course.points[k], 0, len(shape.far) - 1) > self.tolerance:
                 return None
         self.following[number] = shape.length
-        return (total / count + self.other(number, low, high)) * length + 1e-4
+        return (total / count * (NEARNESS if self.wish.price else 1.0) + self.other(number, low, high)) * length + 1e-4
 
     def cost_of_all(self, number: int, low: float, high: float) -> Optional[float]:
         """The same for a whole line: if its coordinates are those of the course from a position on, it needn't be compared."""
@@ -377,8 +431,8 @@ class Follower:
         """The added mean distance of a line that isn't wanted as much as another one."""
         line, wish = self.lines[number], self.wish
         more = 0.0 if line.street in wish.preferred else OTHER
-        if wish.unlike:
-            more += self.tolerance * wish.unlike(number, line, low, high, self.course.length)
+        if wish.price:
+            more += wish.price(number, low, high)
         return more + (2 * self.tolerance if number in self.avoided else 0.0)
 
     def ends(self) -> Dict[str, Dict[int, float]]:
@@ -401,8 +455,8 @@ class Follower:
         for node in {node for it in near for node in (it.start, it.end)}:
             far = math.dist(self.node(node), start)
             if far <= self.tolerance:
-                yield far * far, (node, 0.0), None
-        forced = FORCED if self.wish.ends.start else 0.0
+                yield self.wish.at_node(node, far, 0), (node, 0.0), None
+        forced = self.wish.along(0)
         for number, begin in ends[START].items():
             yield from ((forced + cost, label, step) for cost, label, step in self.steps(number, self.lines[number].end, begin, 0.0))
             if number in ends[END] and ends[END][number] > begin:
@@ -413,7 +467,7 @@ class Follower:
         """The part of a line that leads to the end of the course, where it ends along the line."""
         cost = self.cost(number, begin, end, low, self.course.length)
         if cost is not None:
-            yield cost + (FORCED if self.wish.ends.end else 0.0), (number, begin, self.shape(number).length - end)
+            yield cost + self.wish.along(1), (number, begin, self.shape(number).length - end)
 
     def steps(self, number: int, node: int, begin: float, low: float) -> Iterator[Tuple[float, Label, Optional[Step]]]:
         """The labels that a line to a node leads to from a distance along it, where the course is at this position."""
@@ -429,7 +483,7 @@ class Follower:
         if has_lines and self.course.length - low <= 2 * self.tolerance:
             last = math.dist(self.node(node), self.course.points[-1])
             if last <= self.tolerance:
-                yield last * last, END, (None, 0.0, 0.0)
+                yield self.wish.at_node(node, last, 1), END, (None, 0.0, 0.0)
         positions = self.positions
         for number, end in self.network.leaving.get(node, ()):
             highs = positions[end] if end in positions else self.positions_of(end)
@@ -482,7 +536,7 @@ class Follower:
             label = before
         steps.reverse()
         numbers = [it[0] for it in steps]
-        if tie:
+        if tie and not self.wish.price:
             place = self.lines[tie[0]].points[0]
             return Lost(f"two lines follow it equally near, of {self.name(tie[0])} and {self.name(tie[1])}", place)
         if len(set(numbers)) < len(numbers):

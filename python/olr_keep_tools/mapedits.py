@@ -12,6 +12,7 @@ from typing import Callable, Deque, Dict, Iterable, Iterator, List, NamedTuple, 
 from .command import Failure
 from .geo import METRES, Degrees, between, degrees, distance
 from .records import UNITS, Line, Margin, Path, Place, State, decimal
+from .twomaps import TwoMaps
 
 REFUSED = 4
 ROUTES = 8  # the number of routes to one node, of one length, that a search follows
@@ -195,13 +196,16 @@ def new_lines(matcher: Matcher, path: Path, dropped: Set[int]) -> Tuple[Lines, L
 
 
 def repaths(old: State, new: State, dropped: Set[int], limits: Limits, lost: Dict[str, Lines]) -> Iterator[str]:
-    """The records that give paths their new lines; `lost` gets the names of the other paths, with their unmatched lines."""
+    """The records that give paths their new lines; `lost` gets the names of the other paths, with their unmatched lines: also of
+    those for which only lines of another road beside theirs are found."""
     concerned = {name: path for name, path in old.paths.items() if not dropped.isdisjoint(path.lines)}
     if not concerned:
         return
-    matcher = Matcher(old, new, limits)
+    matcher, maps = Matcher(old, new, limits), TwoMaps(old, new, concerned.values())
     for name, path in concerned.items():
         lines, without = new_lines(matcher, path, dropped)
+        if not without and maps.on_its_road(path, path._replace(lines=lines)).doubt:
+            without = tuple(it for it in path.lines if it in dropped)
         if without:
             lost[name] = without
         elif lines != path.lines:

@@ -6,7 +6,7 @@ import unittest
 from typing import Dict, List, Sequence
 
 from olr_keep_tools.command import Failure
-from olr_keep_tools.mapedits import Limits
+from olr_keep_tools.mapedits import Limits, Lines, edits
 from olr_keep_tools.records import Path, State
 from olr_keep_tools.swap.carry import Carried, Carrier, Gone, How, Result, transferred
 from olr_keep_tools.swap.manual import Fate, Hand, records_of
@@ -33,8 +33,9 @@ OLD = state_of(*NODES, *ROAD, PATH)
 
 
 def carried(*lines: str, old: State = OLD) -> Result:
-    """The path on a new map."""
-    return Carrier(old, state_of(*lines), LIMITS).carried(old.paths, lambda _: None)["a"]
+    """The path on a new map, whether or not its road is certain."""
+    found = Carrier(old, state_of(*lines), LIMITS).carried(old.paths, lambda _: None)["a"]
+    return found._replace(is_there=False) if isinstance(found, Carried) else found
 
 
 class Carry(unittest.TestCase):
@@ -96,13 +97,26 @@ class Carry(unittest.TestCase):
         old = state_of(*NODES[:1], *nodes, NODES[3], *roads, PATH)
         new = ["node,22,6,49.00102", "node,23,6,49.001", "line,4,1,22,3,3,1113", "line,5,22,23,3,3,22", "line,6,23,4,3,3,2224"]
         carrier = Carrier(old, state_of(NODES[0], *new[:2], NODES[3], *new[2:]), LIMITS._replace(more=5.0))
-        self.assertEqual(carrier.carried(old.paths, lambda _: None)["a"], Carried(Path(100, 201, (4, 5, 6)), How.COURSE))
+        self.assertEqual(carrier.carried(old.paths, lambda _: None)["a"], Carried(Path(100, 201, (4, 5, 6)), How.COURSE, is_there=True))
 
     def test_apart(self) -> None:
         old = state_of(*NODES, *ROAD, "path,a,0,0,1,3")
         self.assertEqual(carried(*NODES, *ROAD, old=old), Carried(Path(0, 0, (1, 3)), How.COURSE))
         old = state_of(*NODES, *ROAD, "path,a,0,0,9")
         self.assertEqual(carried(*NODES, *ROAD, old=old), Gone("its line 9 was not in the old map"))
+
+    def test_road_beside(self) -> None:
+        # The path's road is gone, and another one is 4 m beside it on both maps; then both are there, with other numbers.
+        nodes = ("node,1,6,49", "node,2,6,49.003", "node,3,6.00005,49", "node,4,6.00005,49.003")
+        old = state_of(*nodes, "line,1,1,2,3,3,3336", "line,3,3,4,3,3,3336", "path,a,0,0,1")
+        found = carried(*nodes[2:], "line,3,3,4,3,3,3336", old=old)
+        self.assertEqual(found.doubt if isinstance(found, Carried) else "", "its road is gone")
+        lost: Dict[str, Lines] = {}
+        given = Limits(tolerance=5.0, length=0.02, dropped=1.0)
+        self.assertNotIn("repath", ",".join(edits(old, state_of(*nodes[2:], "line,3,3,4,3,3,3336"), given, lost)))
+        self.assertEqual(lost, {"a": (1,)})
+        both = "line,7,1,2,3,3,3336", "line,9,3,4,3,3,3336"
+        self.assertEqual(carried(*nodes, *both, old=old), Carried(Path(0, 0, (7,)), How.COURSE))
 
     def test_positions(self) -> None:
         anchors = [(0.0, 0.0), (100.0, 200.0), (200.0, 250.0)]
@@ -208,6 +222,13 @@ class Manual(unittest.TestCase):
         found = Hand(self.BASE, state_of(*old), state_of(*new), LIMITS).edits()
         self.records: List[str] = records_of(found)
         return {it.what: it.fate for it in found}
+
+    def test_lane_beside(self) -> None:
+        # A lane 5 m beside line 1 was added: the road itself isn't it, whatever its number.
+        lane = ["node,8,6.00007,49", "node,9,6.00007,49.001", "line,8,8,9,3,3,1112"]
+        numbered = [*NODES, "line,11,1,2,3,3,1112", *ROAD[1:]]
+        self.assertEqual(self.fates([*NODES, *ROAD, *lane], numbered), {"line 8": Fate.SURVIVES})
+        self.assertEqual(self.fates([*NODES, *ROAD, *lane], [*numbered, *lane]), {"line 8": Fate.ALREADY})
 
     def test_class(self) -> None:
         old = [*NODES, "line,1,1,2,1,3,1112", *ROAD[1:]]

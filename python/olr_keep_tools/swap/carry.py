@@ -14,14 +14,15 @@ import itertools
 import math
 from typing import Callable, Dict, Iterator, List, Mapping, NamedTuple, Optional, Sequence, Set, Tuple, Union
 
-from ..courses import DRAWN, Ends, Found, Ground, Lost, Wish, follow
+from ..courses import DRAWN, Ends, Found, Wish, follow
 from ..drawn import Junctions
 from ..geo import Degrees, degrees, distance
 from ..mapedits import Course, Limits, Lines, Matcher
-from ..receiver import Cell, cell_of, cells_along
+from ..receiver import Cell, cell_of
 from ..records import Path, Place, State
+from ..roads import Verdict
+from ..twomaps import FAR, Nearby, TwoMaps, cells_around, is_unchanged, without_cut
 
-FAR = 20.0  # metres within which a path is found again
 REPORTED = 1000  # paths between two reports
 TOGETHER = 4  # nodes near each other that are told apart by their lines, and by how all of them are moved
 
@@ -39,11 +40,14 @@ class How(enum.Enum):
 
 
 class Carried(NamedTuple):
-    """A path on the new map, and by how many metres each of its ends may be elsewhere along the road."""
+    """A path on the new map, and by how many metres each of its ends may be elsewhere along the road. `doubt` is why it may be on
+    another road beside its own, and `is_there` whether it is certain that it isn't."""
 
     path: Path
     how: How
     off: Tuple[float, float] = (0.0, 0.0)
+    doubt: str = ""
+    is_there: bool = False
 
 
 class Gone(NamedTuple):
@@ -69,44 +73,6 @@ class Piece(NamedTuple):
 
     old: Lines
     new: Lines
-
-
-class Nearby:
-    """The lines of a map that pass some cells of a grid."""
-
-    def __init__(self, state: State, cells: Set[Cell]):
-        self.state, self.cells = state, cells
-        self.lines: Dict[Cell, List[int]] = {}
-        if cells:
-            places = {number: degrees(it) for number, it in state.nodes.items()}
-            for number in state.lines:
-                for cell in cells.intersection(self.cells_of(number, places)):
-                    self.lines.setdefault(cell, []).append(number)
-
-    def cells_of(self, number: int, places: Mapping[int, Degrees]) -> Iterator[Cell]:
-        """The cells that a line passes."""
-        start, end, _, _, _, *rest = self.state.lines.text[number].split(",")
-        inner = zip(map(float, rest[1::3]), map(float, rest[2::3]))
-        points = [places[int(start)], *inner, places[int(end)]]
-        return itertools.chain.from_iterable(cells_along(a, b) for a, b in zip(points, points[1:]))
-
-    def near(self, course: Sequence[Degrees]) -> Dict[int, Ground]:
-        """The lines near a course, by number."""
-        numbers = {it for cell in cells_around(course) for it in self.lines.get(cell, ())}
-        return {it: self.ground(it) for it in sorted(numbers)}
-
-    def ground(self, number: int) -> Ground:
-        """A line as a search for a course has it."""
-        line = self.state.lines[number]
-        inner = (degrees(it[1:]) for it in line.shape)
-        points = (degrees(self.state.nodes[line.start]), *inner, degrees(self.state.nodes[line.end]))
-        return Ground(line.start, line.end, "", points, line.length)
-
-
-def cells_around(course: Sequence[Degrees]) -> Set[Cell]:
-    """The cells of a course and those beside them."""
-    cells = {cell for a, b in zip(course, course[1:]) for cell in cells_along(a, b)}
-    return {(x + i, y + j) for x, y in cells for i in (-1, 0, 1) for j in (-1, 0, 1)}
 
 
 class Pairing(Matcher):
@@ -220,6 +186,17 @@ class Carrier:
         report(f"{len(sought)} of {len(paths)} paths are found again")
         nearby = Nearby(self.new, set().union(*map(cells_around, courses)))
         results.update((name, self.again(forms, nearby)) for name, forms in sought.items())
+        return self.on_their_roads(paths, results, report)
+
+    def on_their_roads(self, paths: Mapping[str, Path], results: Dict[str, Result], report: Report) -> Dict[str, Result]:
+        """The same, with the lines of a path's own road if it was carried to another one beside it, as far as it is known."""
+        moved_ones = {name: it for name, it in results.items() if isinstance(it, Carried) and not (
+            it.path.lines == paths[name].lines and all(map(self.is_unchanged, it.path.lines)))}
+        maps = TwoMaps(self.old, self.new, (paths[name] for name in moved_ones))
+        for count, (name, it) in enumerate(moved_ones.items()):
+            if count % REPORTED == 0:
+                report(f"{count} of {len(moved_ones)} paths are compared with the roads beside them")
+            results[name] = on_its_road(maps, paths[name], it)
         return results
 
     def apart(self, path: Path) -> Optional[Result]:
@@ -238,19 +215,10 @@ class Carrier:
     def forms(self, path: Path) -> List[Old]:
         """The lines of a path, also with those by which it is extended to junctions, and both without what offsets cut off."""
         found = []
-        for part in dict.fromkeys((path, self.without_cut(path))):
+        for part in dict.fromkeys((path, without_cut(self.old, path))):
             before, after = self.junctions.extension(part.lines)
             found += [self.form(part, [], []), *([self.form(part, before, after)] if before or after else [])]
         return found
-
-    def without_cut(self, path: Path) -> Path:
-        """A path without the lines at its ends that its offsets cut off, as far as something of it is left."""
-        (positive, negative, lines), lengths = path, self.old.lines
-        while len(lines) > 1 and positive >= lengths[lines[0]].length:
-            positive, lines = positive - lengths[lines[0]].length, lines[1:]
-        while len(lines) > 1 and negative >= lengths[lines[-1]].length:
-            negative, lines = negative - lengths[lines[-1]].length, lines[:-1]
-        return Path(positive, negative, lines)
 
     def form(self, path: Path, before: List[int], after: List[int]) -> Old:
         """The lines of a path with some before and after them."""
@@ -270,9 +238,7 @@ class Carrier:
 
     def is_unchanged(self, number: int) -> bool:
         """Whether the line with this number is on the new map as it was."""
-        text = self.new.lines.text.get(number)
-        nodes = self.old.nodes.text, self.new.nodes.text
-        return text == self.old.lines.text[number] and all(nodes[0][it] == nodes[1].get(it) for it in self.old.ends(number))
+        return is_unchanged(self.old, self.new, number)
 
     def is_same(self, number: int, new: int) -> bool:
         """Whether a line of the new map follows the course of an old one."""
@@ -372,6 +338,18 @@ class Carrier:
             at += state.lines[number].length
             found.append((float(at), state.ends(number)[1]))
         return found
+
+
+def on_its_road(maps: TwoMaps, path: Path, found: Carried) -> Carried:
+    """A path that was carried, on the lines of its own road, or with a doubt if these can't be distinguished from others."""
+    if found.how is How.GIVEN:
+        answer = maps.judged(path, found.path)
+        is_doubtful = answer is not None and answer.verdict is Verdict.GONE
+        return found._replace(doubt=answer.words() if answer and is_doubtful else "", is_there=not is_doubtful)
+    now = maps.on_its_road(path, found.path)
+    if now.path != found.path:
+        return Carried(now.path, How.FOUND, is_there=now.is_there)
+    return found._replace(doubt=now.doubt, is_there=now.is_there)
 
 
 def is_inside(anchors: Anchors, at: float) -> bool:

@@ -13,7 +13,8 @@ import itertools
 from typing import Dict, Iterable, Iterator, List, NamedTuple, Set, Tuple
 
 from ..mapedits import Limits, Lines, line_fields, place_fields
-from ..records import State
+from ..records import Path, State
+from ..twomaps import TwoMaps
 from .carry import Carrier
 
 ORDER = ("drop-line", "node", "move", "set-line", "line", "drop-node")
@@ -92,9 +93,20 @@ class Hand:
         """The classes and forms of lines of the new map."""
         return {self.new.lines[it][2:4] for it in numbers}
 
+    @functools.cached_property
+    def beside(self) -> TwoMaps:
+        """The map as it is and the new one, near the lines that were added."""
+        return TwoMaps(self.old, self.new, (Path(0, 0, (it,)) for it in self.old.lines if not has_ends(self.base, self.old, it)))
+
+    def there(self, number: int) -> Lines:
+        """The lines of the new map that follow one that was added, unless they are of another road beside it."""
+        found = self.of_old.line(number)
+        is_other = found and self.beside.on_its_road(Path(0, 0, (number,)), Path(0, 0, found)).doubt
+        return () if is_other else found
+
     def added(self, number: int) -> Edit:
         """A line that was added."""
-        what, line, now = f"line {number}", self.old.lines[number], self.of_old.line(number)
+        what, line, now = f"line {number}", self.old.lines[number], self.there(number)
         record = f"line,{number},{self.old.lines.text[number]}"
         ends = self.old.ends(number)
         if now:

@@ -1,10 +1,9 @@
 """The files of tools/swap --write: the new log, the reply that consumers have to take, and the way back."""
 import os
-import shutil
 from typing import Iterable, Iterator
 
 from ..command import USAGE, Failure
-from ..files import FileFailure
+from ..files import FileFailure, beside
 from ..records import Margin, Path, State
 
 
@@ -40,20 +39,16 @@ def refuse_existing(folder: str) -> None:
 
 
 def write_folder(folder: str, old: State, new: State, report: Iterable[str]) -> None:
-    """Makes the folder with all its files, or nothing: they are written in FOLDER.part, which is then renamed."""
-    beside = f"{folder.rstrip('/')}.part"
+    """Makes the folder with all its files, or nothing: they are written in another one beside it, which is then renamed."""
     try:
-        shutil.rmtree(beside, ignore_errors=True)
-        os.mkdir(beside)
-        try:
+        with beside(folder.rstrip("/")) as part:
+            os.mkdir(part)
             files = (("log.csv", dump(new)), ("reply.txt", reply(old, new)), ("back.csv", dump(old)),
                      ("back-reply.txt", reply(new, old)), ("report.txt", report))
             for name, lines in files:
-                write(os.path.join(beside, name), lines)
+                write(os.path.join(part, name), lines)
             refuse_existing(folder)
-            os.rename(beside, folder)
-        finally:
-            shutil.rmtree(beside, ignore_errors=True)
+            os.rename(part, folder)
     except OSError as error:
         raise FileFailure(f"{folder}: {error.strerror}") from None
 

@@ -157,7 +157,11 @@ class Judge:
         """The verdict on a path with a string on both maps."""
         course = shape_of(self.new.state, self.new.state.paths[verdict.name])
         more = () if self.old.ambiguous.get(verdict.name) else self.new.ambiguous.get(verdict.name, ())
-        return compared(verdict._replace(ends=found.off, ambiguous=more), course, self.tolerance)
+        verdict = compared(verdict._replace(ends=found.off, ambiguous=more), course, self.tolerance)
+        if found.doubt:
+            return verdict._replace(kind=Kind.OTHER_ROAD, why=found.doubt)
+        is_back = found.how is How.GIVEN and found.is_there and verdict.answers[0] == verdict.answers[1]
+        return verdict._replace(kind=Kind.SAME_STRING) if is_back else verdict
 
 
 def compared(verdict: Verdict, course: Sequence[Degrees], tolerance: float) -> Verdict:

@@ -1,0 +1,146 @@
+"""Whether the paths of one map are on the same roads on another one, as `roads` decides it.
+
+    maps = TwoMaps(old, new, old.paths.values())
+    answer = maps.judged(old.paths["a"], new.paths["a"])
+    print(answer.verdict, answer.off)
+
+The number of a line takes the place of a street's id.
+"""
+from __future__ import annotations
+
+import itertools
+from typing import Dict, Iterable, Iterator, List, Mapping, NamedTuple, Optional, Sequence, Set
+
+from .courses import Found, Ground, Network, cells_near, course_of
+from .drawn import courses
+from .geo import Degrees, degrees
+from .receiver import Cell, cells_along
+from .records import Path, State
+from .roads import WIDER, Answer, Given, LastMap, Roads, Verdict
+
+FAR = 20.0  # metres within which a path is found again
+
+
+class Nearby:
+    """The lines of a map that pass some cells of a grid."""
+
+    def __init__(self, state: State, cells: Set[Cell]):
+        self.state, self.cells = state, cells
+        self.lines: Dict[Cell, List[int]] = {}
+        self.grounds: Dict[int, Ground] = {}
+        if cells:
+            places = {number: degrees(it) for number, it in state.nodes.items()}
+            for number in state.lines:
+                for cell in cells.intersection(self.cells_of(number, places)):
+                    self.lines.setdefault(cell, []).append(number)
+
+    def cells_of(self, number: int, places: Mapping[int, Degrees]) -> Iterator[Cell]:
+        """The cells that a line passes."""
+        start, end, _, _, _, *rest = self.state.lines.text[number].split(",")
+        inner = zip(map(float, rest[1::3]), map(float, rest[2::3]))
+        points = [places[int(start)], *inner, places[int(end)]]
+        return itertools.chain.from_iterable(cells_along(a, b) for a, b in zip(points, points[1:]))
+
+    def near(self, course: Sequence[Degrees]) -> Dict[int, Ground]:
+        """The lines near a course, by number."""
+        numbers = {it for cell in cells_around(course) for it in self.lines.get(cell, ())}
+        return {it: self.ground(it) for it in sorted(numbers)}
+
+    def ground(self, number: int) -> Ground:
+        """A line as a search for a course has it."""
+        line = self.state.lines[number]
+        inner = (degrees(it[1:]) for it in line.shape)
+        points = (degrees(self.state.nodes[line.start]), *inner, degrees(self.state.nodes[line.end]))
+        return Ground(line.start, line.end, "", points, line.length)
+
+
+def cells_around(course: Sequence[Degrees]) -> Set[Cell]:
+    """The cells of a course and those beside them."""
+    cells = {cell for a, b in zip(course, course[1:]) for cell in cells_along(a, b)}
+    return {(x + i, y + j) for x, y in cells for i in (-1, 0, 1) for j in (-1, 0, 1)}
+
+
+def are_connected(state: State, lines: Sequence[int]) -> bool:
+    """Whether all these lines are on the map, and each begins where the one before it ends."""
+    if not lines or not all(it in state.lines for it in lines):
+        return False
+    ends = list(map(state.ends, lines))
+    return all(a[1] == b[0] for a, b in zip(ends, ends[1:]))
+
+
+def without_cut(state: State, path: Path) -> Path:
+    """A path without the lines at its ends that its offsets cut off, as far as something of it is left."""
+    (positive, negative, lines), lengths = path, state.lines
+    while len(lines) > 1 and positive >= lengths[lines[0]].length:
+        positive, lines = positive - lengths[lines[0]].length, lines[1:]
+    while len(lines) > 1 and negative >= lengths[lines[-1]].length:
+        negative, lines = negative - lengths[lines[-1]].length, lines[:-1]
+    return Path(positive, negative, lines)
+
+
+def is_unchanged(old: State, new: State, number: int) -> bool:
+    """Whether the line of a map with this number is on another one as it was."""
+    text = old.lines.text.get(number)
+    if text is None or new.lines.text.get(number) != text:
+        return False
+    return all(old.nodes.text[it] == new.nodes.text.get(it) for it in old.ends(number))
+
+
+class OnRoad(NamedTuple):
+    """A path on a map; why it may be on another road beside its own, if it may; and whether it is certain that it isn't."""
+
+    path: Path
+    doubt: str
+    is_there: bool
+
+
+class TwoMaps:
+    """Two maps, near some paths of the first one."""
+
+    def __init__(self, old: State, new: State, paths: Iterable[Path]) -> None:
+        self.old, self.new = old, new
+        shapes = ([degrees(at[1:]) for at in courses(old, it.lines)[0]] for it in paths if are_connected(old, it.lines))
+        cells = set().union(*map(cells_around, shapes))
+        self.near_old, self.near_new = Nearby(old, cells), Nearby(new, cells)
+
+    def roads(self, path: Path) -> Optional[Roads]:
+        """The decision for a path of the old map, or None if it isn't on connected lines, or nothing of it is left."""
+        if not are_connected(self.old, path.lines):
+            return None
+        positive, negative, lines = without_cut(self.old, path)
+        if positive + negative >= sum(self.old.lines[it].length for it in lines):
+            return None
+        own = [numbered(self.near_old, it) for it in lines]
+        course = course_of(own, positive, negative)
+        old, new = ({it: numbered(nearby, it) for cell in cells_near(course, WIDER) for it in nearby.lines.get(cell, ())}
+                    for nearby in (self.near_old, self.near_new))
+        last = LastMap({**old, **dict(zip(lines, own))}, lines, (positive, negative))
+        return Roads(Given(course, not positive, not negative), last, new, Network(new), FAR, "line")
+
+    def judged(self, path: Path, now: Path) -> Optional[Answer]:
+        """Whether a path of the new map is on the road of one of the old map; None if that can't be decided."""
+        roads = self.roads(path) if are_connected(self.new, now.lines) else None
+        if roads is None:
+            return None
+        positive, negative, lines = without_cut(self.new, now)
+        roads.near = {**{it: numbered(self.near_new, it) for it in lines}, **roads.near}
+        return roads.judge(Found(list(lines), positive, negative))
+
+    def on_its_road(self, path: Path, now: Path) -> OnRoad:
+        """A path that was carried to some lines: on these unless its road is gone there, or on the lines of this, if they are known."""
+        answer = self.judged(path, now)
+        if answer is None or answer.verdict is not Verdict.GONE:
+            return OnRoad(now, "", answer is not None and answer.verdict is Verdict.THERE)
+        roads = self.roads(path)
+        again = roads.decide() if roads else answer
+        if again.verdict in (Verdict.THERE, Verdict.AGAIN) and isinstance(again.found, Found):
+            found = again.found
+            return OnRoad(Path(found.start, found.end, tuple(found.lines)), "", again.verdict is Verdict.THERE)
+        return OnRoad(now, answer.words(), False)
+
+
+def numbered(nearby: Nearby, number: int) -> Ground:
+    """A line whose street has its number as id."""
+    if number not in nearby.grounds:
+        nearby.grounds[number] = nearby.ground(number)._replace(street=str(number))
+    return nearby.grounds[number]
