@@ -6,6 +6,7 @@ import os
 import select
 import shutil
 import signal
+import socket
 import subprocess
 import sys
 import time
@@ -20,16 +21,21 @@ PATIENCE = 3  # seconds after which a stopped process is replaced
 
 
 class Server:
-    """A server on a socket in a folder of its own."""
+    """A server on a socket in a folder of its own, which lets in everybody; or, with Debian's settings, by their user's name on the
+    socket, and by passwords on a port of this machine. There the check itself is let in as the superuser."""
 
-    def __init__(self, folder):
-        self.folder = folder
+    def __init__(self, folder, is_debian=False):
+        self.folder, self.port = folder, free_port() if is_debian else 5432
         self.user = ["setpriv", "--reuid", "postgres", "--regid", "postgres", "--clear-groups"] if os.getuid() == 0 else []
         self.name = "postgres" if self.user else None
         if self.user:
             shutil.chown(folder, "postgres")
-        self.call("initdb", "-A", "trust", "-D", "data", "--no-sync")
-        self.start()
+        settings = ["--auth-local=peer", "--auth-host=scram-sha-256"] if is_debian else ["-A", "trust"]
+        self.call("initdb", *settings, "-D", "data", "--no-sync")
+        if is_debian and self.name:
+            put_first(f"{folder}/data/pg_hba.conf", f"local all {self.name} peer map=check\n")
+            put_first(f"{folder}/data/pg_ident.conf", f"check root {self.name}\ncheck {self.name} {self.name}\n")
+        self.start(*([f"listen_addresses=127.0.0.1 -c port={self.port}"] if is_debian else []))
 
     def call(self, command, *arguments):
         """Runs one of the server's commands."""
@@ -53,7 +59,7 @@ class Server:
 
     def url(self, database):
         """The connection string of a database."""
-        return f"host={self.folder} dbname={database}" + (f" user={self.name}" if self.name else "")
+        return f"host={self.folder} port={self.port} dbname={database}" + (f" user={self.name}" if self.name else "")
 
     def connect(self, database):
         """A session in which each statement is committed."""
@@ -71,6 +77,21 @@ class Server:
         environment = {**os.environ, "PGOPTIONS": "-c client_min_messages=warning"}
         command = [f"{BINS[-1]}/psql", "-AtXq", "-v", "ON_ERROR_STOP=1", *arguments, self.url(database)]
         subprocess.run(command, check=True, env=environment, stdout=subprocess.DEVNULL)
+
+
+def free_port():
+    """A port of this machine that nobody listens on."""
+    with socket.socket() as one:
+        one.bind(("127.0.0.1", 0))
+        return one.getsockname()[1]
+
+
+def put_first(name, text):
+    """Puts lines before those of a file."""
+    with open(name, encoding="utf-8") as file:
+        text += file.read()
+    with open(name, "w", encoding="utf-8") as file:
+        file.write(text)
 
 
 def fail(text):
@@ -105,7 +126,7 @@ class Work:
 
     def start_as(self, user, *arguments, environment=None):
         """Starts tools/live with a role, and with these variables."""
-        options = ["--stopped", str(PATIENCE), "--quiet-ms", "0", *arguments]
+        options = ["--stopped", str(PATIENCE), "--quiet-ms", "0", "--elsewhere-after", "0", *arguments]
         url = self.server.url(self.database)
         url = f"{url.partition(' user=')[0]} user={user}" if user else url
         command = [sys.executable, f"{TOP}/tools/live", *options, url, PROGRAM]
@@ -163,18 +184,21 @@ class Work:
         self.rounds += 1
         return True
 
+    def published(self):
+        """What is published of each path: text, reason and state."""
+        return {name: answer for name, *answer in self.ask("select name, text, reason, state from olr_keep.string")}
+
     def consume(self, cursor):
         """Reads the history since the last round, as a consumer does."""
-        cursor.execute("""select round, name, text, reason from olr_keep.history
+        cursor.execute("""select round, name, text, reason, state from olr_keep.history
             where round > %s order by round, name""", (self.last,))
-        for number, name, text, reason in cursor.fetchall():
-            answer = None if reason == "dropped" else (text, reason)
-            if answer == self.consumed.get(name):
+        for number, name, *answer in cursor.fetchall():
+            if self.consumed.get(name) == answer:
                 fail(f"round {number} has the answer of {name} again")
-            self.consumed[name] = answer
+            self.consumed[name] = None if answer[1] == "dropped" else answer
             self.last = number
-        cursor.execute("select name, text, reason from olr_keep.string")
-        published = {name: (text, reason) for name, text, reason in cursor.fetchall()}
+        cursor.execute("select name, text, reason, state from olr_keep.string")
+        published = {name: answer for name, *answer in cursor.fetchall()}
         if published != {name: it for name, it in self.consumed.items() if it}:
             fail("the history does not lead to the published strings")
 

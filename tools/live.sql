@@ -22,7 +22,8 @@ begin
         update olr_keep.node set is_end = true where 1 = (select count(distinct (street, part, k)) from olr_keep.line
             where line.geom && node.geom and node in (from_node, to_node));
         alter table olr_keep.string add found_elsewhere boolean not null default false,
-            add said_course geometry(LineString, 4326), add said_roads jsonb, add lost_at geometry(MultiPoint, 4326),
+            add given geometry(LineString, 4326), add given_streets text[] not null default '{}', add last_map jsonb,
+            add lost_at geometry(MultiPoint, 4326),
             add at_junctions boolean[];
         alter table olr_keep.problem add kind text not null default 'street', add source int;
         update olr_keep.problem set kind = case when node is not null then 'open end' else 'no string' end
@@ -35,6 +36,13 @@ begin
         drop sequence olr_keep.node_number, olr_keep.line_number;
         drop function olr_keep.make_triggers(int, text, text);
         insert into olr_keep.note (source, who) select source, session_user from olr_keep.source;
+        update olr_keep.string set given = geom, given_streets = streets;
+    end if;
+    if exists (select from pg_attribute where attrelid = to_regclass('olr_keep.string') and attname = 'said_course') then
+        drop view if exists olr_keep.held;
+        alter table olr_keep.string rename said_course to given;
+        alter table olr_keep.string drop said_roads, add last_map jsonb, add given_streets text[] not null default '{}';
+        update olr_keep.string set given = geom, given_streets = streets where given is null;
     end if;
 end $$;
 
@@ -120,7 +128,7 @@ create table if not exists olr_keep.string (
     start_cut bigint not null default 0, end_cut bigint not null default 0, start_node bigint, end_node bigint,
     definition text not null,
     last_text text, last_round bigint, lost boolean not null default false, geom geometry(LineString, 4326),
-    found_elsewhere boolean not null default false, said_course geometry(LineString, 4326), said_roads jsonb,
+    found_elsewhere boolean not null default false, given geometry(LineString, 4326), given_streets text[] not null default '{}', last_map jsonb,
     lost_at geometry(MultiPoint, 4326), at_junctions boolean[],
     check (num_nonnulls(text, reason) = 1)
 );
@@ -147,14 +155,31 @@ alter table olr_keep.string add column if not exists margin text not null defaul
 comment on column olr_keep.string.margin is 'The margin, routes and classes, with which the published string was made.';
 alter table olr_keep.round add column if not exists margin text not null default '0,0';
 comment on column olr_keep.round.margin is 'The margin of the program in this round.';
+alter table olr_keep.round add column if not exists causes bigint[] not null default '{}';
+comment on column olr_keep.round.causes is 'The earlier rounds whose edits led to what this one publishes late.';
+alter table olr_keep.string add column if not exists state text, add column if not exists off_m float8;
+comment on column olr_keep.string.state is
+    'as given, moved (up to the tolerance), elsewhere, held, frozen, refused or lost: that of the published string.';
+comment on column olr_keep.string.off_m is 'Metres between the course that was given and the one that was found, or NULL.';
 
 create table if not exists olr_keep.history (
     round bigint not null references olr_keep.round, name text not null, text text, reason text,
     primary key (round, name)
 );
 create index if not exists history_name on olr_keep.history (name, round);
+alter table olr_keep.history add column if not exists state text, add column if not exists off_m float8;
 comment on table olr_keep.history is
-    'Each answer that was published, by round. The reason dropped means that the path was removed.';
+    'Each answer or state that was published, by round. The reason dropped means that the path was removed.';
+comment on column olr_keep.history.state is 'The state since this round, as in string; NULL in rounds of 2.0.0 and of a removed path.';
+
+create table if not exists olr_keep.identity (
+    history text not null default gen_random_uuid(), made_in text not null default '',
+    is_only boolean primary key default true check (is_only)
+);
+insert into olr_keep.identity default values on conflict do nothing;
+comment on table olr_keep.identity is
+    'A random word in one row: while it is the same, a round and a name are a position in the history. A restore makes another one.';
+comment on column olr_keep.identity.made_in is 'The server, its timeline, the database and the table of the history with which it was made.';
 
 create table if not exists olr_keep.hold (
     hold bigint primary key, since timestamptz not null default clock_timestamp(), round bigint not null,
@@ -163,13 +188,24 @@ create table if not exists olr_keep.hold (
 );
 comment on table olr_keep.hold is
     'Clusters of changes whose strings were not published at once: the round, the streets, the users, and how many strings.';
+alter table olr_keep.hold add column if not exists nearby int;
+comment on column olr_keep.hold.nearby is 'The paths in the cells of the streets, of which at most a quarter is published at once.';
 
 create table if not exists olr_keep.waiting (
     name text primary key, hold bigint, text text, reason text, since timestamptz not null default clock_timestamp(),
     effect text, check (num_nonnulls(text, reason) = 1)
 );
+do $$
+begin
+    if not exists (select from pg_attribute where attrelid = 'olr_keep.waiting'::regclass and attname = 'kind') then
+        alter table olr_keep.waiting add kind text not null default 'held' check (kind in ('held', 'frozen', 'delayed')),
+            add due timestamptz, add cause bigint;
+        update olr_keep.waiting set kind = 'frozen' where hold is null;
+    end if;
+end $$;
 comment on table olr_keep.waiting is
-    'The answers that are not published: of a hold, or, without one, of a frozen path. They are those of the map as it is now.';
+    'The answers that are not published. They are those of the map as it is now.';
+comment on column olr_keep.waiting.kind is 'held, in a hold; frozen, with the path; or delayed until due, with the round of the edit.';
 
 create table if not exists olr_keep.problem (
     problem bigint generated always as identity primary key, street text, path text, node bigint, words text not null,
@@ -178,7 +214,12 @@ create table if not exists olr_keep.problem (
 create index if not exists problem_street on olr_keep.problem (street);
 create index if not exists problem_path on olr_keep.problem (path);
 create index if not exists problem_node on olr_keep.problem (node);
+alter table olr_keep.problem add column if not exists metres float8, add column if not exists round bigint,
+    add column if not exists users text[], add column if not exists shift geometry(LineString, 4326);
 comment on table olr_keep.problem is 'What the map, a path or a table lacks now. A row is removed when it is mended.';
+comment on column olr_keep.problem.metres is 'Of a path that is found elsewhere: the greatest distance from where it was given.';
+comment on column olr_keep.problem.shift is 'A line over this distance, from where the path was.';
+comment on column olr_keep.problem.round is 'The round that wrote the problem of a path, for the edits of these users.';
 
 create table if not exists olr_keep.ambiguity (
     name text not null, words text not null, geom geometry(Point, 4326), primary key (name, words)
@@ -226,26 +267,64 @@ comment on column olr_keep.node.is_end is 'Whether only one stretch of a street 
 create index if not exists string_open on olr_keep.string (name) where lost or found_elsewhere;
 create index if not exists string_open_streets on olr_keep.string using gin (streets) where lost or found_elsewhere;
 create index if not exists string_lost_at on olr_keep.string using gist (lost_at) where lost_at is not null;
+create index if not exists string_open_geom on olr_keep.string using gist (geom) where (lost or found_elsewhere) and lost_at is null;
+create index if not exists string_open_given on olr_keep.string using gist (given)
+    where (lost or found_elsewhere) and lost_at is null;
 create index if not exists string_without_place on olr_keep.string (name)
     where (lost or found_elsewhere) and lost_at is null;
 comment on column olr_keep.string.found_elsewhere is
     'Whether the lines are not those of the streets or the course that an operator gave, since these can''t be had.';
 comment on column olr_keep.string.at_junctions is
     'Whether its start and its end were at junctions when it was first found: there they are sought first.';
-comment on column olr_keep.string.said_course is
-    'While that is so, or no lines are found: the course of the lines that were last found as they were given.';
+comment on column olr_keep.string.given is
+    'The course of the lines that were found at first, or accepted: where the path belongs, in the order of travel.';
+comment on column olr_keep.string.given_streets is 'The streets of then.';
+comment on column olr_keep.string.last_map is
+    'While the path isn''t there: the lines near it on the map on which it was last as given, and its own ones.';
 insert into olr_keep.counter select kind, 0 from unnest('{node,line,round,hold}'::text[]) as kind on conflict do nothing;
 update olr_keep.counter set last = greatest(last, (select max(round) from olr_keep.history),
     (select max(round) from olr_keep.round), (select max(greatest(round, last_round)) from olr_keep.string)) where kind = 'round';
 
+-- The states of paths, as they are published. Of a delayed one it stays.
+create or replace function olr_keep.states(names text[]) returns table (name text, state text) language sql stable
+set search_path = pg_catalog, pg_temp as $$
+    select string.name, case when waiting.kind = 'held' then 'held' when waiting.kind = 'delayed' then string.state
+        when frozen.name is not null then 'frozen' when lost then 'lost' when string.text is null then 'refused'
+        when found_elsewhere then 'elsewhere' when off_m > 2 then 'moved' else 'as given' end
+    from olr_keep.string left join olr_keep.waiting using (name) left join olr_keep.frozen using (name)
+    where string.name = any(names)
+$$;
+revoke execute on function olr_keep.states(text[]) from public;
+update olr_keep.string set state = it.state
+from olr_keep.states((select array_agg(name) from olr_keep.string where state is null)) as it where string.name = it.name;
+
 -- ---- triggers
+
+-- No function of this schema runs for PUBLIC with its owner's rights: whoever may execute a trigger's function can put it on a table of
+-- their own. What a table's types or its owner's expressions decide is evaluated with the rights of whoever writes the row.
 
 -- Wakes tools/live. A transaction that has notified can't be prepared: where some may be, it finds the notes within a second.
 create or replace function olr_keep.wake() returns void language sql set search_path = pg_catalog, pg_temp as $$
     select pg_notify('olr_keep_note', '') where current_setting('max_prepared_transactions') = '0'
 $$;
 
-create or replace function olr_keep.notify_change() returns trigger language plpgsql security definer
+-- Notes the row whose key the trigger before this one has set: `=` and the key, or `+` if it had another one before; if it is not
+-- known, all rows. The argument is the source.
+create or replace function olr_keep.note_keys() returns trigger language plpgsql security definer
+set search_path = pg_catalog, pg_temp as $$
+declare
+    key text := current_setting('olr_keep.key', true);
+begin
+    insert into olr_keep.note (source, key, who)
+    values (tg_argv[0]::int, case when key <> '' then substr(key, 2) end, session_user);
+    if key like '+%' then
+        insert into olr_keep.note (source, key, who)
+        values (tg_argv[0]::int, substr(current_setting('olr_keep.was'), 2), session_user);
+    end if;
+    return null;
+end $$;
+
+create or replace function olr_keep.note_statement() returns trigger language plpgsql security definer
 set search_path = pg_catalog, pg_temp as $$
 begin
     if tg_op = 'TRUNCATE' then
@@ -255,21 +334,21 @@ begin
     return null;
 end $$;
 
-create or replace function olr_keep.note_margin() returns trigger language plpgsql security definer
-set search_path = pg_catalog, pg_temp as $$
+drop function if exists olr_keep.note_margin() cascade;
+create function olr_keep.note_margin() returns trigger language plpgsql security definer set search_path = pg_catalog, pg_temp as $$
 begin
     insert into olr_keep.note (source, who) values (-1, session_user);
     perform olr_keep.wake();
     return null;
 end $$;
-drop trigger if exists olr_keep_margin on olr_keep.margin;
 create trigger olr_keep_margin after insert or update or delete or truncate on olr_keep.margin for each statement
     execute function olr_keep.note_margin();
 alter table olr_keep.margin enable always trigger olr_keep_margin;
+revoke execute on function olr_keep.note_keys(), olr_keep.note_statement(), olr_keep.note_margin() from public;
 
 -- A table, its partitions, and the tables that inherit from it.
 create or replace function olr_keep.parts(streets text) returns table (part regclass, is_partition boolean, filenode oid)
-language sql stable as $$
+language sql stable set search_path = pg_catalog, pg_temp as $$
     with recursive found(part) as (
         select to_regclass(streets)::oid
         union select inhrelid from pg_inherits join found on inhparent = part
@@ -278,64 +357,68 @@ language sql stable as $$
     where relkind in ('r', 'p')
 $$;
 
--- Makes the function and the triggers that note which rows of a table change: of a source of streets, or of the paths (0). An
--- expression that fails doesn't fail the statement of the editor: the note is of all rows then.
+-- Makes the triggers that note which rows of a table change: of a source of streets, or of the paths (0). The first one evaluates
+-- the expression of the id, with the rights of whoever writes the row. An expression that fails doesn't fail the statement of the
+-- editor: the note is of all rows then.
 create or replace function olr_keep.make_triggers(source int, streets text, id text, path text default 'pg_catalog')
-returns void language plpgsql as $body$
+returns void language plpgsql set search_path = pg_catalog, pg_temp as $body$
 declare
-    form text := case when id ~ '^[a-z_][a-z0-9_]*$' then '%s.' || id || '::text'
+    is_column bool := id ~ '^[a-z_][a-z0-9_]*$';
+    form text := case when is_column then '%s.' || id || '::text'
         else '(select (' || replace(id, '%', '%%') || ')::text from (select %s.*) as one)' end;
     was text := format(form, 'old');
     now text := format(form, 'new');
+    setting text := case when is_column then '' else format('set search_path = %s, pg_temp', path) end;
     one record;
 begin
     execute format($f$
-        create or replace function olr_keep.note_row_%1$s() returns trigger language plpgsql security definer
-        set search_path = %4$s, pg_temp as $$
+        create or replace function olr_keep.key_row_%1$s() returns trigger language plpgsql %4$s as $$
         declare
             now_key text;
             was_key text;
         begin
             begin
                 if tg_op <> 'DELETE' then
-                    now_key := coalesce(%3$s, '');
+                    now_key := '=' || coalesce(%3$s, '');
                 end if;
                 if tg_op <> 'INSERT' then
-                    was_key := coalesce(%2$s, '');
+                    was_key := '=' || coalesce(%2$s, '');
                 end if;
             exception when others then
-                insert into olr_keep.note (source, who) values (%1$s, session_user);
-                return null;
+                now_key := '';
+                was_key := '';
             end;
-            if now_key is not null then
-                insert into olr_keep.note (source, key, who) values (%1$s, now_key, session_user);
+            if now_key <> was_key then
+                was_key := pg_catalog.set_config('olr_keep.was', was_key, true);
+                now_key := '+' || substr(now_key, 2);
             end if;
-            if was_key is distinct from now_key and was_key is not null then
-                insert into olr_keep.note (source, key, who) values (%1$s, was_key, session_user);
-            end if;
+            now_key := pg_catalog.set_config('olr_keep.key', coalesce(now_key, was_key), true);
             return null;
-        end $$ $f$, source, was, now, path);
+        end $$ $f$, source, was, now, setting);
     perform olr_keep.drop_triggers(streets);
     for one in select * from olr_keep.parts(streets) loop
         if not one.is_partition then
             execute format('create trigger olr_keep_row after insert or update or delete on %s for each row
-                execute function olr_keep.note_row_%s()', one.part, source);
+                execute function olr_keep.key_row_%s()', one.part, source);
+            execute format('create trigger olr_keep_row_note after insert or update or delete on %s for each row
+                execute function olr_keep.note_keys(%s)', one.part, source);
         end if;
         execute format('create trigger olr_keep_statement after insert or update or delete on %s for each statement
-            execute function olr_keep.notify_change(%s)', one.part, source);
+            execute function olr_keep.note_statement(%s)', one.part, source);
         execute format('create trigger olr_keep_truncate after truncate on %s for each statement
-            execute function olr_keep.notify_change(%s)', one.part, source);
-        execute format('alter table %s enable always trigger olr_keep_row, enable always trigger olr_keep_statement,
-            enable always trigger olr_keep_truncate', one.part);
+            execute function olr_keep.note_statement(%s)', one.part, source);
+        execute format('alter table %s enable always trigger olr_keep_row, enable always trigger olr_keep_row_note,
+            enable always trigger olr_keep_statement, enable always trigger olr_keep_truncate', one.part);
     end loop;
 end $body$;
 
-create or replace function olr_keep.drop_triggers(streets text) returns void language plpgsql as $$
+create or replace function olr_keep.drop_triggers(streets text) returns void language plpgsql
+set search_path = pg_catalog, pg_temp as $$
 declare
     one record;
 begin
     for one in select tgname, tgrelid::regclass as part from olr_keep.parts(streets) join pg_trigger on tgrelid = part::oid
-        where tgname in ('olr_keep_row', 'olr_keep_statement', 'olr_keep_truncate') and tgparentid = 0
+        where tgname in ('olr_keep_row', 'olr_keep_row_note', 'olr_keep_statement', 'olr_keep_truncate') and tgparentid = 0
     loop
         execute format('drop trigger if exists %I on %s', one.tgname, one.part);
     end loop;
@@ -350,18 +433,47 @@ begin
 end $$;
 revoke execute on function olr_keep.mend_triggers(int) from public;
 
+-- Why an expression that is evaluated under these schemas may call what somebody else has put there, or NULL.
+create or replace function olr_keep.foreign_names(schemas name[]) returns text language sql stable
+set search_path = pg_catalog, pg_temp as $$
+    with place as (
+        select oid, nspname, nspowner, coalesce(nspacl, acldefault('n', nspowner)) as acl from pg_namespace
+        where nspname = any(schemas) and nspname <> 'pg_catalog'
+    ), trusted as (
+        select oid from pg_roles where rolsuper or rolname = current_user union all select nspowner from place
+    ), own as (
+        select pronamespace as place, proname as name, proowner as owner, oid::regprocedure::text as words from pg_proc
+        union all select oprnamespace, oprname, oprowner, 'the operator ' || oid::regoperator from pg_operator
+    )
+    select format('%s, and %s may create functions there: revoke create on schema %s from %2$s', nspname,
+        string_agg(case grantee when 0 then 'public' else grantee::regrole::text end, ', '), quote_ident(nspname))
+    from place cross join aclexplode(acl)
+    where privilege_type = 'CREATE' and grantee not in (select * from trusted) group by nspname
+    union all
+    select format('%s, and %s of %s has a name of PostgreSQL or PostGIS', nspname, words, owner::regrole)
+    from own join place on place.oid = own.place
+    where owner not in (select * from trusted) and name in (select name from own where owner in (select * from trusted))
+    limit 1
+$$;
+
+drop function if exists olr_keep.add_streets(text, text, text, text, text, text, text);
 create or replace function olr_keep.add_streets(
     streets text, id text default 'id', class text default 'class', form text default 'form',
-    direction text default 'direction', geom text default 'geom', prefix text default ''
-) returns text language plpgsql as $$
+    direction text default 'direction', geom text default 'geom', prefix text default '', schemas name[] default current_schemas(true)
+) returns text language plpgsql set search_path = pg_catalog, pg_temp as $$
 declare
-    given regclass := to_regclass(streets);
-    path text := (select string_agg(quote_ident(name), ', ') from unnest(current_schemas(true)) as name
-        where name !~ '^pg_temp');
+    given regclass;
+    foreign_name text := olr_keep.foreign_names(schemas);
+    path text := (select string_agg(quote_ident(name), ', ') from unnest(schemas) as name where name !~ '^pg_temp');
     whole text;
     type text;
     number int;
 begin
+    if foreign_name is not null then
+        raise exception 'expressions are evaluated under the schema %', foreign_name;
+    end if;
+    perform set_config('search_path', path || ', pg_temp', true);
+    given := to_regclass(streets);
     if given is null then
         raise exception 'there is no table %', streets;
     end if;
@@ -372,6 +484,7 @@ begin
     end if;
     execute format('select pg_typeof(%s), (%s)::text, (%s)::text, (%s)::text, ST_SRID(%s)
         from (select 1) as one left join %s on false', id, class, form, direction, geom, whole) into type;
+    perform set_config('search_path', 'pg_catalog, pg_temp', true);
     insert into olr_keep.source as old (streets, id, id_type, class, form, direction, geom, prefix, search_path)
     values (whole, id, type, class, form, direction, geom, prefix, path)
     on conflict on constraint source_streets_key do update
@@ -380,13 +493,14 @@ begin
     returning source into number;
     perform olr_keep.make_triggers(number, whole, id, path);
     insert into olr_keep.note (source, who) values (number, session_user);
-    notify olr_keep_note;
+    perform olr_keep.wake();
     return format('%s is source %s', whole, number);
 end $$;
-comment on function olr_keep.add_streets is
-    'Adds a table of streets, or changes its expressions: direction gives both, along or against; prefix begins the ids.';
+comment on function olr_keep.add_streets is 'Adds a table of streets, or changes its expressions: direction gives both, along or
+against; prefix begins the ids; functions are sought in the schemas, those of the caller''s search_path.';
 
-create or replace function olr_keep.drop_streets(streets text) returns text language plpgsql as $$
+create or replace function olr_keep.drop_streets(streets text) returns text language plpgsql
+set search_path = pg_catalog, pg_temp as $$
 declare
     whole text;
     number int;
@@ -398,9 +512,9 @@ begin
         raise exception '% is not a table of streets of olr_keep', streets;
     end if;
     perform olr_keep.drop_triggers(whole);
-    execute format('drop function if exists olr_keep.note_row_%s()', number);
+    execute format('drop function if exists olr_keep.key_row_%s()', number);
     insert into olr_keep.note (source, who) values (number, session_user);
-    notify olr_keep_note;
+    perform olr_keep.wake();
     return format('%s is no source any more', whole);
 end $$;
 comment on function olr_keep.drop_streets is 'Removes a table of streets; its streets leave the map in the next round.';
@@ -416,7 +530,7 @@ begin
         raise exception 'nothing is held by %', number;
     end if;
     insert into olr_keep.release (hold) values (number) on conflict do nothing;
-    notify olr_keep_note;
+    perform olr_keep.wake();
     return format('hold %s is released: the strings of its %s paths are published in the next round, as they are then',
         number, names);
 end $$;
@@ -441,7 +555,8 @@ begin
 end $$;
 comment on function olr_keep.restore is 'Publishes the strings that paths had after a round, and keeps them so, until thaw.';
 
-create or replace function olr_keep.set_frozen(paths text[], number bigint) returns void language plpgsql as $$
+create or replace function olr_keep.set_frozen(paths text[], number bigint) returns void language plpgsql
+set search_path = pg_catalog, pg_temp as $$
 declare
     missing text := (select string_agg(name, ', ') from unnest(paths) as name
         where not exists (select from olr_keep.string where string.name = name.name));
@@ -452,7 +567,7 @@ begin
     insert into olr_keep.frozen (name, round) select distinct name, number from unnest(paths) as name
     on conflict (name) do update set (round, who, since) = (excluded.round, excluded.who, excluded.since);
     insert into olr_keep.note (source, key, who) select 0, name, session_user from unnest(paths) as name;
-    notify olr_keep_note;
+    perform olr_keep.wake();
 end $$;
 
 create or replace function olr_keep.thaw(path text) returns text language plpgsql security definer
@@ -463,30 +578,64 @@ begin
         raise exception '% is not frozen', path;
     end if;
     insert into olr_keep.note (source, key, who) values (0, path, session_user);
-    notify olr_keep_note;
+    perform olr_keep.wake();
     return format('the string of %s is published as it is in the next round', path);
 end $$;
 comment on function olr_keep.thaw is 'Ends freeze and restore.';
 
+-- Gives those of these paths the streets and the courses where they are that are found elsewhere, or of which this is a problem,
+-- and returns their names. What is accepted is what the tables show now, whatever a round finds later.
+create or replace function olr_keep.accept_shown(names text[]) returns text[] language sql set search_path = pg_catalog, pg_temp as $$
+    with accepted as (
+        update olr_keep.path set streets = case when path.streets is null then null else string.streets end,
+            course = case when path.course is null then null else string.geom end
+        from olr_keep.string where string.name = path.name and path.name = any(names) and not lost and (found_elsewhere
+            or exists (select from olr_keep.problem where problem.path = string.name and kind in ('two roads', 'farther on', 'not on its street')))
+        returning path.name, path.streets, path.course
+    ), fixed as (
+        update olr_keep.string set found_elsewhere = false, last_map = null, given_streets = string.streets, off_m = 0,
+            at_junctions = array[start_cut = 0, end_cut = 0],
+            given = case when not exists (select from olr_keep.problem where path = string.name and kind = 'farther on') then geom end,
+            definition = md5(concat(streets_given::text, '|', course_given::text))
+        from accepted as it(name, streets_given, course_given) where string.name = it.name
+    )
+    select coalesce(array_agg(name), '{}') from accepted
+$$;
+
 create or replace function olr_keep.accept(path text) returns text language plpgsql security definer
 set search_path = pg_catalog, pg_temp as $$
 begin
-    update olr_keep.path set streets = case when path.streets is null then null else string.streets end,
-        course = case when path.course is null then null else string.geom end
-    from olr_keep.string where string.name = path.name and path.name = accept.path and found_elsewhere and not lost;
-    if not found then
+    if cardinality(olr_keep.accept_shown(array[path])) = 0 then
         raise exception '% is not found elsewhere', path;
     end if;
     return format('%s is where it was found', path);
 end $$;
-comment on function olr_keep.accept is 'Gives a path that is found elsewhere the streets and the course where it was found.';
+comment on function olr_keep.accept(text) is 'Gives a path that is found elsewhere the streets and the course where it was found.';
+
+create or replace function olr_keep.accept(names text[]) returns text language plpgsql security definer
+set search_path = pg_catalog, pg_temp as $$
+declare
+    accepted text[] := olr_keep.accept_shown(names);
+    others text := (select string_agg(name, ', ') from unnest(names) as name where name <> all(accepted));
+begin
+    return format('%s paths are where they were found', cardinality(accepted)) || coalesce('; not found elsewhere: ' || others, '');
+end $$;
+comment on function olr_keep.accept(text[]) is 'Gives several paths that are found elsewhere the streets and the courses where they were found.';
+
+create or replace function olr_keep.accept_all(metres float8) returns text language plpgsql security definer
+set search_path = pg_catalog, pg_temp as $$
+begin
+    return olr_keep.accept(array(select name from olr_keep.string where found_elsewhere and not lost and off_m <= metres order by name));
+end $$;
+comment on function olr_keep.accept_all is 'Accepts all paths that are found elsewhere, but no farther than so many metres from where they were given.';
 revoke execute on function olr_keep.release(bigint), olr_keep.freeze(text), olr_keep.restore(bigint, text[]),
-    olr_keep.set_frozen(text[], bigint), olr_keep.thaw(text), olr_keep.accept(text) from public;
+    olr_keep.set_frozen(text[], bigint), olr_keep.thaw(text), olr_keep.accept(text), olr_keep.accept(text[]),
+    olr_keep.accept_all(float8), olr_keep.accept_shown(text[]) from public;
 
 -- ---- what consumers, operators and other tools read
 
 create or replace function olr_keep.texts_at(number bigint) returns table (name text, round bigint, text text, reason text)
-language sql stable as $$
+language sql stable set search_path = pg_catalog, pg_temp as $$
     select * from (
         select distinct on (name) name, round, text, reason from olr_keep.history
         where round <= number order by name, round desc
@@ -497,24 +646,23 @@ comment on function olr_keep.texts_at is 'The strings that were published after 
 create or replace view olr_keep.held as
 select hold.hold, hold.since, users, count(*) as paths, count(*) filter (where effect = 'changed') as changed,
     count(*) filter (where effect = 'refused') as refused, count(*) filter (where effect = 'dropped') as dropped,
-    count(*) filter (where effect = 'elsewhere') as elsewhere, streets, array_agg(name order by name) as names
-from olr_keep.hold join olr_keep.waiting using (hold)
+    count(*) filter (where effect = 'elsewhere') as elsewhere, hold.streets, array_agg(name order by name) as names,
+    ST_Multi(ST_Collect(coalesce(given, geom)))::geometry(MultiLineString, 4326) as geom
+from olr_keep.hold join olr_keep.waiting using (hold) left join olr_keep.string using (name)
 where not exists (select from olr_keep.release where release.hold = hold.hold)
 group by hold.hold;
-comment on view olr_keep.held is 'The holds that are open, and the paths whose strings wait in them.';
+comment on view olr_keep.held is 'The holds that are open, and the paths whose strings wait in them, with where these were.';
 
 create or replace view olr_keep.path_state as
-select name as path, case when waiting.name is not null and hold is not null then 'held' when frozen.name is not null then 'frozen'
-        when lost then 'lost' when string.text is null then 'refused' when found_elsewhere then 'found elsewhere'
-        else 'published' end as state,
+select name as path, case when waiting.kind = 'delayed' then 'delayed' else string.state end as state,
     string.text as string, last_text as last_string, string.reason, string.round, round.at, now() - round.at as age,
     (select string_agg(words, '; ' order by problem) from olr_keep.problem where problem.path = name) as problems, geom,
-    exists (select from olr_keep.ambiguity where ambiguity.name = string.name) as ambiguous, string.margin
-from olr_keep.string left join olr_keep.round using (round) left join olr_keep.waiting using (name)
-    left join olr_keep.frozen using (name);
+    exists (select from olr_keep.ambiguity where ambiguity.name = string.name) as ambiguous, string.margin, off_m, due
+from olr_keep.string left join olr_keep.round using (round) left join olr_keep.waiting using (name);
 comment on view olr_keep.path_state is 'Each path with its state, the age of its string, its problems in words, and its course.';
 
-create or replace function olr_keep.records() returns setof text language sql stable as $$
+create or replace function olr_keep.records() returns setof text language sql stable
+set search_path = pg_catalog, pg_temp as $$
     select format('margin,%s,%s', routes, classes) from olr_keep.margin where routes + classes > 0
     union all
     select format('node,%s,%s,%s', node, trim_scale(round(((place >> 31) - 1800000000) / 1e7, 7)),
@@ -534,10 +682,28 @@ begin
 exception when others then
     return null;
 end $$;
-create or replace function olr_keep.degrees(geom geometry) returns geometry language sql immutable as $$
-    select case when ST_SRID(geom) = 4326 then ST_Force2D(geom) else olr_keep.transformed(geom) end
-$$;
+create or replace function olr_keep.degrees(geom geometry) returns geometry language sql immutable
+    return case when ST_SRID(geom) = 4326 then ST_Force2D(geom) else olr_keep.transformed(geom) end;
 
 \o /dev/null
 select olr_keep.make_triggers(0, 'olr_keep.path', 'name');
 select olr_keep.make_triggers(source, streets, id, source.search_path) from olr_keep.source where to_regclass(streets) is not null;
+
+-- Of a version before: functions that PUBLIC may execute, with all triggers that call them, whoever made them.
+do $$
+declare
+    one record;
+begin
+    for one in select oid::regprocedure as name from pg_proc
+        where pronamespace = 'olr_keep'::regnamespace and proname ~ '^(note_row_[0-9]+|notify_change)$'
+    loop
+        execute format('drop function %s cascade', one.name);
+    end loop;
+    for one in select streets, olr_keep.foreign_names(string_to_array(replace(search_path, '"', ''), ', ')::name[]) as words
+        from olr_keep.source
+    loop
+        if one.words is not null then
+            raise warning '%: expressions are evaluated under the schema %', one.streets, one.words;
+        end if;
+    end loop;
+end $$;

@@ -3,6 +3,7 @@ from typing import Mapping
 from xml.sax.saxutils import quoteattr
 
 BLUE, AMBER, RED = "0,103,177,255", "138,97,0,255", "190,30,45,255"
+SKY, VIOLET = "86,180,233,255", "117,76,161,255"
 GREY, INK, WHITE = "120,130,142,255", "23,32,43,255", "255,255,255,255"
 WIDTHS = (1.0, 0.9, 0.8, 0.6, 0.5, 0.4, 0.3, 0.2)  # millimetres, of the lines of each class
 HEAD = """<!DOCTYPE qgis PUBLIC 'http://mrcc.com/qgis.dtd' 'SYSTEM'>
@@ -48,12 +49,19 @@ def by_class() -> str:
             f"<symbols>{symbols}</symbols></renderer-v2>")
 
 
-def by_answer() -> str:
-    """A renderer of paths: those that are not encodable are red."""
-    rules = (("&quot;string&quot; is not null", 0, "with a string"), ("ELSE", 1, "not encodable"))
-    row = '<rule filter="{}" symbol="{}" label="{}"/>'
-    text, symbols = "".join(row.format(*it) for it in rules), line(0, BLUE, 1.2) + line(1, RED, 1.2)
-    return f'<renderer-v2 type="RuleRenderer" symbollevels="0"><rules>{text}</rules><symbols>{symbols}</symbols></renderer-v2>'
+STATES = (("as given", BLUE), ("moved", SKY), ("elsewhere", AMBER), ("held", VIOLET), ("delayed", VIOLET), ("frozen", INK), ("refused", RED),
+          ("lost", RED))
+
+
+def by_state() -> str:
+    """A renderer of paths: by their state if they have one, as in the table of tools/live, and else those that are not encodable
+    are red."""
+    state = "attribute($currentfeature, 'state')"
+    rules = [(f"{state} = '{it}'", it, colour) for it, colour in STATES]
+    rules += [(f"{state} is null and \"string\" is not null", "with a string", BLUE), ("ELSE", "not encodable", RED)]
+    rows = "".join(f'<rule filter={quoteattr(rule)} symbol="{k}" label="{label}"/>' for k, (rule, label, _) in enumerate(rules))
+    symbols = "".join(line(k, colour, 1.2) for k, (_, _, colour) in enumerate(rules))
+    return f'<renderer-v2 type="RuleRenderer" symbollevels="0"><rules>{rows}</rules><symbols>{symbols}</symbols></renderer-v2>'
 
 
 def by_verdict() -> str:
@@ -68,20 +76,21 @@ def by_verdict() -> str:
 RENDERERS = {
     "node": single(marker(0, GREY, 1.4)),
     "line": by_class(),
-    "path": by_answer(),
+    "path": by_state(),
     "offset": single(line(0, AMBER, 1.6, customdash="2;1.5", use_custom_dash=1)),
     "bearing": single(line(0, INK, 0.6)),
     "point": single(marker(0, INK, 4)),
     "swap": by_verdict(),
     "refusal": single(marker(0, RED, 4, "cross_fill")),
 }
-LABELS = {"point": "number", "path": "path", "swap": "path"}
+# What labels show, as expressions: of a path its name, and its streets, if they are known.
+LABELS = {"point": '"number"', "path": "\"path\" || coalesce(': ' || attribute($currentfeature, 'about'), '')", "swap": '"path"'}
 
 
 def labels(field: str, colour: str) -> str:
-    """Labels with a field of the features."""
+    """Labels with an expression over the features."""
     buffer = f'<text-buffer bufferDraw="1" bufferSize="0.8" bufferColor="{WHITE}"/>'
-    text = f'<text-style fieldName="{field}" isExpression="0" fontSize="8" textColor="{colour}">{buffer}</text-style>'
+    text = f'<text-style fieldName={quoteattr(field)} isExpression="1" fontSize="8" textColor="{colour}">{buffer}</text-style>'
     return f'<labeling type="simple"><settings calloutType="simple">{text}<placement placement="1"/></settings></labeling>\n'
 
 

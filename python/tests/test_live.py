@@ -11,22 +11,25 @@ import unittest.mock
 from collections import Counter
 from typing import Any, Dict, Iterator, List, Mapping, Optional, Sequence, Set, Tuple
 
-from olr_keep_tools.courses import CELL, DRAWN, Ends, Found, Ground, Lost, Network, Strip, Wish, cells_along, follow
+from olr_keep_tools.courses import CELL, DRAWN, Ends, Found, Ground, Lost, Network, Strip, Wish, cells_along, cells_near, follow
 from olr_keep_tools.forked import Forked, in_order
-from olr_keep_tools.liveambiguous import Obstacle, named_places, obstacles, write_ambiguities
-from olr_keep_tools.livedraft import Was, verdict
-from olr_keep_tools.livefirst import FirstLoad, line_rows, node_rows
-from olr_keep_tools.liveprogram import LiveProgram, Sent
-from olr_keep_tools.livemap import LAST, Affected, Numbers, cell_of, copy_line
-from olr_keep_tools.livepaths import PathsUpdate, Search, is_there, parts_of, places_hex
-from olr_keep_tools.liveread import Block, Change, Fate, Known, Reader, StreetRow, changed, fate_of, is_nameless, is_plain
-from olr_keep_tools.liverounds import DROPPED, Answer, Clusters, Counts, Effect, Limits, Round, Waiting
-from olr_keep_tools.liveservice import Attempt, Live, Night, words_of
-from olr_keep_tools.livesession import Readable, Source, Table, psycopg2, row_query
-from olr_keep_tools.pathlines import Known as KnownPath
-from olr_keep_tools.pathlines import (Edited, Finder, PathSearch, Road, Row, State, Wanted, WhereItWas, Ways, boxes_of, cells_near,
-                                      consecutive, marked_street, text_array)
+from olr_keep_tools.live.ambiguous import Obstacle, named_places, obstacles, write_ambiguities
+from olr_keep_tools.live.draft import Was, verdict
+from olr_keep_tools.live.first import FirstLoad, line_rows, node_rows
+from olr_keep_tools.live.cells import cell_of, merged
+from olr_keep_tools.live.map import LAST, Affected, Numbers
+from olr_keep_tools.live.paths import PartSearch, Paths, PathsUpdate, parts_of
+from olr_keep_tools.live.program import LiveProgram, Sent
+from olr_keep_tools.live.read import Block, Change, Fate, LastRead, Reader, StreetRow, changed, fate_of, is_nameless, is_plain
+from olr_keep_tools.live.returned import returned
+from olr_keep_tools.live.rounds import DROPPED, Answer, Clusters, Counts, Effect, Kind, Limits, Round, Waiting
+from olr_keep_tools.live.service import Attempt, Live, Night, words_of
+from olr_keep_tools.live.session import Readable, Source, SourceTable, row_query
+from olr_keep_tools.pathlines import (Finder, Known, PathSearch, Row, State, Wanted, Ways, boxes_of,
+                                      consecutive, marked_street)
 from olr_keep_tools.program import ProgramFailed
+from olr_keep_tools.roads import LastMap
+from olr_keep_tools.sql import copy_line, places_hex, psycopg2, text_array
 from olr_keep_tools.streets import (LONGEST, SHORT, Old, Recut, Street, Unfit, are_between, distances, first_place, is_short,
                                     place_of, street_of, stretches_of, subdivided, wkb_hex)
 from olr_keep_tools.streets import lines_of as made_lines
@@ -211,7 +214,7 @@ class Reading(unittest.TestCase):
         return StreetRow(1, digest, shape, Street(3, 3, "both", ((place(0), place(1)),)))
 
     def test_fates(self) -> None:
-        mine, theirs = Known(1, 5, 6, True), Known(2, 5, 6, True)
+        mine, theirs = LastRead(1, 5, 6, True), LastRead(2, 5, 6, True)
         self.assertIs(fate_of(1, mine, [self.row()]), Fate.SAME)
         self.assertIs(fate_of(1, mine, [self.row(7)]), Fate.CHANGED)
         self.assertIs(fate_of(1, mine, []), Fate.GONE)
@@ -220,13 +223,31 @@ class Reading(unittest.TestCase):
         self.assertIs(fate_of(1, None, [self.row()]), Fate.CHANGED)
         self.assertIs(fate_of(1, mine, [self.row(), self.row()]), Fate.CHANGED)
 
+    def test_small_ones_go_first(self) -> None:
+        """Of transactions with few streets those that are nowhere near one with very many."""
+        notes = [("great", 5000, False), ("far", 3, False), ("near", 3, False), ("medium", 500, False)]
+        places = [("great", 5, 5), ("far", 7, 5), ("near", 6, 6), ("near", 9, 9)]
+        rows: Dict[str, Sequence[Any]] = {"group by tx": notes, "with noted": places}
+        reader = Reader(FakeCursor(rows), [SourceTable(SOURCE, Readable.READY)], set())
+        self.assertEqual(reader.small_ones(), {"far"})
+        reader.is_last_split = True
+        self.assertEqual(reader.small_ones(), set())
+        for other in ([("great", 5000, True), *notes[1:]], notes[:1], notes[1:]):
+            reader = Reader(FakeCursor({**rows, "group by tx": other}), [SourceTable(SOURCE, Readable.READY)], set())
+            self.assertEqual(reader.small_ones(), set())
+
+    def test_merged(self) -> None:
+        boxes = merged([(6.1001, 49.6001, 6.1002, 49.6002), (6.1, 49.6, 6.1049, 49.6001), (6.1049, 49.6, 6.1051, 49.6001)])
+        self.assertEqual([tuple(round(side, 4) for side in it) for it in boxes],
+                         [(6.1, 49.6, 6.105, 49.605), (6.105, 49.6, 6.11, 49.605)])
+
     def test_two_rows_are_unfit(self) -> None:
         self.assertEqual(changed(1, [self.row(), self.row()]).street, Unfit("another street has the same id", degrees(0)))
 
     def test_plain(self) -> None:
-        self.assertTrue(is_plain(Known(1, 4, 6, True), self.row()))
-        self.assertFalse(is_plain(Known(1, 4, 7, True), self.row()))
-        self.assertFalse(is_plain(Known(1, 4, 6, False), self.row()))
+        self.assertTrue(is_plain(LastRead(1, 4, 6, True), self.row()))
+        self.assertFalse(is_plain(LastRead(1, 4, 7, True), self.row()))
+        self.assertFalse(is_plain(LastRead(1, 4, 6, False), self.row()))
         self.assertFalse(is_plain(None, self.row()))
 
     def test_percent_signs_are_doubled(self) -> None:
@@ -257,13 +278,13 @@ class ReadingRows(unittest.TestCase):
     """The steps of reading: notes, and rows of which one can't be read."""
 
     def test_notes(self) -> None:
-        cursor = Failing({"source <= 0": [(0, "me", "9", ["p"]), (0, "you", "8", [None])], "olr_keep.margin": [("0,0", "0,0")]})
+        cursor = Failing({"source in (0, -1)": [(0, "me", "9", ["p"]), (0, "you", "8", [None])], "olr_keep.margin": [("0,0", "0,0")]})
         change = Reader(cursor, [], set()).read()
         self.assertEqual((change.paths, change.users, change.every_path, change.path_group), ({"p"}, {"me", "you"}, True, {"p": "9"}))
 
     def test_ids_that_no_index_takes_are_none(self) -> None:
         cursor = Failing({"source = %s": [(1, "me", "9", ["a", "", "b" * 1001, "é" * 501])], "count(*)": [(3,)]})
-        reader = Reader(cursor, [Table(SOURCE, Readable.READY)], set())
+        reader = Reader(cursor, [SourceTable(SOURCE, Readable.READY)], set())
         reader.read_source(SOURCE)
         self.assertEqual(reader.change.keys, {1: {"a"}})
         self.assertEqual(sum("'no id'" in it for it in cursor.queries), 2)
@@ -283,7 +304,7 @@ class ReadingRows(unittest.TestCase):
 
     def test_streets_near_each_other_are_together(self) -> None:
         cursor = Failing({"order by olr_keep.degrees": [("b",), ("a",), ("b",)], "olr_keep.vertex": [("c",)]})
-        reader = Reader(cursor, [Table(SOURCE, Readable.READY)], set())
+        reader = Reader(cursor, [SourceTable(SOURCE, Readable.READY)], set())
         self.assertEqual(reader.near_each_other(1, {"a", "b", "c", "d"}), ["b", "a", "c", "d"])
         self.assertEqual(reader.near_each_other(-1, {"c", "d"}), ["c", "d"])
         self.assertEqual(reader.near_each_other(1, {"3", "2", "c"}), ["c", "2", "3"])
@@ -306,14 +327,14 @@ class Attempts(unittest.TestCase):
     def attempt(self, program: Any) -> Attempt:
         """An attempt without a database."""
         live: Any = argparse.Namespace(cursor=FakeCursor(), settings=argparse.Namespace(is_preview=False, tolerance=20.0), stale=set(),
-                                       program=program, loaded=lambda: {"a": "loaded"})
+                                       program=program, loaded=lambda: {"a": "loaded"}, is_split=False)
         work: Any = argparse.Namespace(tables=[])
         return Attempt(live, work, False)
 
     def test_answers(self) -> None:
         program: Any = argparse.Namespace(answers=lambda records: {it: "new" for it in records})
         attempt = self.attempt(program)
-        attempt.paths = PathsUpdate(FakeCursor(), Affected(), 20.0)
+        attempt.paths = PathsUpdate(FakeCursor(), Affected(), 20.0, FakeCursor)
         attempt.records, attempt.paths.records, attempt.fresh = ["map"], ["path"], {"map": "old", "other": "old"}
         self.assertEqual(attempt.answers(), {"map": "new", "path": "new", "other": "old"})
         self.assertEqual(self.attempt(None).answers(), {"a": "loaded"})
@@ -326,8 +347,8 @@ class Attempts(unittest.TestCase):
             attempt.numbers, change = Numbers(FakeCursor({"select kind, last": [("node", 0), ("line", 0)]})), Change()
             attempt.reader = argparse.Namespace(blocks=functools.partial(iter, [Block(rows, set(), plain)]))
             change.keys = {1: {str(k) for k in range(5000)}}
-            with unittest.mock.patch("olr_keep_tools.liveservice.write_all_open_ends") as ends, \
-                    unittest.mock.patch("olr_keep_tools.liveservice.MapUpdate.run", lambda _: []):
+            with unittest.mock.patch("olr_keep_tools.live.service.write_all_open_ends") as ends, \
+                    unittest.mock.patch("olr_keep_tools.live.service.MapUpdate.run", lambda _: []):
                 attempt.apply_map(change)
             self.assertEqual(ends.call_count, wanted)
 
@@ -337,7 +358,7 @@ class Attempts(unittest.TestCase):
         said: List[str] = []
         attempt.live.write_metrics = written.append
         attempt.said = time.monotonic() - 11
-        with unittest.mock.patch("olr_keep_tools.liveservice.say", said.append):
+        with unittest.mock.patch("olr_keep_tools.live.service.say", said.append):
             attempt.tell(5, 10)
             attempt.tell(6, 10)
             attempt.said -= 11
@@ -359,7 +380,7 @@ class Attempts(unittest.TestCase):
         live: Any = Live(settings, [])
         said: List[str] = []
         live.wait = lambda _: False
-        with unittest.mock.patch("olr_keep_tools.liveservice.say", said.append):
+        with unittest.mock.patch("olr_keep_tools.live.service.say", said.append):
             live.wait_unlocked("locked")
             self.assertEqual(said, [])
             live.locked_since[0] -= 60
@@ -383,7 +404,7 @@ class Attempts(unittest.TestCase):
         settings: Any = argparse.Namespace(metrics="/nowhere/live.prom")
         live = Live(settings, [])
         said: List[str] = []
-        with unittest.mock.patch("olr_keep_tools.liveservice.say", said.append):
+        with unittest.mock.patch("olr_keep_tools.live.service.say", said.append):
             live.write_metrics()
             live.write_metrics()
         self.assertEqual(said, ["/nowhere/live.prom: No such file or directory"])
@@ -441,8 +462,8 @@ class Courses(unittest.TestCase):
         self.assertEqual((found.lines, found.rival.taken, found.rival.other), ([1], "street a", "street b"))
         self.assertIsNone(lines_of([degrees(0), degrees(100)], {1: self.ROADS[1]}, Wish(has_rivals=True)).rival)
 
-    def test_unlike_decides(self) -> None:
-        found = lines_of([degrees(0), degrees(100)], self.ROADS, Wish(unlike=lambda number, *_: float(number == 1)))
+    def test_price_decides(self) -> None:
+        found = lines_of([degrees(0), degrees(100)], self.ROADS, Wish(price=lambda number, *_: 5.0 * (number == 1)))
         self.assertEqual(found.lines, [2])
 
     def test_ends_at_junctions(self) -> None:
@@ -514,10 +535,10 @@ class Grids(unittest.TestCase):
         self.assertEqual(list(consecutive([1, 2, 3, 5, 7, 8])), [(1, 3), (5, 5), (7, 8)])
 
 
-def known(**changes: Any) -> KnownPath:
+def known(**changes: Any) -> Known:
     """A path that was found on line 1 of street a."""
-    whole = KnownPath([1], [">a"], 0, 0, (1, 2), (degrees(0), degrees(100)), "d", State.SAID, (degrees(0), degrees(100)),
-                      [Road(1000, "a", (3, 3, True))], Ends(True, True))
+    whole = Known([1], [">a"], 0, 0, (1, 2), (degrees(0), degrees(100)), "d", State.SAID, (degrees(0), degrees(100)),
+                  Ends(True, True), [">a"], LastMap({9: ground(1, 2, "a", degrees(0), degrees(100))}, [9]), 0.0)
     return whole._replace(**changes)
 
 
@@ -527,10 +548,19 @@ class FakeFinder(Finder):
     def __init__(self, *rows: Row):
         super().__init__(None, 20.0)
         self.rows = {it.number: it for it in rows}
+        self.streets = {it.street: [other.number for other in rows if other.street == it.street] for it in rows}
+
+    def read_streets(self, streets: Set[str]) -> None:
+        """A street that isn't there has no lines."""
+        self.streets.update((it, []) for it in streets if it not in self.streets)
 
     def near(self, _: Any) -> Network:
         """All lines."""
         return Network(self.rows)
+
+    def around(self, _: Any) -> Dict[int, Row]:
+        """All lines."""
+        return dict(self.rows)
 
     def by_streets(self, streets: Sequence[str], *_: Any) -> Any:
         """The lines of streets."""
@@ -552,43 +582,40 @@ class Searches(unittest.TestCase):
 
     COURSE = Wanted("p", None, (degrees(0), degrees(100)), 0, 0, "d")
     STREETS = Wanted("p", ["a"], None, 0, 0, "d")
-    NOTHING = Edited(set(), set())
 
-    def search(self, wanted: Wanted, was: Optional[KnownPath], edited: Edited, *rows: Row) -> Any:
-        """Where a path is."""
-        return PathSearch(FakeFinder(*rows), wanted, was, edited).run()
+    def search(self, wanted: Wanted, was: Optional[Known], *rows: Row, before: Sequence[Row] = ()) -> Any:
+        """Where a path is; without a map before the round it was on street a."""
+        return PathSearch(FakeFinder(*rows), wanted, was, FakeFinder(*(before or [row(1, "a")]))).run()
 
-    def test_kept(self) -> None:
-        self.assertIs(self.search(self.COURSE, known(), self.NOTHING, row(1, "a")).state, State.SAID)
+    def test_untouched(self) -> None:
+        finder = FakeFinder(row(1, "a", 12))
+        self.assertIs(PathSearch(finder, self.COURSE, known(), None, True).run().state, State.SAID)
 
     def test_other_road_is_elsewhere(self) -> None:
         for wanted in (self.COURSE, self.STREETS):
             for frc in "36":
-                found = self.search(wanted, known(), self.NOTHING, row(2, "b", 12, frc))
-                self.assertEqual((found.state, found.found.lines), (State.ELSEWHERE, [2]))
+                there = row(2, "b", 12, frc)
+                found = self.search(wanted, known(), there, before=(row(1, "a"), there))
+                self.assertEqual((found.state, found.found.lines, found.last.own), (State.ELSEWHERE, [2], [1]))
 
     def test_back(self) -> None:
         was = known(lines=[2], streets=[">b"], state=State.ELSEWHERE, course=(degrees(0, 12), degrees(100, 12)))
         for wanted in (self.COURSE, self.STREETS):
-            found = self.search(wanted, was, self.NOTHING, row(2, "b", 12), row(3, "a"))
+            found = self.search(wanted, was, row(2, "b", 12), row(3, "a"))
             self.assertEqual((found.state, found.found.lines), (State.SAID, [3]))
 
     def test_new_street_is_the_same_road(self) -> None:
-        found = self.search(self.COURSE, known(), Edited(set(), {"n"}), row(2, "n", 8), row(3, "b", 6, "6"))
+        there = row(3, "b", 12, "6")
+        found = self.search(self.COURSE, known(), row(2, "n", 4), there, before=(row(1, "a"), there))
         self.assertEqual((found.state, found.found.lines), (State.SAID, [2]))
 
     def test_drift(self) -> None:
-        moved = Edited({1}, set())
-        self.assertIs(self.search(self.COURSE, known(), moved, row(1, "a", 15)).state, State.SAID)
-        self.assertIs(self.search(self.COURSE, known(), moved, row(1, "a", 25)).state, State.ELSEWHERE)
-
-    def test_shorter_is_not_kept(self) -> None:
-        half = row(1, "a")._replace(points=(degrees(0), degrees(50)))
-        search = PathSearch(FakeFinder(half), self.COURSE, known(), Edited({1}, set()))
-        self.assertIsNone(search.within((degrees(0), degrees(100))))
+        found = self.search(self.COURSE, known(), row(1, "a", 15))
+        self.assertEqual((found.state, round(found.off)), (State.SAID, 15))
+        self.assertIs(self.search(self.COURSE, known(), row(1, "a", 25)).state, State.ELSEWHERE)
 
     def test_lost_places(self) -> None:
-        found = self.search(self.COURSE, None, self.NOTHING)
+        found = self.search(self.COURSE, None)
         self.assertEqual((found.state, found.lost_at), (State.LOST, (degrees(0),)))
         self.assertEqual(len(places_hex(found.lost_at) or ""), 2 * (13 + 21))
 
@@ -596,27 +623,46 @@ class Searches(unittest.TestCase):
         for wanted in (self.STREETS._replace(streets=NULL_STREET), self.STREETS._replace(streets=[""]),
                        self.COURSE._replace(course=((6.1, 49.6), (float("nan"), 1.0))),
                        self.COURSE._replace(course=((6.1, 49.6), (100.0, 60.0)))):
-            self.assertIs(self.search(wanted, None, self.NOTHING).state, State.LOST)
+            self.assertIs(self.search(wanted, None).state, State.LOST)
             self.assertIsNotNone(wanted.fault())
         self.assertIsNone(self.COURSE.fault())
 
-    def test_unlike(self) -> None:
-        where = WhereItWas(known(), (degrees(0), degrees(100)), Edited(set(), {"n"}))
-        points = degrees(0, 12), degrees(100, 12)
-        grade = {key: where.unlike(*key[:1], ground(1, 2, key[1], *points, kind=key[2]), 0, 100, 100)
-                 for key in ((1, "b", (6, 3, True)), (2, "a", (6, 3, True)), (2, "n", (3, 3, True)), (2, "b", (3, 3, True)))}
-        self.assertEqual(list(grade.values()), [0.0, 0.5, 0.5, 1.0])
-        self.assertEqual(where.unlike(2, ground(1, 2, "b", degrees(0, 3), degrees(100, 3)), 0, 100, 100), 0.0)
+    def returned(self, *rows: Row, state: State = State.LOST, start: int = 0, end: int = 0) -> Optional[Found]:
+        """The lines of a path of three that was on streets a and b, with lines of 100 m, and is found again on these lines."""
+        finder = FakeFinder(*rows)
+        was = {k: ground(k, k + 1, it, degrees(100 * k), degrees(100 * k + 100)) for k, it in enumerate("aba")}
+        course = degrees(start / 10), degrees(100), degrees(200), degrees(300 - end / 10)
+        found = returned(finder, known(state=state, lines=[], given=course, last=LastMap(was, [0, 1, 2], (start, end))))
+        self.assertLess(found.off or 0.0 if found else 0.0, 0.1)
+        return found and found.found
+
+    def test_returned(self) -> None:
+        """An undo needs no search: the same streets with the same coordinates are there again."""
+        a, b, c = (row(7 + k, street)._replace(start=k, end=k + 1, points=(degrees(100 * k), degrees(100 * k + 100)))
+                   for k, street in enumerate("aba"))
+        self.assertEqual(self.returned(a, b, c), Found([7, 8, 9], 0, 0))
+        self.assertEqual(self.returned(c, a, b, state=State.ELSEWHERE, start=300, end=250), Found([7, 8, 9], 300, 250))
+        self.assertIsNone(self.returned(a, b, c, state=State.SAID))
+        self.assertIsNone(self.returned(a, b))
+        self.assertIsNone(self.returned(a, b._replace(street="d"), c))
+        self.assertIsNone(self.returned(a, b, c._replace(start=5)))
+        self.assertIsNone(self.returned(a, b, c._replace(points=(degrees(200, 1), degrees(300, 1)))))
+        back = c._replace(number=10, end=2, length=1500, points=(degrees(200), degrees(50)))
+        self.assertEqual(self.returned(a, b, back, c, end=250), Found([7, 8, 9], 0, 250))
+
+    def part(self, names: Sequence[str], finder: Any, wanted: Dict[str, Wanted]) -> PartSearch:
+        """The search for paths that are new."""
+        return PartSearch(PathsUpdate(FakeCursor(), Affected(), 20.0, FakeCursor), (finder, None), Paths(names, wanted, {}, {}))
 
     def test_failure_is_of_one_path(self) -> None:
-        update = PathsUpdate(FakeCursor(), Affected(), 20.0)
-        placed = update.place(NO_FINDER, self.COURSE, None, self.NOTHING)
+        update = PathsUpdate(FakeCursor(), Affected(), 20.0, FakeCursor)
+        placed = update.place((NO_FINDER, None), self.COURSE, None)
         self.assertIs(placed.state, State.LOST)
         self.assertIn("can't be sought", placed.why.words if placed.why else "")
 
     def test_search_in_another_process(self) -> None:
         finder, wanted = FakeFinder(row(1, "a")), {"p": self.COURSE, "q": self.STREETS}
-        search = Search(PathsUpdate(FakeCursor(), Affected(), 20.0), ["p", "q", "gone"], finder, self.NOTHING, wanted, {})
+        search = self.part(["p", "q", "gone"], finder, wanted)
         search.fork()
         found = search.result()
         lines = [(name, it and it.placed.lines) for name, it in found.items()]
@@ -625,16 +671,15 @@ class Searches(unittest.TestCase):
     def test_long_courses_are_sought_beside_the_session(self) -> None:
         wanted = self.COURSE._replace(course=tuple((6.1, 49.6 + 1e-7 * k) for k in range(50_001)))
         for course, is_long in ((self.COURSE, False), (wanted, True)):
-            update = PathsUpdate(FakeCursor(), Affected(), 20.0)
-            self.assertEqual(Search(update, ["p"], FakeFinder(), self.NOTHING, {"p": course}, {}).is_long(), is_long)
+            self.assertEqual(self.part(["p"], FakeFinder(), {"p": course}).is_long(), is_long)
 
     def test_parts(self) -> None:
-        sizes = {count: [len(it) for it in parts_of([str(k) for k in range(count)])] for count in (0, 50, 51, 300, 2100)}
+        sizes = {count: [len(it) for it in parts_of([str(k) for k in range(count)], 1000)] for count in (0, 50, 51, 300, 2100)}
         self.assertEqual(sizes, {0: [], 50: [50], 51: [50, 1], 300: [150, 150], 2100: [1000, 1000, 100]})
 
     def test_records(self) -> None:
         wanted, was = {"p": self.COURSE}, (known(), 0, 0)
-        search = Search(PathsUpdate(FakeCursor(), Affected(), 20.0), ["p"], FakeFinder(row(1, "a")), self.NOTHING, wanted, {})
+        search = self.part(["p"], FakeFinder(row(1, "a")), wanted)
         given: List[Any] = [None, was, (known(lines=[]), 0, 0), (known(lines=[2]), 0, 0), (known(), 1, 0)]
         records = []
         for it in given:
@@ -648,8 +693,7 @@ class Searches(unittest.TestCase):
         self.assertEqual((sought and sought.record, sought and sought.row[1:3]), ("drop-path,p", ("{}", "{}")))
 
     def test_a_killed_search_is_made_again(self) -> None:
-        search = Search(PathsUpdate(FakeCursor(), Affected(), 20.0), ["p"], FakeFinder(row(1, "a")), self.NOTHING,
-                        {"p": self.COURSE}, {})
+        search = self.part(["p"], FakeFinder(row(1, "a")), {"p": self.COURSE})
         search.fork()
         if search.forked:
             os.kill(search.forked.process, signal.SIGKILL)
@@ -657,8 +701,7 @@ class Searches(unittest.TestCase):
         self.assertEqual(found and found.placed.lines, [1])
 
     def test_what_is_not_read_is_left(self) -> None:
-        search = Search(PathsUpdate(FakeCursor(), Affected(), 20.0), ["p"], Finder(FakeCursor(), 20.0), self.NOTHING,
-                        {"p": self.COURSE}, {})
+        search = self.part(["p"], Finder(FakeCursor(), 20.0), {"p": self.COURSE})
         search.fork()
         self.assertEqual(search.forked and search.forked.result(search.update.tick), {})
 
@@ -676,12 +719,6 @@ class Searches(unittest.TestCase):
         finder.read_near([(degrees(0), degrees(100))])
         self.assertEqual(finder.network.beside, {degrees(0): [1], degrees(100): []})
         self.assertEqual(finder.network.near(degrees(0), 0.0, 0.0), [])
-
-    def test_is_there(self) -> None:
-        finder = FakeFinder(row(1, "a"))
-        self.assertTrue(is_there((known(), 0, 0), finder))
-        self.assertFalse(is_there((known(lines=[1, 2]), 0, 0), finder))
-        self.assertFalse(is_there(None, finder))
 
     def test_marks(self) -> None:
         self.assertEqual([marked_street(it) for it in (">7", "<a", "b")], [(">", "7"), ("<", "a"), ("", "b")])
@@ -750,7 +787,7 @@ class Forks(unittest.TestCase):
 class Holding(unittest.TestCase):
     """What is published, and what waits."""
 
-    LIMITS = Limits(10, 1, 1, 2)
+    LIMITS = Limits(10, 1, 1, 2, 100)
 
     def test_limits(self) -> None:
         self.assertFalse(self.LIMITS.are_exceeded(Counts(20, 1, 1, 2), 100))
@@ -759,67 +796,110 @@ class Holding(unittest.TestCase):
         self.assertTrue(self.LIMITS.are_exceeded(Counts(0, 0, 0, 3), 100))
         self.assertFalse(self.LIMITS.are_exceeded(Counts(0, 10, 0, 10), 1000))
 
+    def test_limits_in_a_nation(self) -> None:
+        """However small the share of all paths is: of those nearby more than a quarter, and at least five; and a hundred."""
+        self.assertFalse(self.LIMITS.are_exceeded(Counts(0, 4, 0, 0), 30_000, 4))
+        self.assertTrue(self.LIMITS.are_exceeded(Counts(0, 2, 2, 1), 30_000, 19))
+        self.assertFalse(self.LIMITS.are_exceeded(Counts(0, 2, 2, 1), 30_000, 20))
+        self.assertFalse(self.LIMITS.are_exceeded(Counts(40, 2, 2, 0), 30_000, 40))
+        self.assertFalse(self.LIMITS.are_exceeded(Counts(0, 60, 0, 40), 30_000))
+        self.assertTrue(self.LIMITS.are_exceeded(Counts(0, 60, 0, 41), 30_000))
+
     def round(self, gone: Sequence[str], rows: Mapping[str, Sequence[Any]]) -> Round:
         """The end of a round that changes nothing but these."""
-        paths = PathsUpdate(FakeCursor(), Affected(), 20.0)
+        paths = PathsUpdate(FakeCursor(), Affected(), 20.0, FakeCursor)
         paths.gone = set(gone)
-        cursor, numbers = FakeCursor({"select count(*) from olr_keep.path": [(100,)], **rows}), FakeCursor()
+        cursor, numbers = FakeCursor({"make_interval": [("12:00", 100)], **rows}), FakeCursor()
         numbers.rows = {"select kind, last": [("hold", 99)]}
         return Round(cursor, Change(), Affected(), paths, Numbers(numbers))
 
-    PUBLISHED = [(name, f"old-{name}", None) for name in "abcd"]
+    PUBLISHED = [(name, f"old-{name}", None, "as given", False) for name in "abcd"]
+    HELD = [(name, "held", None, "refused,1,5", "refused", 1, None, None, False) for name in "abc"]
 
     def test_few_are_published(self) -> None:
-        outcome = self.round("", {"where round > 0": self.PUBLISHED}).judge({"a": "text,new"}, self.LIMITS)
+        outcome = self.round("", {"where round > 0": self.PUBLISHED}).judge({"a": "text,new"}, self.LIMITS, 0)
         self.assertEqual(outcome.published, {"a": (Answer("old-a", None), Answer("new", None))})
         self.assertEqual((outcome.counts, outcome.waiting), (Counts(changed=1), {}))
 
     def test_many_wait(self) -> None:
-        outcome = self.round("abc", {"where round > 0": self.PUBLISHED}).judge({"d": "text,new"}, self.LIMITS)
+        outcome = self.round("abc", {"where round > 0": self.PUBLISHED}).judge({"d": "text,new"}, self.LIMITS, 0)
         self.assertEqual(set(outcome.waiting), set("abcd"))
-        self.assertEqual(outcome.waiting["a"], Waiting(100, DROPPED, Effect.DROPPED))
+        self.assertEqual(outcome.waiting["a"], Waiting(Kind.HELD, DROPPED, Effect.DROPPED, 100))
         self.assertEqual(outcome.published, {})
 
     def test_held_before(self) -> None:
-        waiting = [(name, 1, None, "refused,1,5", "refused", False) for name in "abc"]
-        rows: Dict[str, Sequence[Any]] = {"where round > 0": self.PUBLISHED, "olr_keep.waiting": waiting}
-        outcome = self.round("", rows).judge({"a": "refused,1,6"}, self.LIMITS)
+        rows: Dict[str, Sequence[Any]] = {"where round > 0": self.PUBLISHED, "olr_keep.waiting": self.HELD}
+        outcome = self.round("", rows).judge({"a": "refused,1,6"}, self.LIMITS, 0)
         self.assertEqual((set(outcome.waiting), outcome.ended, outcome.published), (set("abc"), set(), {}))
-        outcome = self.round("", rows).judge({"a": "text,old-a", "b": "text,new"}, self.LIMITS)
+        outcome = self.round("", rows).judge({"a": "text,old-a", "b": "text,new"}, self.LIMITS, 0)
         self.assertEqual((outcome.waiting, outcome.ended, set(outcome.published)), ({}, set("abc"), set("bc")))
 
     def test_a_hold_is_judged_once(self) -> None:
         """However many paths wait in it, so that a save beside a great hold takes no longer."""
         names = [f"p{k}" for k in range(100)]
         rows: Dict[str, Sequence[Any]] = {
-            "where round > 0": [(it, "old", None) for it in names],
-            "olr_keep.waiting": [(it, 1, None, "refused,1,5", "refused", False) for it in names]}
+            "where round > 0": [(it, "old", None, "held", False) for it in names],
+            "olr_keep.waiting": [(it, *self.HELD[0][1:]) for it in names]}
         with unittest.mock.patch.object(Limits, "are_exceeded", autospec=True, side_effect=Limits.are_exceeded) as asked:
-            outcome = self.round("", rows).judge({"p7": "refused,1,6"}, self.LIMITS)
+            outcome = self.round("", rows).judge({"p7": "refused,1,6"}, self.LIMITS, 0)
         self.assertEqual((set(outcome.waiting), outcome.published), (set(names), {}))
         self.assertLessEqual(asked.call_count, 2)
 
     def test_what_waits_as_before_is_not_written(self) -> None:
-        waiting = [(name, 1, None, "refused,1,5", "refused", False) for name in "abc"]
-        it = self.round("", {"where round > 0": self.PUBLISHED, "from olr_keep.waiting": waiting})
+        it = self.round("", {"where round > 0": self.PUBLISHED, "from olr_keep.waiting": self.HELD})
         cursor: Any = it.cursor
         it.numbers.last["round"] = it.numbers.before["round"] = 7
-        outcome = it.judge({"a": "refused,1,6"}, self.LIMITS)
-        self.assertEqual(it.publish(outcome, 0.1), 8)
+        outcome = it.judge({"a": "refused,1,6"}, self.LIMITS, 0)
+        self.assertEqual(it.publish(outcome, 0.1), (8, []))
         written = [text for query, _, text in cursor.copied if "olr_keep.waiting" in query]
-        self.assertEqual(written, ["a\t1\t\\N\trefused,1,6\trefused\n"])
-        outcome = it.judge({"a": "refused,1,5"}, self.LIMITS)
-        self.assertEqual((it.publish(outcome, 0.1), set(outcome.waiting)), (0, set("abc")))
+        self.assertEqual(written, ["a\theld\t1\t\\N\trefused,1,6\trefused\t\\N\t\\N\n"])
+        outcome = it.judge({"a": "refused,1,5"}, self.LIMITS, 0)
+        self.assertEqual((it.publish(outcome, 0.1), set(outcome.waiting)), ((0, []), set("abc")))
 
     def test_released(self) -> None:
-        waiting = [(name, 1, None, "refused,1,5", "refused", True) for name in "abc"]
-        outcome = self.round("", {"where round > 0": self.PUBLISHED, "olr_keep.waiting": waiting}).judge({}, self.LIMITS)
+        rows: Dict[str, Sequence[Any]] = {"where round > 0": self.PUBLISHED, "olr_keep.waiting": [(*it[:-1], True) for it in self.HELD]}
+        outcome = self.round("", rows).judge({}, self.LIMITS, 0)
         self.assertEqual((set(outcome.published), outcome.ended, outcome.counts.refused), (set("abc"), set("abc"), 3))
+
+    def test_delayed(self) -> None:
+        """What has no string now, or is newly elsewhere, waits until it is due, whatever comes meanwhile."""
+        rows: Dict[str, Sequence[Any]] = {"where round > 0": self.PUBLISHED[:3] + [("d", "old-d", None, "as given", True)]}
+        outcome = self.round("b", rows).judge({"a": "refused,1,6", "c": "text,new", "d": "text,new"}, self.LIMITS, 60)
+        self.assertEqual(outcome.waiting, {
+            "a": Waiting(Kind.DELAYED, Answer(None, "refused,1,6"), Effect.REFUSED, due="12:00"),
+            "d": Waiting(Kind.DELAYED, Answer("new", None), Effect.ELSEWHERE, due="12:00")})
+        self.assertEqual((set(outcome.published), outcome.counts), (set("bc"), Counts(changed=1, dropped=1)))
+        outcome = self.round("", rows).judge({"d": "text,old-d"}, self.LIMITS, 60)
+        self.assertEqual((set(outcome.waiting), outcome.published), (set("d"), {}))
+
+    def test_delayed_before(self) -> None:
+        """An edit or another answer changes neither when it is due nor which round it names."""
+        was = ("a", "delayed", None, "refused,1,5", "refused", None, "11:59", 7)
+        rows: Dict[str, Sequence[Any]] = {"where round > 0": self.PUBLISHED, "olr_keep.waiting": [(*was, False)]}
+        outcome = self.round("", rows).judge({"a": "refused,1,6"}, self.LIMITS, 60)
+        self.assertEqual(outcome.waiting["a"], Waiting(Kind.DELAYED, Answer(None, "refused,1,6"), Effect.REFUSED, None, "11:59", 7))
+        outcome = self.round("", rows).judge({"a": "text,new"}, self.LIMITS, 60)
+        self.assertEqual((outcome.waiting, set(outcome.published), outcome.causes), ({}, set("a"), set()))
+        rows["olr_keep.waiting"] = [(*was, True)]
+        outcome = self.round("", rows).judge({}, self.LIMITS, 60)
+        self.assertEqual((outcome.waiting, set(outcome.published), outcome.causes), ({}, set("a"), {7}))
+
+    def test_delayed_and_limits(self) -> None:
+        """What is delayed counts when it is edited, and again if it does something else, but not when it is due."""
+        named = [(it, "old", None, "as given", False) for it in "abc"]
+        waiting = [(it, "delayed", None, "refused,1,5", effect, None, "11:59", 7, False) for it, effect in zip("abc", ("refused", "changed", None))]
+        rows: Dict[str, Sequence[Any]] = {"where round > 0": named, "olr_keep.waiting": waiting}
+        answers = dict.fromkeys("abc", "refused,1,6")
+        self.assertEqual(len(self.round("", rows).judge(answers, self.LIMITS, 60).holds), 0)
+        rows["olr_keep.waiting"] = [(*it[:4], "changed", *it[5:]) for it in waiting]
+        self.assertEqual(self.round("", rows).judge(answers, self.LIMITS, 60).holds[0].names, set("abc"))
+        rows["olr_keep.waiting"] = [(*it[:-1], True) for it in waiting]
+        self.assertEqual(self.round("", rows).judge({}, self.LIMITS, 60).counts.refused, 3)
 
     def test_frozen(self) -> None:
         frozen = [("a", None, None, False), ("b", "older", None, True)]
         rows: Dict[str, Sequence[Any]] = {"where round > 0": self.PUBLISHED, "olr_keep.frozen": frozen}
-        outcome = self.round("", rows).judge({"a": "text,new", "b": "text,newer"}, self.LIMITS)
+        outcome = self.round("", rows).judge({"a": "text,new", "b": "text,newer"}, self.LIMITS, 0)
         self.assertEqual(outcome.published, {"b": (Answer("old-b", None), Answer("older", None))})
         self.assertEqual({name: it.answer.text for name, it in outcome.waiting.items()}, {"a": "new", "b": "newer"})
 
@@ -830,8 +910,8 @@ class Holding(unittest.TestCase):
         change.street_group = {"s": "tx1", "t": "tx2", "u": "tx3"}
         clusters = Clusters(FakeCursor(), change, affected, {"a": Effect.CHANGED, "b": Effect.CHANGED})
         clusters.cells = {"a": {cell_of(6.1001, 49.6)}, "b": {cell_of(6.91, 49.61)}}
-        self.assertEqual(sorted((sorted(names), sorted(streets)) for names, streets in clusters.run()),
-                         [(["a"], ["s", "t"]), (["b"], ["u"])])
+        self.assertEqual(sorted((sorted(it.names), sorted(it.streets), it.cells) for it in clusters.run()),
+                         [(["a"], ["s", "t"], {cell_of(6.1, 49.6)}), (["b"], ["u"], {cell_of(6.9, 49.6)})])
 
 
 # ---- the program

@@ -1,30 +1,23 @@
 """What a round of tools/live does to the map: the nodes and lines of the streets that differ, block by block."""
 from __future__ import annotations
 
-import io
 import math
-import struct
 from typing import Any, Collection, Dict, Iterable, List, Mapping, Optional, Sequence, Set, Tuple
 
-from .geo import METRES
-from .livesession import psycopg2
-from .liveread import Block
-from .pathlines import number_array, point, text_array
-from .streets import Cut, Made, Old, Parts, Recut, Street, degrees, wkb_hex
+from ..geo import METRES
+from ..sql import ESCAPES, copy, copy_lines, number_array, point, point_hex, text_array, update
+from ..streets import Cut, Made, Old, Parts, Recut, Street, degrees, wkb_hex
+from .cells import Box, cell_of
+from .read import Block
 
-FEW = 100  # changed streets up to which each is compared with the paths that are lost
+FEW = 100  # changed streets up to which each is sought among those of the paths by an index
 FEW_LINES = 100  # changed lines up to which their paths are found by the index
-NEAR = 0.005  # degrees of the cells in which changes are near each other
 MOST_CELLS = 20_000  # changed streets of a round of which cells are kept
 GAP = 1.0  # metres between the end of a street and another street that are taken for a fault
 LAST = (1 << 32) - 1  # the greatest number of a node or a line
 NODE_COLUMNS = "node, place, geom, is_end"
 LINE_COLUMNS = "line, street, part, k, along, from_node, to_node, nth, length, fields, geom"
 AHEAD = 1 << 24  # numbers of a preview beyond the last ones
-ESCAPES = str.maketrans({"\\": "\\\\", "\t": "\\t", "\n": "\\n", "\r": "\\r"})  # of COPY
-
-
-Box = Tuple[float, float, float, float]
 
 
 class Numbers:
@@ -57,17 +50,23 @@ class Numbers:
 
 
 class Affected:
-    """What the blocks of a round do to the paths: their names, the roads on which they were, the streets that were edited, where
-    they were, and which of them are new, and the lines that lie elsewhere now."""
+    """What the blocks of a round do to the paths: their names, the streets that were edited, where they were, and the lines that
+    are gone, lie elsewhere now or are of another street."""
 
     def __init__(self) -> None:
         self.names: Set[str] = set()
-        self.roads: Dict[str, List[List[Any]]] = {}
         self.keys: Set[str] = set()
-        self.fresh: Set[str] = set()
         self.old_cells: Dict[str, Set[Tuple[int, int]]] = {}
-        self.moved: Set[int] = set()
+        self.looked: Set[int] = set()
         self.boxes: List[Box] = []
+        self.has_open: Optional[bool] = None
+
+    def are_open(self, cursor: Any) -> bool:
+        """Whether some path isn't found as it was given, so that it matters where the changes are. It is asked once."""
+        if self.has_open is None:
+            cursor.execute("select exists (select from olr_keep.string where lost or found_elsewhere)")
+            self.has_open = bool(cursor.fetchone()[0])
+        return self.has_open
 
 
 class MapUpdate:
@@ -110,7 +109,7 @@ class MapUpdate:
             from olr_keep.street where street.street = line.street and street.street = any(%s::text[])
             returning line, fields""", (text_array(self.plain),))
         self.records += [f"set-line,{line},{fields}" for line, fields in sorted(self.cursor.fetchall())]
-        if len(self.plain) <= FEW:
+        if self.affected.are_open(self.cursor):
             self.cursor.execute("""select ST_XMin(geom), ST_YMin(geom), ST_XMax(geom), ST_YMax(geom) from olr_keep.line
                 where street = any(%s::text[])""", (text_array(self.plain),))
             self.affected.boxes += map(self.widened, self.cursor.fetchall())
@@ -163,20 +162,16 @@ class MapUpdate:
         if len(affected.keys) <= MOST_CELLS:
             affected.old_cells.update((key, {cell_of(*degrees(it)) for part in self.before[key] for it in part})
                                       for key in self.keys)
-        affected.fresh |= {key for key in self.rows if not self.before[key]}
-        looked, moved = {*cut.dropped}, set()
+        looked = {*cut.dropped}
         for number, (line, old) in cut.changed.items():
-            if is_moved(line, old) or line.start in cut.moved or line.end in cut.moved:
-                moved.add(number)
-            if number in moved or (line.street, line.along) != (old.street, old.along):
+            is_elsewhere = is_moved(line, old) or line.start in cut.moved or line.end in cut.moved
+            if is_elsewhere or (line.street, line.along) != (old.street, old.along):
                 looked.add(number)
-        affected.moved |= moved
-        affected.boxes += self.boxes() if len(affected.keys) <= FEW else []
+        affected.looked |= looked
+        affected.boxes += self.boxes() if affected.are_open(self.cursor) else []
         self.cursor.execute("select exists (select from olr_keep.string)")
         if self.cursor.fetchone()[0]:
-            names = self.over_lines(looked) | self.over_streets()
-            self.remember_roads({it for it in names if it not in affected.roads})
-            affected.names |= names
+            affected.names |= self.over_lines(looked) | self.over_streets()
 
     def over_lines(self, numbers: Set[int]) -> Set[str]:
         """The paths over these lines."""
@@ -195,19 +190,6 @@ class MapUpdate:
             condition, keys = "exists (select from unnest(streets) as one where ltrim(one, '<>') = any(%s::text[]))", [*self.keys]
         self.cursor.execute(f"select name from olr_keep.path where {condition}", (text_array(keys),))
         return {it for (it,) in self.cursor}
-
-    def remember_roads(self, names: Set[str]) -> None:
-        """Reads the roads of paths that are where they were given, while their lines are there."""
-        if not names:
-            return
-        self.cursor.execute(
-            """select name, length, line.street, split_part(fields, ',', 1)::int, split_part(fields, ',', 2)::int,
-                direction = 'both'
-            from olr_keep.string cross join unnest(lines) with ordinality as one(number, k)
-            join olr_keep.line on line.line = one.number join olr_keep.street on street.street = line.street
-            where name = any(%s::text[]) and said_course is null order by name, one.k""", (text_array(names),))
-        for name, length, street, *kind in self.cursor:
-            self.affected.roads.setdefault(name, []).append([length, street, *kind])
 
     def boxes(self) -> List[Box]:
         """The boxes of the changed streets as they were and as they are, with a margin."""
@@ -342,44 +324,6 @@ def box_of(places: Collection[int]) -> Optional[Box]:
     return min(lons), min(lats), max(lons), max(lats)
 
 
-def cell_of(lon: float, lat: float) -> Tuple[int, int]:
-    """The cell of a coordinate in degrees."""
-    return math.floor(lon / NEAR), math.floor(lat / NEAR)
-
-
 def record_place(place: int) -> str:
     """The two fields of a coordinate."""
     return "{:.7f},{:.7f}".format(*degrees(place))
-
-
-def point_hex(place: int) -> str:
-    """The point of a place, as hexadecimal EWKB."""
-    return struct.pack("<BIIdd", 1, 0x20000001, 4326, *degrees(place)).hex()
-
-
-def copy(cursor: Any, table: str, columns: str, rows: Iterable[Sequence[object]]) -> None:
-    """Inserts rows by COPY; None is NULL, and texts may have any characters."""
-    copy_lines(cursor, table, columns, map(copy_line, rows))
-
-
-def copy_lines(cursor: Any, table: str, columns: str, lines: Iterable[str]) -> None:
-    """Inserts rows by COPY, of these lines."""
-    file = io.StringIO()
-    file.writelines(lines)
-    if file.tell():
-        file.seek(0)
-        cursor.copy_expert(f"copy olr_keep.{table} ({columns}) from stdin", file, 1 << 18)
-
-
-def copy_line(row: Sequence[object]) -> str:
-    """A row as COPY reads it. Most have neither NULL nor a character that is escaped."""
-    text = "\t".join(map(str, row))
-    if None in row or "\\" in text or "\n" in text or "\r" in text or text.count("\t") >= len(row):
-        text = "\t".join("\\N" if it is None else str(it).translate(ESCAPES) for it in row)
-    return text + "\n"
-
-
-def update(cursor: Any, statement: str, rows: Sequence[Sequence[object]]) -> None:
-    """Runs a statement over rows of values."""
-    if rows:
-        psycopg2.extras.execute_values(cursor, statement, rows, page_size=2000)

@@ -7,7 +7,7 @@ import select
 import time
 from typing import Any, Callable, Dict, List, Sequence, Tuple
 
-from .program import Program, ProgramFailed
+from ..program import Program, ProgramFailed
 
 MOST_HELD = 100_000  # changes of a batch
 HANGING = 600.0  # seconds without a reply after which the program is ended

@@ -11,19 +11,21 @@ import time
 import traceback
 from typing import Any, Dict, List, Mapping, NamedTuple, Optional, Sequence, Set, Tuple
 
-from . import livesession as session
-from .command import STREAM, USAGE, Failure, say
-from .liveambiguous import write_ambiguities
-from .livedraft import Draft, DraftSettings, write_report
-from .liveprogram import LiveProgram
-from .livefirst import FirstLoad, is_first
-from .livemap import AHEAD, LAST, Affected, MapUpdate, Numbers, write_all_open_ends
-from .livepaths import PathsUpdate
-from .liveread import BLOCK, Change, Reader
-from .liverounds import Limits, Round
-from .livesession import Busy, Readable, Stale, psycopg2
-from .program import ProgramFailed
-from .records import Margin
+from ..command import STREAM, USAGE, Failure, say
+from ..files import replaced
+from ..program import ProgramFailed
+from ..records import Margin
+from ..sql import psycopg2
+from . import session
+from .ambiguous import write_ambiguities
+from .draft import Draft, DraftSettings, write_report
+from .first import FirstLoad, is_first
+from .map import AHEAD, LAST, Affected, MapUpdate, Numbers, write_all_open_ends
+from .paths import PathsUpdate
+from .program import LiveProgram
+from .read import BLOCK, Change, Reader
+from .rounds import Limits, Round
+from .session import Busy, Readable, Stale
 
 POLL = 1.0  # seconds without a notification after which the notes are read all the same
 BUSY = 0.05  # seconds until tables that were locked are tried again
@@ -31,7 +33,9 @@ QUIET = 2.0  # seconds after which a round begins though notes still come
 WATCH = 5.0  # seconds between two looks at the tables
 MINUTE = 60.0
 LONGEST_WAIT = 60.0  # seconds between two attempts after failures
+LOGINS = 5  # that are refused before it ends
 MANY = 1000  # streets after which the statistics of the tables are made, and again when they have doubled
+NAMED = 20  # paths that the log names
 PATHS = 0  # the number that the table of paths has among the tables
 METRE = 1 / 100_000  # degrees that are more than a metre of latitude
 
@@ -52,6 +56,12 @@ class Settings(NamedTuple):
     is_preview: bool
     draft: Optional[DraftSettings] = None
     margin: Optional[Margin] = None  # of a preview
+    elsewhere_after: float = 0.0  # seconds
+
+    @property
+    def patience(self) -> float:
+        """For how many seconds an answer is delayed. One that is shown, or the last one of a run, isn't."""
+        return 0.0 if self.is_once or self.is_preview else self.elsewhere_after
 
     @property
     def schema(self) -> str:
@@ -90,6 +100,7 @@ class Attempt:
         self.records: List[str] = []
         self.fresh: Dict[str, str] = {}
         self.reader = Reader(self.cursor, work.tables, live.stale, self.settings.is_preview)
+        self.reader.is_last_split = live.is_split
         self.every_path, self.affected = every_path, Affected()
 
     def run(self) -> Ending:
@@ -97,6 +108,7 @@ class Attempt:
         if self.settings.margin:
             self.cursor.execute("update olr_keep.margin set (routes, classes) = (%s, %s)", self.settings.margin)
         change = self.reader.read()
+        self.live.is_split = bool(self.reader.first)
         change.every_path |= self.every_path or self.live.program is None
         self.records += [f"margin,{change.margin}"] if change.is_margin_new and self.live.program else []
         self.numbers = Numbers(self.cursor, AHEAD if self.settings.is_preview else 0)
@@ -106,11 +118,11 @@ class Attempt:
         elif change.count > BLOCK:
             self.live.drop_program()
         self.apply_map(change)
-        self.paths = PathsUpdate(self.cursor, self.affected, self.settings.tolerance)
+        self.paths = PathsUpdate(self.cursor, self.affected, self.settings.tolerance, self.live.before, self.settings.is_preview)
         self.paths.run(change, functools.partial(self.tell, what="paths"))
         self.live.progress = 0, 0
         self.round = Round(self.cursor, change, self.affected, self.paths, self.numbers)
-        self.outcome = self.round.judge(self.answers(), self.settings.limits)
+        self.outcome = self.round.judge(self.answers(), self.settings.limits, self.settings.patience)
         return self.show() if self.settings.is_preview else self.publish(change)
 
     def apply_map(self, change: Change) -> None:
@@ -160,15 +172,19 @@ class Attempt:
 
     def publish(self, change: Change) -> Ending:
         """Publishes the round, and commits."""
-        number = self.round.publish(self.outcome, time.monotonic() - self.began)
+        number, elsewhere = self.round.publish(self.outcome, time.monotonic() - self.began)
         self.work.commit()
         self.live.has_read(change)
         if number:
             self.live.count_round(time.monotonic() - self.began)
-        if self.outcome.published or self.outcome.holds:
-            say(f"round {number}: {len(self.affected.keys)} streets; {self.outcome.counts.text()}")
-        for hold, names, counts, _ in self.outcome.holds:
-            say(f"hold {hold} of {len(names)} paths: {counts.text()}; select olr_keep.release({hold}) publishes them")
+        late = f", late of round {', '.join(map(str, sorted(self.outcome.causes)))}" if self.outcome.causes else ""
+        if self.outcome.published or self.outcome.holds or late:
+            say(f"round {number}{late}: {len(self.affected.keys)} streets, {len(self.outcome.published)} answers; {self.outcome.counts.text()}")
+        if elsewhere:
+            more = f" and {len(elsewhere) - NAMED} more" if len(elsewhere) > NAMED else ""
+            say(f"round {number}: elsewhere are now {', '.join(elsewhere[:NAMED])}{more}")
+        for it in self.outcome.holds:
+            say(f"hold {it.number} of {len(it.names)} paths: {it.counts.text()}; select olr_keep.release({it.number}) publishes them")
         return Ending.DONE if number else Ending.NOTHING
 
     def show(self) -> Ending:
@@ -186,7 +202,7 @@ class Attempt:
             for name, answer in sorted(shown.items()):
                 print(f"{name},{answer.written()}")
         words = f"; {len(held)} paths would be held" if held else ""
-        print(f"live: {self.outcome.counts.text()}{words}", file=sys.stderr)
+        print(f"live: {len(self.outcome.published)} answers; {self.outcome.counts.text()}{words}", file=sys.stderr)
         return Ending.SHOWN
 
 
@@ -196,12 +212,15 @@ class Live:
     def __init__(self, settings: Settings, stopping: List[int]) -> None:
         self.settings, self.stopping = settings, stopping
         self.connection: Any = None
+        self.other: Any = None
         self.program: Optional[LiveProgram] = None
         self.totals = collections.Counter(rounds=0, restarts=0)
         self.last_round = self.last_seconds = self.written = self.compared = 0.0
         self.changed, self.asked, self.ask_after = time.monotonic(), 0.0, 0.0
         self.counts: Dict[str, float] = {}
         self.progress, self.failed, self.would_hold, self.unwritten = (0, 0), 0, False, ""
+        self.is_announced = False
+        self.is_split = False  # whether the last round was of small transactions that went before a great one
         self.forget()
 
     def forget(self) -> None:
@@ -222,12 +241,19 @@ class Live:
         session.check_schema(self.cursor)
         self.forget()
 
+    def before(self) -> Any:
+        """A cursor of another session, which reads the map as it is committed: as it was before the round."""
+        if self.other is None:
+            self.other = session.connect(self.settings.database, self.settings.idle)
+        return self.other.cursor()
+
     def close(self) -> None:
-        """Ends the session and the program."""
+        """Ends the sessions and the program."""
         self.drop_program()
-        if self.connection:
-            self.connection.close()
-        self.connection = None
+        for it in (self.connection, self.other):
+            if it:
+                it.close()
+        self.connection = self.other = None
 
     def drop_program(self) -> None:
         """Ends the program: its map isn't that of the tables."""
@@ -298,7 +324,7 @@ class Live:
             broken = {it.source.source: it.words for it in work.tables if it.state in (Readable.BROKEN, Readable.MISSING)}
             self.stale |= {it.source.source for it in work.tables if it.state is Readable.MISSING}
             ending = Ending.NOTHING
-            if every_path or self.has_work():
+            if every_path or self.work() is not session.Work.NOTHING:
                 attempt = Attempt(self, work, every_path)
                 ending = attempt.run()
                 broken.update(attempt.reader.change.broken)
@@ -306,7 +332,7 @@ class Live:
         self.report(work.tables, broken)
         return ending
 
-    def refuse_unreadable(self, tables: Sequence[session.Table]) -> None:
+    def refuse_unreadable(self, tables: Sequence[session.SourceTable]) -> None:
         """Fails if a draft has no table of streets, or one that can't be read."""
         if self.settings.draft:
             own = {it.streets for it in session.sources_of(self.cursor)}
@@ -318,17 +344,17 @@ class Live:
                 if it.state is not Readable.READY:
                     raise Failure(STREAM, f"{it.source.streets}: {it.words}")
 
-    def has_work(self) -> bool:
-        """Whether there is something to read."""
+    def work(self) -> session.Work:
+        """What there is to read."""
         if self.program is None or self.stale - self.unread.keys():
-            return True
-        return session.has_work(self.cursor, self.unread)
+            return session.Work.COMMITTED
+        return session.work(self.cursor, self.unread, self.settings.patience > 0)
 
     def has_read(self, change: Change) -> None:
         """Remembers which tables were compared."""
         self.stale -= change.compared - change.broken.keys()
 
-    def report(self, tables: Sequence[session.Table], broken: Mapping[int, str]) -> None:
+    def report(self, tables: Sequence[session.SourceTable], broken: Mapping[int, str]) -> None:
         """Writes which tables can't be read, or have no triggers, and says what is new."""
         now, problems = time.monotonic(), set(self.without_triggers.items())
         names = {PATHS: "olr_keep.path", **{it.source.source: it.source.streets for it in tables}}
@@ -388,11 +414,21 @@ class Live:
                 say(f"which strings are ambiguous can't be written: {session.first_line(error)}")
             self.asked, self.ask_after = now, now + 20 * (time.monotonic() - now)
 
+    def renew_identity(self) -> None:
+        """Writes another identity of the history if it was restored. That may need a right that this role doesn't have."""
+        try:
+            session.renew_identity(self.cursor)
+        except psycopg2.Error as error:
+            if self.connection.closed:
+                raise
+            say(f"whether the history was restored from a backup isn't known: {session.first_line(error)}")
+
     def start(self) -> None:
         """Opens the session, waits until no other process works, and finds which tables there are."""
         self.connect()
         if not self.settings.is_preview:
             self.lock()
+            self.renew_identity()
         self.cursor.execute("listen olr_keep_note")
         self.stale = {it.source for it in session.sources_of(self.cursor)}
         self.compared = time.monotonic()
@@ -404,22 +440,25 @@ class Live:
         while not self.stopping:
             ending = Ending.NOTHING
             try:
-                if every_path or self.has_work() or time.monotonic() - tried > WATCH:
-                    if not every_path:
+                work = self.work()
+                if every_path or work is not session.Work.NOTHING or time.monotonic() - tried > WATCH:
+                    if not every_path and work is not session.Work.LATER:
                         self.wait_quiet()
                     ending, every_path, tried = self.attempt(every_path), False, time.monotonic()
             except Busy as why:
                 self.wait_unlocked(str(why))
                 continue
             self.write_metrics(ending is Ending.DONE)
-            if self.settings.is_preview or self.settings.is_once and ending is Ending.NOTHING:
-                return int(self.would_hold or self.settings.is_once and session.is_held(self.cursor))
-            if ending is Ending.DONE:
+            if ending is Ending.DONE or not self.settings.is_preview and self.work() is session.Work.LATER:
                 continue
+            if self.settings.is_preview or self.settings.is_once:
+                return int(self.would_hold or self.settings.is_once and session.is_held(self.cursor))
+            self.announce()
             self.wait(POLL)
             self.unread = {it: state for it, state in self.unread.items() if state is not Readable.LOCKED}
             if night.is_due(time.localtime()):
                 every_path = True
+                session.note_later(self.cursor, (), None)
                 self.stale = {it.source for it in session.sources_of(self.cursor)}
             if time.monotonic() - looked > WATCH:
                 looked = time.monotonic()
@@ -428,15 +467,25 @@ class Live:
                 self.failed = 0
         return 128 + self.stopping[0]
 
+    def announce(self) -> None:
+        """Says once that everything was read."""
+        if not self.is_announced:
+            self.is_announced = True
+            say("everything is read; what is saved from now on is published")
+
     def run(self) -> int:
-        """Serves, and starts again after failures; returns the exit status."""
+        """Serves, and starts again after failures, but not for ever if the login is refused; returns the exit status."""
         while True:
             try:
                 return self.serve()
+            except BrokenPipeError:
+                raise
             except Exception as error:  # of a round: whatever it is, the next start reads the tables, and tries again
                 if isinstance(error, Failure) and not isinstance(error, ProgramFailed):
                     raise
                 words = words_of(error)
+                if session.is_refused(error) and (self.settings.is_once or self.settings.is_preview or self.failed >= LOGINS):
+                    raise Failure(STREAM, f"{words}; docs/LIVE.md has the role, its password and the database") from None
                 if (self.settings.is_once or self.settings.is_preview) and not isinstance(error, Stale) and self.failed > 3:
                     say(words)
                     return 3
@@ -468,9 +517,8 @@ class Live:
         text = "".join(f"# HELP olr_keep_live_{name} {HELP[name]}\n# TYPE olr_keep_live_{name} {kind_of(name)}\n"
                        f"olr_keep_live_{name} {value:.6f}\n".replace(".000000\n", "\n") for name, value in values.items())
         try:
-            with open(self.settings.metrics + ".new", "w", encoding="utf-8") as file:
-                file.write(text)
-            os.replace(self.settings.metrics + ".new", self.settings.metrics)
+            with replaced(self.settings.metrics, is_synced=False) as file:
+                file.write(text.encode())
             self.unwritten = ""
         except OSError as error:
             words = f"{self.settings.metrics}: {error.strerror}"
@@ -518,6 +566,8 @@ HELP = {
     "held": "Holds that wait for a release.",
     "paths_held": "Paths whose strings wait for a release.",
     "paths_frozen": "Paths whose string is frozen.",
+    "paths_delayed": "Paths that are published as elsewhere or without a string when they are due.",
     "notes": "Notes of changes that are not read yet.",
     "oldest_note_seconds": "The age of the oldest of them.",
+    "paths_left": "Paths near a great change that are sought when no such note is left.",
 }

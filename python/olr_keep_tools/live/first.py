@@ -8,16 +8,17 @@ from collections import Counter
 from functools import partial
 from typing import Any, Callable, Dict, Iterator, List, Mapping, Sequence, Set, Tuple
 
-from .forked import in_order
-from .livemap import ESCAPES, LINE_COLUMNS, NODE_COLUMNS, Affected, MapUpdate, Numbers, point_hex
-from .liveread import Block
-from .livesession import Savepoint, psycopg2
-from .streets import WAYS, Street, Stretches, lines_of, stretches_of, wkb_hex
+from ..forked import in_order
+from ..sql import ESCAPES, point_hex, psycopg2
+from ..streets import WAYS, Street, Stretches, lines_of, stretches_of, wkb_hex
+from .map import LINE_COLUMNS, NODE_COLUMNS, Affected, MapUpdate, Numbers
+from .read import Block
+from .session import Savepoint
 
 NODES, BLOCKS = 50_000, 3  # nodes, and blocks of streets, that are written at once
 
 
-class Places:
+class PlaceFile:
     """A file whose lines are places."""
 
     def __init__(self) -> None:
@@ -53,7 +54,6 @@ class FirstLoad:
         """Writes the streets of a block, and keeps those that can be lines."""
         update = MapUpdate(self.cursor, block, self.numbers, self.affected, 0.0, False)
         self.affected.keys |= update.keys
-        self.affected.fresh |= update.rows.keys()
         update.add_streets()
         update.write_unfit()
         self.kept.append(marshal.dumps([(key, *it) for key, it in update.after.items()]))
@@ -70,7 +70,7 @@ class FirstLoad:
 
     def line_works(self, tell: Callable[[int], None]) -> Iterator[Callable[[], str]]:
         """What makes the rows of the lines, block by block."""
-        places, done = Places(), 0
+        places, done = PlaceFile(), 0
         self.cursor.copy_expert("copy (select place from olr_keep.vertex group by place having count(*) > 1) to stdout", places)
         self.kept.reverse()
         while self.kept:

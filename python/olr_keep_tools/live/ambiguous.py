@@ -3,9 +3,8 @@ from __future__ import annotations
 
 from typing import Any, Dict, List, Mapping, NamedTuple, Sequence
 
-from .livemap import copy
-from .liveprogram import LiveProgram
-from .pathlines import number_array, text_array
+from ..sql import copy, number_array, text_array
+from .program import LiveProgram
 
 KINDS = {
     "sector": "another line of street {} has its class, form and bearing sector",

@@ -4,17 +4,18 @@ from __future__ import annotations
 import os
 from typing import Any, Dict, List, Mapping, NamedTuple, Optional, Sequence
 
-from .files import replacing
-from .geo import Degrees, distance
-from .geojson import collection
-from .liveambiguous import named_places, obstacles
-from .livepaths import Placed, PathsUpdate
-from .liveprogram import LiveProgram
-from .liverounds import Answer
-from .pathlines import State, coordinates, text_array
-from .qml import style
-from .swap.report import as_json, features, text, worst_first, write_strings
-from .swap.verdicts import Kind, Verdict, compared
+from ..files import replacing
+from ..geo import Degrees, distance
+from ..geojson import collection
+from ..pathlines import State
+from ..qml import style
+from ..sql import coordinates, text_array
+from ..swap.report import as_json, features, text, worst_first, write_strings
+from ..swap.verdicts import Kind, Verdict, compared
+from .ambiguous import named_places, obstacles
+from .paths import Placed, PathsUpdate
+from .program import LiveProgram
+from .rounds import Answer
 
 OFF = 10.0  # metres from its course beyond which a path is on another road
 

@@ -2,20 +2,15 @@
 from __future__ import annotations
 
 import enum
-from typing import Any, Dict, Iterable, List, NamedTuple, Optional, Set, Tuple, Type
+import re
+from typing import Any, Dict, Iterable, List, NamedTuple, Optional, Sequence, Set, Tuple, Type
 
-try:
-    import psycopg2
-    import psycopg2.errors
-    import psycopg2.extras
-except ImportError:
-    psycopg2 = None
-
-__all__ = ["psycopg2"]
+from ..sql import psycopg2, text_array
 
 LOCK = 7165_0029  # of pg_try_advisory_lock
+LATER = -2  # the source of notes of paths that are sought when no other note is left
 LONGEST_ID = 1000  # bytes of the id of a street: an index takes 2,700
-TRIGGERS = "'olr_keep_row', 'olr_keep_statement', 'olr_keep_truncate'"
+TRIGGERS = "'olr_keep_row', 'olr_keep_row_note', 'olr_keep_statement', 'olr_keep_truncate'"
 
 
 class Stale(Exception):
@@ -50,7 +45,7 @@ class Readable(enum.Enum):
     BROKEN = "broken"
 
 
-class Table(NamedTuple):
+class SourceTable(NamedTuple):
     """A source, whether it can be read, and why not."""
 
     source: Source
@@ -70,6 +65,14 @@ class Watched(NamedTuple):
 
 # ---- the session
 
+# What the server says of a login for which it is no use to wait.
+REFUSED = re.compile(r"authentication failed|no password supplied|no pg_hba\.conf entry|(role|database|user) \"[^\n]*\" does not exist")
+
+
+def is_refused(error: Exception) -> bool:
+    """Whether the server refuses the login."""
+    return isinstance(error, psycopg2.OperationalError) and REFUSED.search(str(error)) is not None
+
 
 def connect(database: str, idle: int) -> Any:
     """Opens a session that notices if it is cut; the server ends it after a pause of `idle` seconds in a transaction."""
@@ -85,7 +88,7 @@ def connect(database: str, idle: int) -> Any:
 
 def check_schema(cursor: Any) -> None:
     """Fails if the schema is missing, or that of another version."""
-    cursor.execute("select to_regclass('olr_keep.margin') is null")
+    cursor.execute("select to_regclass('olr_keep.identity') is null")
     if cursor.fetchone()[0]:
         raise psycopg2.ProgrammingError("the database has no schema olr_keep, or that of another version: run tools/live.sql")
 
@@ -144,7 +147,7 @@ class Transaction:
 
     def __init__(self, connection: Any, cursor: Any, draft: str = "") -> None:
         self.connection, self.cursor, self.draft, self.is_open = connection, cursor, draft, False
-        self.tables: List[Table] = []
+        self.tables: List[SourceTable] = []
 
     def __enter__(self) -> Transaction:
         sources = sources_of(self.cursor, self.draft)
@@ -164,20 +167,20 @@ class Transaction:
             raise
         return self
 
-    def locked(self, source: Source) -> Table:
+    def locked(self, source: Source) -> SourceTable:
         """Locks a table. It is the first command for it, since the snapshot of the transaction isn't taken yet."""
         try:
             with Savepoint(self.cursor):
                 self.cursor.execute(f"lock table {source.streets} in access share mode nowait")
         except psycopg2.errors.LockNotAvailable:
-            return Table(source, Readable.LOCKED, "another transaction has it locked")
+            return SourceTable(source, Readable.LOCKED, "another transaction has it locked")
         except (psycopg2.errors.UndefinedTable, psycopg2.errors.InvalidSchemaName):
-            return Table(source, Readable.MISSING, "it is missing")
+            return SourceTable(source, Readable.MISSING, "it is missing")
         except psycopg2.Error as error:
             return self.broken(source, error)
-        return Table(source, Readable.READY)
+        return SourceTable(source, Readable.READY)
 
-    def probed(self, table: Table) -> Table:
+    def probed(self, table: SourceTable) -> SourceTable:
         """Whether the expressions of a table can be read."""
         try:
             with Savepoint(self.cursor, table.source.search_path):
@@ -186,11 +189,11 @@ class Transaction:
             return self.broken(table.source, error)
         return table
 
-    def broken(self, source: Source, error: Exception) -> Table:
+    def broken(self, source: Source, error: Exception) -> SourceTable:
         """A table that can't be read for this reason, unless the session has ended."""
         if self.connection.closed:
             raise error
-        return Table(source, Readable.BROKEN, first_line(error))
+        return SourceTable(source, Readable.BROKEN, first_line(error))
 
     def commit(self) -> None:
         """Commits."""
@@ -229,11 +232,43 @@ def row_query(source: Source, where: str = "") -> str:
 # ---- what is asked between rounds
 
 
-def has_work(cursor: Any, unread: Iterable[int]) -> bool:
-    """Whether something was committed: a note, but not of these sources, or a release."""
-    cursor.execute("""select exists (select from olr_keep.note where source <> all(%s::int[]))
-        or exists (select from olr_keep.waiting join olr_keep.release using (hold))""", (list(unread),))
-    return bool(cursor.fetchone()[0])
+class Work(enum.Enum):
+    """What there is to do: what was committed, by notes or a release; or what was left for later, or is due; or nothing."""
+
+    COMMITTED = "committed"
+    LATER = "later"
+    NOTHING = "nothing"
+
+
+def work(cursor: Any, unread: Iterable[int], is_patient: bool) -> Work:
+    """What there is to do, but for notes of these sources. All that is delayed is due for one that isn't patient."""
+    cursor.execute("""select exists (select from olr_keep.note where source <> all(%s::int[]) and source <> %s)
+            or exists (select from olr_keep.waiting join olr_keep.release using (hold)),
+        exists (select from olr_keep.note where source = %s)
+            or exists (select from olr_keep.waiting where due <= clock_timestamp() or due is not null and not %s)""",
+                   (list(unread), LATER, LATER, is_patient))
+    is_committed, is_later = cursor.fetchone()
+    return Work.COMMITTED if is_committed else Work.LATER if is_later else Work.NOTHING
+
+
+def note_later(cursor: Any, users: Iterable[str], names: Optional[Sequence[str]]) -> None:
+    """Notes that paths are sought when no other note is left, those near each other together: these, or all that aren't found as
+    they were given. Several users may have caused it, or none."""
+    where, values = ("name = any(%s::text[])", (text_array(names),)) if names is not None else ("lost or found_elsewhere", ())
+    cursor.execute(f"""insert into olr_keep.note (source, key, who, at)
+        select {LATER}, name, who, now() + row_number() over (order by geom, name) * interval '1 microsecond'
+        from olr_keep.string cross join unnest(%s::text[]) as who
+        where ({where}) and not exists (select from olr_keep.note where source = {LATER} and key = name)""",
+                   (text_array(list(users) or [""]), *values))
+
+
+def renew_identity(cursor: Any) -> None:
+    """Writes another identity of the history if it isn't where it was made: it was restored from a backup then."""
+    cursor.execute("""update olr_keep.identity set (history, made_in) = (gen_random_uuid()::text, it.place)
+        from (select concat_ws(' ', system_identifier, left(pg_walfile_name(pg_current_wal_lsn()), 8), pg_database.oid,
+                'olr_keep.history'::regclass::oid) as place
+            from pg_control_system() cross join pg_database where datname = current_database()) as it
+        where made_in <> it.place""")
 
 
 def margins(cursor: Any) -> Tuple[str, str]:
@@ -258,7 +293,7 @@ def is_held(cursor: Any) -> bool:
 
 def watch(cursor: Any) -> List[Watched]:
     """The tables with their triggers."""
-    cursor.execute(f"""select source, streets, to_regclass(streets) is not null, coalesce(bool_and(count = 3), false),
+    cursor.execute(f"""select source, streets, to_regclass(streets) is not null, coalesce(bool_and(count = 4), false),
             coalesce(string_agg(part::text || filenode, ' ' order by part), '')
         from (select source, streets from olr_keep.source union all select 0, 'olr_keep.path') as source
         left join lateral (
@@ -298,9 +333,11 @@ def metrics(cursor: Any) -> Dict[str, float]:
                 where string.text is null),
             (select count(*) from olr_keep.problem), (select count(*) from olr_keep.held),
             (select count(*) from olr_keep.waiting where hold is not null), (select count(*) from olr_keep.frozen),
-            (select count(*) from olr_keep.note),
-            (select coalesce(extract(epoch from clock_timestamp() - min(at)), 0) from olr_keep.note)
-        from olr_keep.string""")
+            (select count(*) from olr_keep.waiting where kind = 'delayed'),
+            (select count(*) from olr_keep.note where source <> %s),
+            (select coalesce(extract(epoch from clock_timestamp() - min(at)), 0) from olr_keep.note where source <> %s),
+            (select count(*) from olr_keep.note where source = %s)
+        from olr_keep.string""", 3 * [LATER])
     names = ("paths", "paths_refused", "paths_elsewhere", "oldest_refusal_seconds", "problems", "held", "paths_held",
-             "paths_frozen", "notes", "oldest_note_seconds")
+             "paths_frozen", "paths_delayed", "notes", "oldest_note_seconds", "paths_left")
     return dict(zip(names, map(float, cursor.fetchone())))

@@ -4,11 +4,14 @@ from __future__ import annotations
 import enum
 from typing import Any, Container, Dict, Iterable, Iterator, List, Mapping, NamedTuple, Optional, Sequence, Set, Tuple, Union
 
-from .livesession import LONGEST_ID, Readable, Savepoint, Source, Table, first_line, margins, psycopg2, row_query
-from .pathlines import point, text_array
-from .streets import Place, Street, Unfit, degrees, first_place, street_of
+from ..sql import point, psycopg2, text_array
+from ..streets import Place, Street, Unfit, degrees, first_place, street_of
+from .cells import NEAR, Cell, around
+from .session import LATER, LONGEST_ID, Readable, Savepoint, Source, SourceTable, first_line, margins, row_query
 
 BLOCK = 4000  # streets that are read and cut at once
+PART = 200  # paths that were left for later and are read at once
+FEW, VERY_MANY = 100, 1000  # notes of transactions that are a round before, and of one before which they are
 NO_SOURCE = -1  # of streets whose table is no source any more
 
 
@@ -21,7 +24,7 @@ class StreetRow(NamedTuple):
     street: Union[Street, Unfit]
 
 
-class Known(NamedTuple):
+class LastRead(NamedTuple):
     """What was read of a street last; `is_fit` is whether it is in the map."""
 
     source: int
@@ -76,17 +79,20 @@ class Reader:
     """Reads the changes of the tables that can be read; `stale` are sources of which all rows are compared. A preview leaves the
     notes where they are. `has_streets` is whether streets may have been read before."""
 
-    def __init__(self, cursor: Any, tables: Sequence[Table], stale: Container[int], is_preview: bool = False) -> None:
+    def __init__(self, cursor: Any, tables: Sequence[SourceTable], stale: Container[int], is_preview: bool = False) -> None:
         self.cursor, self.tables, self.stale, self.is_preview = cursor, tables, stale, is_preview
         self.sources = {it.source.source: it.source for it in tables if it.state is Readable.READY}
         self.change, self.has_streets = Change(), True
+        self.first: Set[str] = set()  # the only transactions that are read in this round, if there are some
+        self.is_last_split = False  # whether the last round had such ones: then this one has all
 
     def read(self) -> Change:
         """What there is to do."""
         change = self.change
         change.margin, before = margins(self.cursor)
         change.is_margin_new = change.margin != before
-        for source, who, tx, keys in self.notes("source <= 0"):
+        self.first = self.small_ones()
+        for source, who, tx, keys in self.notes("source in (0, -1)"):
             change.users.add(who)
             change.every_path |= source == 0 and None in keys
             names = {it for it in keys if it is not None}
@@ -99,15 +105,66 @@ class Reader:
             except psycopg2.Error as error:
                 self.fail(source, error)
         self.removed_sources()
+        if not (change.keys or change.paths or change.every_path or change.compared or change.is_margin_new or self.is_preview):
+            self.read_later()
         return change
+
+    def read_later(self) -> None:
+        """Takes paths that were left for later, of those near each other."""
+        self.cursor.execute("""delete from olr_keep.note using (
+                select distinct key, min(at) as first from olr_keep.note where source = %s group by key order by first, key limit %s
+            ) as it where source = %s and note.key = it.key returning note.key, who""", (LATER, PART, LATER))
+        for key, who in self.cursor:
+            self.change.paths.add(key)
+            self.change.users.update([who] if who else ())
 
     def notes(self, where: str, *values: object) -> List[Tuple[Any, ...]]:
         """Takes the notes for which a condition holds: (source, who, transaction, keys), one for each user and transaction."""
+        if self.first:
+            where, values = f"{where} and tx::text = any(%s::text[])", (*values, text_array(self.first))
         query = f"select * from olr_keep.note where {where}" if self.is_preview else \
             f"delete from olr_keep.note where {where} returning *"
         self.cursor.execute(f"""with taken as ({query})
             select source, who, tx::text, array_agg(distinct key collate "C") from taken group by source, who, tx""", values)
         return list(self.cursor.fetchall())
+
+    def small_ones(self) -> Set[str]:
+        """The transactions with few notes that are a round before one with very many, if they are nowhere near it."""
+        self.cursor.execute("""select tx::text, count(*), bool_or(key is null and source >= 0) from olr_keep.note
+            where source <> %s group by tx""", (LATER,))
+        rows = self.cursor.fetchall()
+        great = {tx for tx, count, _ in rows if count > VERY_MANY}
+        small = {tx for tx, count, _ in rows if count <= FEW}
+        if not great or not small or self.is_preview or self.stale or self.is_last_split or any(is_whole for *_, is_whole in rows):
+            return set()
+        cells: Dict[str, Set[Cell]] = {}
+        try:
+            for source in self.sources.values():
+                with Savepoint(self.cursor, source.search_path):
+                    self.add_cells(source, great | small, cells)
+        except psycopg2.Error:
+            if self.cursor.connection.closed:
+                raise
+            return set()
+        near: Set[Cell] = set().union(*(around(cell) for tx in great for cell in cells.get(tx, ())))
+        return {tx for tx in small if not cells.get(tx, near) & near}
+
+    def add_cells(self, source: Source, transactions: Set[str], cells: Dict[str, Set[Cell]]) -> None:
+        """Adds the cells of the streets that transactions have noted, as they were read last and as they are now."""
+        geom, streets = f"olr_keep.degrees({source.geom})".replace("%", "%%"), source.streets.replace("%", "%%")
+        key = f"({source.id})::text".replace("%", "%%")
+        self.cursor.execute(f"""with noted as materialized (
+                select distinct tx::text as tx, key from olr_keep.note where source = %(source)s and tx::text = any(%(tx)s::text[])
+            )
+            select distinct tx, floor(olr_keep.lon(place) / {NEAR})::int, floor(olr_keep.lat(place) / {NEAR})::int
+            from noted join olr_keep.vertex on street = %(prefix)s || key
+            union select distinct tx, floor(x / {NEAR})::int, floor(y / {NEAR})::int
+            from noted join (select {key} as key, {geom} as geom from {streets}) as it using (key)
+                cross join lateral (values (ST_XMin(geom), ST_YMin(geom)), (ST_XMax(geom), ST_YMax(geom)), (ST_XMin(geom), ST_YMax(geom)),
+                    (ST_XMax(geom), ST_YMin(geom))) as corner(x, y) where x between -180 and 180 and y between -90 and 90""",
+                            {"source": source.source, "tx": text_array(transactions), "prefix": source.prefix})
+        for tx, x, y in self.cursor:
+            cells.setdefault(tx, set()).add((x, y))
 
     def fail(self, source: Source, error: Exception) -> None:
         """Leaves a table out of this round, since it can't be read; its notes stay."""
@@ -319,14 +376,14 @@ class Reader:
                     block.plain.add(street)
         self.write_taken(source, streets, {it: rows[it] for it in taken})
 
-    def known(self, streets: Sequence[str], block: Block) -> Dict[str, Known]:
+    def known(self, streets: Sequence[str], block: Block) -> Dict[str, LastRead]:
         """What was read of these streets last, or in this block from another table."""
         found = {}
         if self.has_streets:
             self.cursor.execute("""select street, source, digest, shape, class is not null from olr_keep.street
                 where street = any(%s::text[])""", (text_array(streets),))
-            found = {street: Known(*rest) for street, *rest in self.cursor if street not in block.gone}
-        found.update((it, Known(block.rows[it].source, 0, 0, False)) for it in streets if it in block.rows)
+            found = {street: LastRead(*rest) for street, *rest in self.cursor if street not in block.gone}
+        found.update((it, LastRead(block.rows[it].source, 0, 0, False)) for it in streets if it in block.rows)
         return found
 
     def write_taken(self, source: Source, streets: Sequence[str], taken: Mapping[str, Sequence[StreetRow]]) -> None:
@@ -339,7 +396,7 @@ class Reader:
                                 (source.source, street, words, point(place_in(rows[0]))))
 
 
-def fate_of(source: int, known: Optional[Known], rows: Sequence[StreetRow]) -> Fate:
+def fate_of(source: int, known: Optional[LastRead], rows: Sequence[StreetRow]) -> Fate:
     """What has become of a street of this source, whose rows these are."""
     is_mine = known is None or known.source in (source, None)
     if not rows:
@@ -371,6 +428,6 @@ def is_nameless(key: str) -> bool:
     return not 1 <= len(key.encode("utf-8", "surrogateescape")) <= LONGEST_ID
 
 
-def is_plain(known: Optional[Known], row: StreetRow) -> bool:
+def is_plain(known: Optional[LastRead], row: StreetRow) -> bool:
     """Whether only the class or the form of a street is another one."""
     return known is not None and known.is_fit and known.shape == row.shape and isinstance(row.street, Street)
