@@ -11,10 +11,10 @@
 --         form        form of way, 0 to 7
 --         direction   'both', 'along' or 'against': the directions in which the road may be driven
 --         geom        geometry(LineString, 4326)
---     region(geom)    the region's polygons, with the margin by which regions overlap
+--     region(geom)    the region's polygons, with the margin by which regions overlap; without this table all roads count
 --
 -- A road that meets the region is included whole, with both its nodes, even if it crosses the border. Invalid values stop
--- the query with a message that lists all of them, by road, and so does a region that no road meets. Then no record is printed
+-- the query with a message that lists the roads, up to 20 for each reason, and so does a region that no road meets. Then no record is printed
 -- and the status is not 0, so that map.csv stays as it is. A table without nodes, whose roads
 -- continue across junctions, is converted by tools/postgis-split.sql.
 
@@ -28,8 +28,10 @@ do $$
 declare
     wrong text;
 begin
-    select string_agg(format('road %s: %s', coalesce(id::text, 'without id'), reason), E'\n' order by id) into wrong
-    from (
+    select string_agg(format('road %s: %s', array_to_string(ids[:20], ', ')
+        || case when cardinality(ids) > 20 then format(' and %s others', cardinality(ids) - 20) else '' end, reason), E'\n' order by first)
+    into wrong
+    from (select reason, array_agg(coalesce(id::text, 'without id') order by id) as ids, min(id) as first from (
         select id, case
             when num_nulls(id, start_node, end_node, class, form, direction, geom) > 0 then 'a column is NULL'
             when direction not in ('both', 'along', 'against')
@@ -47,12 +49,16 @@ begin
                 then 'geom is beyond the longitudes -180 to 179.9999 or the latitudes -89.9999 to 89.9999'
         end as reason
         from roads
-    ) as judged
-    where reason is not null;
+    ) as judged where reason is not null group by reason) as by_reason;
     if wrong is not null then
         raise exception '%', wrong;
     end if;
 end $$;
+
+select to_regclass('region') is null as has_no_region \gset
+\if :has_no_region
+create temporary table region on commit drop as select ST_SetSRID(ST_Extent(geom)::geometry, 4326) as geom from roads;
+\endif
 
 create temporary table road on commit drop as
 select roads.* from roads

@@ -15,7 +15,7 @@
 --
 -- A street is split at each vertex that it shares with another street, or has twice, and where a part would be longer than
 -- 15 km or have more than 1,000 shape points. Streets that cross without a common vertex, as on a bridge, do not meet.
--- Vertices are equal if seven decimals of a degree are. If rows are invalid, all of them are listed, with the street and the
+-- Vertices are equal if seven decimals of a degree are. If rows are invalid, they are listed, up to 20 for each reason and
 -- column, and nothing is changed.
 --
 -- Numbers are stable. A node keeps its number if it is where it was, or if all streets that were split there agree on one new
@@ -48,8 +48,10 @@ create or replace function street_vertices(geom geometry) returns geometry langu
 $$;
 
 create or replace function wrong_streets() returns text language sql stable as $$
-    select string_agg(format('street %s: %s', coalesce(id, 'without id'), reason), E'\n' order by id, reason)
-    from (
+    select string_agg(format('street %s: %s', array_to_string(ids[:20], ', ')
+        || case when cardinality(ids) > 20 then format(' and %s others', cardinality(ids) - 20) else '' end, reason), E'\n'
+        order by ids, reason)
+    from (select array_agg(distinct coalesce(id, 'without id')) as ids, reason from (
         select id::text as id, reason
         from (select *, count(*) over (partition by id) as same from streets) as street
         cross join lateral (values
@@ -70,7 +72,7 @@ create or replace function wrong_streets() returns text language sql stable as $
                     then 'geom is beyond the longitudes -180 to 179.9999 or the latitudes -89.9999 to 89.9999' end)
         ) as found(reason)
         where reason is not null
-    ) as wrong
+    ) as wrong group by reason) as by_reason
 $$;
 
 create or replace function split_streets()

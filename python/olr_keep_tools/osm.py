@@ -9,10 +9,11 @@ XML is read by the standard library, every other format by Debian's `python3-pyo
 import array
 import bisect
 import itertools
+import os
 import sys
 import xml.parsers.expat
 from collections import Counter
-from typing import IO, TYPE_CHECKING, Any, Callable, Dict, Iterable, List, Mapping, NamedTuple, Optional, Tuple
+from typing import IO, TYPE_CHECKING, Any, Callable, Dict, Iterable, Iterator, List, Mapping, NamedTuple, Optional, Tuple
 
 from .records import UNITS
 
@@ -20,6 +21,7 @@ from .records import UNITS
 CLASSES = {"motorway": 0, "trunk": 1, "primary": 2, "secondary": 3, "tertiary": 4, "unclassified": 5, "road": 5}
 CLASSES |= {"residential": 6, "living_street": 6, "service": 7}
 FERRY = 5
+MOST_INFLATED = 100  # times a PBF file that its blocks may be
 
 # Forms of way.
 MOTORWAY, MULTIPLE, SINGLE, ROUNDABOUT, SLIP_ROAD, OTHER = 1, 2, 3, 4, 6, 7
@@ -32,7 +34,7 @@ OPEN = ("yes", "permissive", "designated", "official", "public", "destination", 
 ONE_WAY, BACKWARD = ("yes", "true", "1"), ("-1", "reverse")
 BOTH_WAYS, BY_TIME = ("no", "false", "0", "alternating"), ("reversible",)
 ROUND = ("roundabout", "circular")
-TAGS = {"highway", "route", "area", "junction", "dual_carriageway", *WHO}
+TAGS = {"highway", "route", "area", "junction", "dual_carriageway", "name", "ref", *WHO}
 TAGS |= {f"{it}:{way}" for it in WHO for way in ("forward", "backward")} | {"oneway", *(f"oneway:{it}" for it in WHO)}
 
 
@@ -129,8 +131,9 @@ class Access(NamedTuple):
 class Extract:
     """What was read: places, ways, how many were left out for which reason, and the values of tags that are not known."""
 
-    def __init__(self, with_ferries: bool):
-        self.with_ferries, self.places = with_ferries, Places()
+    def __init__(self, with_ferries: bool, with_names: bool = False):
+        self.with_ferries, self.with_names, self.places = with_ferries, with_names, Places()
+        self.names: Dict[int, Tuple[str, str]] = {}  # the name and the number of each way that is used, if they are wanted
         self.roads: Dict[int, Tuple[Numbers, Road]] = {}
         self.ways: List[Way] = []
         self.left_out: Counter[str] = Counter()
@@ -148,6 +151,8 @@ class Extract:
         if road:
             self.twice += number in self.roads
             self.roads[number] = (refs, road)
+            if self.with_names and ("name" in tags or "ref" in tags):
+                self.names[number] = tags.get("name", ""), tags.get("ref", "")
 
     def road_of(self, tags: Tags) -> Optional[Road]:
         """The road that a way with these tags is, or None if it is none. Raises LeftOut for one that isn't used."""
@@ -282,9 +287,49 @@ def read_xml(file: IO[bytes], extract: Extract) -> None:
         parser.ParseFile(file)
     except KeyError as error:
         raise OsmError(f"line {parser.CurrentLineNumber}: an element has no attribute {error}") from None
-    except (xml.parsers.expat.ExpatError, ValueError, OverflowError) as error:
+    except (xml.parsers.expat.ExpatError, ValueError, OverflowError, LookupError) as error:
         where = "" if isinstance(error, xml.parsers.expat.ExpatError) else f"line {parser.CurrentLineNumber}: "
         raise OsmError(f"not OpenStreetMap XML ({where}{error})") from None
+
+
+# ---- other formats
+
+
+def fields_of(file: IO[bytes], end: int) -> Iterator[Tuple[int, int]]:
+    """The fields of a message of Protocol Buffers, from where a file stands up to an end: the number of each, and its value, or the
+    length of its bytes, which are skipped."""
+    while file.tell() < end:
+        tag = varint(file)
+        value = varint(file)
+        yield tag >> 3, value
+        if tag & 7 == 2:
+            file.seek(value, os.SEEK_CUR)
+
+
+def varint(file: IO[bytes]) -> int:
+    """A number of a message."""
+    value = shift = 0
+    while byte := file.read(1):
+        value |= (byte[0] & 127) << shift
+        shift += 7
+        if byte[0] < 128 or shift > 63:
+            break
+    return value
+
+
+def refuse_inflated(name: str) -> None:
+    """Fails for a PBF file whose blocks are far larger than it: they would be read for minutes."""
+    inflated, at, size = 0, 0, os.path.getsize(name)
+    with open(name, "rb") as file:
+        while len(head := file.read(4)) == 4 and (length := int.from_bytes(head, "big")) < 1 << 16:
+            at += 4 + length
+            of_block = dict(fields_of(file, min(at, size))).get(3, 0)
+            file.seek(at)
+            at += of_block
+            inflated += dict(fields_of(file, min(at, size))).get(2, 0)
+            file.seek(at)
+    if inflated > MOST_INFLATED * size:
+        raise OsmError(f"its blocks are {inflated // max(1, size)} times as large as the file: it is not read")
 
 
 def read_other(name: str, extract: Extract) -> None:
@@ -296,6 +341,7 @@ def read_other(name: str, extract: Extract) -> None:
         hint = "install Debian's python3-pyosmium and run this with /usr/bin/python3, or convert it"
         raise OsmError(f"not OpenStreetMap XML, and {lacks}: {hint}: osmium cat {name} -o FILE.osm") from None
 
+    refuse_inflated(name)
     places = extract.places
     add, add_lon, add_lat = places.ids.append, places.lons.append, places.lats.append
 
@@ -324,9 +370,9 @@ def read_other(name: str, extract: Extract) -> None:
         raise OsmError(f"not an OpenStreetMap file ({error}); to convert it: osmium cat {name} -o FILE.osm") from None
 
 
-def read_osm(name: str, with_ferries: bool) -> Extract:
+def read_osm(name: str, with_ferries: bool, with_names: bool = False) -> Extract:
     """The extract in a file. Raises OSError if it can't be opened, and OsmError if it is no OpenStreetMap file with ways."""
-    extract = Extract(with_ferries)
+    extract = Extract(with_ferries, with_names)
     with open(name, "rb") as file:
         is_xml = file.peek(64)[:64].lstrip(b"\xef\xbb\xbf \t\r\n").startswith(b"<")
         if is_xml or not file.peek(1):

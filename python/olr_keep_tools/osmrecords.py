@@ -2,9 +2,11 @@
 import array
 import itertools
 import os
+import re
 from collections import Counter
 from typing import TYPE_CHECKING, Callable, Dict, Iterable, Iterator, List, Mapping, NamedTuple, Optional, Set, Tuple
 
+from .extent import extent_of
 from .files import FileFailure
 from .geo import geodesic, great_circle
 from .osm import Extract, Places, Road
@@ -14,6 +16,10 @@ MOST_SHAPE_POINTS = 1000
 # A path with a line of more than 15 km is not encodable, so a way without a junction for longer is cut.
 LONGEST = 140000
 LENGTHS = {False: "sphere", True: "spheroid"}
+MOST_NUMBER = (1 << 32) - 1  # of a node or a line
+NODE = r"-?[0-9]+(?:\+-?[0-9]+\+[0-9]+)?"  # the number of a node, or an added one between two others
+LINE = re.compile(rf"-?[0-9]+:{NODE}:{NODE}:[+-]:[0-9]+")
+KEYS = {"node": re.compile(NODE), "line": LINE, "split": LINE, "lengths": re.compile("|".join(LENGTHS.values()))}
 
 
 if TYPE_CHECKING:
@@ -43,7 +49,9 @@ class Numbers:
         self.new: List[Tuple[str, int]] = []
 
     def put(self, key: str, number: int) -> None:
-        """Adds a row of the table."""
+        """Adds a row of the table. Raises ValueError for one that no run can have written."""
+        if not KEYS[self.kind].fullmatch(key) or not 1 <= number <= MOST_NUMBER:
+            raise ValueError(f"{self.kind} {key} {number}")
         self.table[key] = number
         self.last = max(self.last, number)
 
@@ -75,9 +83,12 @@ def read_table(file: Optional[str]) -> Dict[str, Numbers]:
             for count, row in enumerate(rows, 1):
                 try:
                     kind, key, number = row.split()
-                    tables[kind].put(key, int(number))
+                    tables[kind].put(key, int(number) if re.fullmatch("[0-9]{1,10}", number) else 0)
                 except (ValueError, KeyError):
                     raise FileFailure(f"{file}:{count}: not a row of a table of numbers: {row.rstrip()[:80]!r}") from None
+        taken = Counter(tables["node"].table.values())
+        if twice := next((it for it, times in taken.items() if times > 1), None):
+            raise FileFailure(f"{file}: the number {twice} is that of several nodes")
     return tables
 
 
@@ -255,6 +266,16 @@ def records(parts: List[Part], places: Places, nodes: Numbers, numbers: Integers
             yield f"line,{next(number)},{last},{first},{kind},{shape(steps[::-1], inner[::-1])}\n"
 
 
+def named(parts: Iterable[Part], names: Mapping[int, Tuple[str, str]], numbers: Integers) -> Iterator[Tuple[object, ...]]:
+    """The number of each line of a way that has a name or a number, with both."""
+    number = iter(numbers)
+    for part in parts:
+        for _ in range(part.road.forward + part.road.backward):
+            line = next(number)
+            if part.way in names:
+                yield line, *names[part.way]
+
+
 def parts_of(extract: Extract, measure: Measure) -> List[Part]:
     """The parts of all ways."""
     places = extract.places
@@ -272,6 +293,14 @@ def report(extract: Extract, count: int) -> Iterator[str]:
         yield f"ways that are given twice, of which the last counts: {extract.twice}"
     if extract.unknown:
         yield "values that are not known, and not used" + many("", extract.unknown)
+
+
+def extent(parts: List[Part], places: Places) -> Iterator[str]:
+    """A line of text on where the roads are, if there are some."""
+    if parts:
+        ends = [(part.nodes[0], part.nodes[-1]) for part in parts]
+        coordinates = ((places.lons[it] / UNITS, places.lats[it] / UNITS) for both in ends for it in both)
+        yield f"the roads lead {extent_of(coordinates, ends).text()}"
 
 
 def many(title: str, counts: Mapping[str, int]) -> str:

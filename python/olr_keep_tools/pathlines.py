@@ -1,31 +1,30 @@
-"""Finds the lines of the paths of tools/live on the map of its tables. What an operator gave, streets or a course, is tried
-first; if it can't be had, the path is sought where it was, and is found elsewhere."""
+"""Finds the lines of the paths of tools/live on the map of its tables. What an operator gave, streets or a course, decides where
+a path is at first. From then on it is sought on the road of this course, and if that can't be had, it is found elsewhere."""
 from __future__ import annotations
 
 import bisect
 import enum
-import itertools
 import math
 import struct
 from collections import defaultdict
-from typing import Any, Container, Dict, FrozenSet, Iterable, Iterator, List, Mapping, NamedTuple, Optional, Sequence, Set, Tuple
-from typing import Union
+from typing import Any, Dict, FrozenSet, Iterable, Iterator, List, Mapping, NamedTuple, Optional, Sequence, Set, Tuple, Union
 
-from .courses import CELL, DRAWN, Box, Ends, Follower, Found, Line, Lost, Network, Plane, Polyline, Strip, Wish
-from .geo import METRES, between
+from .courses import CELL, DRAWN, Box, Ends, Follower, Found, Lost, Network, Plane, Polyline, Wish, cells_along, cells_near, reach
+from .roads import WIDER, Given, LastMap, Roads, Verdict
+from .geo import METRES
 from .routes import Waiting
+from .sql import Course, Place, coordinates, number_array, text_array
 from .streets import LATITUDES, LONGITUDES, are_between
 
 AGAINST = 1e6  # the cost of a street against its geometry where its direction isn't given
 STRAY = 10.0  # the cost of a metre between an end of the path and that of its lines
-SAME_ROAD = 5.0  # metres from where a path was, within which a line of the same kind is the same road
+LEFT = 20  # decimetres of a street beyond an end of a path that are nothing
+FINE = CELL / 4  # degrees of the cells by which the lines near a course are found
 RUN = 8  # cells of a row, and rows, that are read at once
 FAR, WIDE = 100_000.0, 0.6  # metres between two coordinates of a course, and degrees that may be so far
-COUNT, COORDINATE = struct.Struct("<I"), struct.Struct("<dd")  # of WKB
+COORDINATE = struct.Struct("<dd")  # of WKB
 
 
-Place = Tuple[float, float]
-Course = Tuple[Place, ...]
 Kind = Tuple[int, int, bool]
 Cell = Tuple[int, int]
 Result = Union[Found, Lost]
@@ -59,14 +58,6 @@ def is_far(a: Place, b: Place) -> bool:
     return max(abs(a[0] - b[0]), abs(a[1] - b[1])) > WIDE and apart(a, b) > FAR
 
 
-class Road(NamedTuple):
-    """A stretch of a path's road as it was: its decimetres, its street, and its kind (class, form, whether it is two-way)."""
-
-    length: int
-    street: str
-    kind: Kind
-
-
 class State(enum.Enum):
     """Where a path is: as its streets or its course say, elsewhere, or on no lines."""
 
@@ -76,8 +67,9 @@ class State(enum.Enum):
 
 
 class Known(NamedTuple):
-    """A path as it was found last; `nodes` are those at its ends, or None where they are no longer there. `said_course`
-    and `roads` are where it was when it was last found as said, and `said_ends` which of its ends were at junctions at first."""
+    """A path as it was found last; `nodes` are those at its ends, or None where they are no longer there. `given` is its course
+    as it was given, or None if it was never found, with the streets of then, and which of its ends were at junctions. `last` is the map on
+    which it was last as given, if it isn't now, and `off` how many metres it is off the given course."""
 
     lines: List[int]
     streets: List[str]
@@ -87,9 +79,11 @@ class Known(NamedTuple):
     course: Optional[Course]
     definition: str
     state: State
-    said_course: Optional[Course]
-    roads: List[Road]
-    said_ends: Ends
+    given: Optional[Course]
+    given_ends: Ends
+    given_streets: List[str]
+    last: Optional[LastMap] = None
+    off: Optional[float] = None
 
     def at_junctions(self) -> Ends:
         """Which of its ends are at junctions."""
@@ -128,20 +122,27 @@ class Row(NamedTuple):
         return int(self.frc), int(self.fow), self.direction == "both"
 
 
+class Remark(NamedTuple):
+    """What an operator should know of a path that is as given: the kind of problem, and what it is in words."""
+
+    kind: str
+    words: str
+    place: Optional[Place]
+
+
 class Placement(NamedTuple):
-    """Where a path is found, and why not as said; `lost_at` are the places from which on no lines were found."""
+    """Where a path is found, and why not as given; `lost_at` are the places from which on no lines were found. `off` is how many
+    metres it is off the given course, and `last` the map on which it was last as given. `has_rival` is whether a problem that two
+    roads follow its course isn't mended."""
 
     state: State
     found: Optional[Found] = None
     why: Optional[Lost] = None
     lost_at: Tuple[Place, ...] = ()
-
-
-class Edited(NamedTuple):
-    """What a round changes under the paths: the numbers of lines that lie elsewhere now, and the streets that are new."""
-
-    moved: Set[int]
-    fresh: Set[str]
+    off: Optional[float] = None
+    last: Optional[LastMap] = None
+    remarks: Tuple[Remark, ...] = ()
+    has_rival: bool = False
 
 
 FIELDS = """line.line, from_node, to_node, split_part(fields, ',', 1), split_part(fields, ',', 2), length, line.street,
@@ -150,53 +151,6 @@ COLUMNS = f"{FIELDS}, ST_AsBinary(geom, 'NDR')"
 ONE_WAY = f"{FIELDS}, case when along or street.direction <> 'both' then ST_AsBinary(geom, 'NDR') end"
 BOXES = "unnest(%s::float8[], %s::float8[], %s::float8[], %s::float8[]) with ordinality as box(w, s, e, n, number)"
 LINES = "olr_keep.line join olr_keep.street on street.street = line.street"
-
-
-def coordinates(shape: Optional[bytes]) -> Optional[Course]:
-    """The coordinates of a little-endian WKB LineString, or None."""
-    if shape is None:
-        return None
-    (count,) = COUNT.unpack_from(shape, 5)
-    numbers = struct.unpack_from(f"<{2 * count}d", shape, 9)
-    return tuple(zip(numbers[::2], numbers[1::2]))
-
-
-def point(place: Optional[Place]) -> Optional[str]:
-    """A place as EWKT, or None."""
-    return None if place is None else "SRID=4326;POINT({:.7f} {:.7f})".format(*place)
-
-
-def text_array(items: Iterable[object]) -> str:
-    """The text of an array of these, as PostgreSQL reads it."""
-    found = list(map(str, items))
-    text = '","'.join(found)
-    if "\\" in text or text.count('"') > 2 * (len(found) - 1):
-        text = '","'.join(it.replace("\\", "\\\\").replace('"', '\\"') for it in found)
-    return f'{{"{text}"}}' if found else "{}"
-
-
-def number_array(items: Iterable[object]) -> str:
-    """The text of an array of these numbers."""
-    return "{" + ",".join(map(str, items)) + "}"
-
-
-def reach(course: Sequence[Place], tolerance: float) -> Place:
-    """Somewhat more than the tolerance, in degrees east and north of a course."""
-    high = 1.1 * tolerance / METRES
-    return high / max(0.01, math.cos(math.radians(max([abs(it[1]) for it in course])))), high
-
-
-def cells_near(course: Sequence[Place], tolerance: float) -> Set[Cell]:
-    """The cells in which lines near a course may have points."""
-    wide, high = reach(course, tolerance)
-    places = list(course[:1])
-    for a, b in zip(course, course[1:]):
-        count = int(max(abs(b[0] - a[0]), abs(b[1] - a[1])) / CELL) + 1
-        places += [between(a, b, k / count) for k in range(1, count)] if count > 1 else ()
-        places.append(b)
-    boxes = [((x - wide) // CELL, (x + wide) // CELL, (y - high) // CELL, (y + high) // CELL) for x, y in places]
-    ranges = {(min(a[0], b[0]), max(a[1], b[1]), min(a[2], b[2]), max(a[3], b[3])) for a, b in {*zip(boxes, boxes[1:])}}
-    return {(x, y) for w, e, s, n in ranges for x in range(int(w), int(e) + 1) for y in range(int(s), int(n) + 1)}
 
 
 def consecutive(numbers: Sequence[int]) -> Iterator[Tuple[int, int]]:
@@ -256,6 +210,8 @@ class Ways(Network):
         super().__init__({})
         self.lines = self.rows = Rows()
         self.beside: Dict[Place, List[int]] = {}
+        self.grid: Dict[Cell, List[int]] = defaultdict(list)
+        self.without_cells: List[int] = []
 
     def take(self, found: Iterable[Tuple[Any, ...]]) -> None:
         """Adds what a query found."""
@@ -265,6 +221,7 @@ class Ways(Network):
             if number in read:
                 continue
             read[number] = it
+            self.without_cells.append(number)
             leaving[start].append((number, end))
             if shape is not None:
                 shapes[it[6:10]] = shape
@@ -277,7 +234,19 @@ class Ways(Network):
 
     def near(self, place: Place, east: float, north: float) -> List[int]:
         """The lines near an end of a course."""
-        return [it for it in self.beside[place] if it in self.rows]
+        if place in self.beside:
+            return [it for it in self.beside[place] if it in self.rows]
+        return sorted(self.around((place, place), north * METRES))
+
+    def around(self, course: Sequence[Place], metres: float) -> Dict[int, Row]:
+        """The lines that may be within this distance of a course, of those that were read."""
+        for number in self.without_cells:
+            points = self.rows[number].points
+            for cell in set().union(*(cells_along(a, b, FINE) for a, b in zip(points, points[1:]))):
+                self.grid[cell].append(number)
+        self.without_cells.clear()
+        numbers = {it for cell in cells_near(course, metres, FINE) for it in self.grid.get(cell, ())}
+        return {it: self.rows[it] for it in sorted(numbers)}
 
 
 class Finder:
@@ -313,7 +282,7 @@ class Finder:
         """Reads the lines near courses, by cells. What was read is used when it is needed."""
         new = {*courses} - self.courses
         self.courses |= new
-        cells = set().union(*(cells_near(it, self.tolerance) for it in new)) - self.cells
+        cells = set().union(*(cells_near(it, max(self.tolerance, WIDER)) for it in new)) - self.cells
         if cells:
             self.ask(f"""select {ONE_WAY} from {BOXES} cross join lateral (
                 select * from olr_keep.line where geom && ST_MakeEnvelope(w, s, e, n, 4326) offset 0
@@ -340,6 +309,11 @@ class Finder:
         self.unused.clear()
         return self.network
 
+    def around(self, course: Course) -> Dict[int, Row]:
+        """The lines that may be as near to a course as other roads matter."""
+        self.near(course)
+        return self.network.around(course, WIDER)
+
     def read_streets(self, streets: Set[str]) -> None:
         """Reads the lines of streets."""
         new = {it for it in streets if it not in self.streets}
@@ -365,51 +339,14 @@ def marked_street(text: str) -> Tuple[str, str]:
     return (text[0], text[1:]) if text[:1] in "<>" else ("", text)
 
 
-class WhereItWas:
-    """Where a path was when it was last found as said, and whether a line is the road there."""
-
-    def __init__(self, known: Known, course: Course, edited: Edited) -> None:
-        self.course, self.roads, self.at_junctions, self.edited = course, known.roads, known.said_ends, edited
-        self.own = frozenset(known.lines if known.state is State.SAID else ())
-        self.ends = list(itertools.accumulate(it.length for it in self.roads)) or [0]
-        self.plane = Plane(course[0][1])
-        self.strip = Strip([self.plane.flat(it) for it in course], 50.0)
-
-    @property
-    def streets(self) -> FrozenSet[str]:
-        """The streets of then."""
-        return frozenset(it.street for it in self.roads)
-
-    def near(self, low: float, high: float, length: float) -> List[Road]:
-        """The roads that were between these positions of a course of this length, and 40 m or 1 % beyond."""
-        scale = self.ends[-1] / (length or 1)
-        slack = max(400.0, 0.01 * self.ends[-1])
-        first = bisect.bisect_left(self.ends, low * scale - slack)
-        last = bisect.bisect_left(self.ends, high * scale + slack)
-        return self.roads[first : last + 1]
-
-    def unlike(self, number: int, line: Line, low: float, high: float, length: float) -> float:
-        """How sure it is that a line is another road, from 0 to 1: 0 if it has the number of then, or is of its kind, or of its
-        street, and within a few metres; a half if it is of its street elsewhere, or of its kind and a new street."""
-        if number in self.own:
-            return 0.0
-        roads = self.near(low, high, length)
-        has_street, has_kind = any(it.street == line.street for it in roads), any(it.kind == line.kind for it in roads)
-        if (has_street or has_kind) and all(self.strip.is_near(self.plane.flat(it), SAME_ROAD) for it in line.points):
-            return 0.0
-        return 0.5 if has_street or has_kind and line.street in self.edited.fresh else 1.0
-
-
 class PathSearch:
-    """The search for one path."""
+    """The search for one path; `untouched` is whether its lines are as they were before the round, and `before` finds lines of the
+    map as it was then."""
 
-    def __init__(self, finder: Finder, wanted: Wanted, known: Optional[Known], edited: Edited) -> None:
-        self.finder, self.wanted, self.edited = finder, wanted, edited
+    def __init__(self, finder: Finder, wanted: Wanted, known: Optional[Known], before: Optional[Finder],
+                 untouched: bool = False) -> None:
+        self.finder, self.wanted, self.before, self.untouched = finder, wanted, before, untouched
         self.known = known if known is not None and known.definition == wanted.definition else None
-        self.was: Optional[WhereItWas] = None
-        if self.known is not None and self.known.said_course:
-            self.was = WhereItWas(self.known, self.known.said_course, edited)
-        self.other_road: Optional[Found] = None
         self.followers: Dict[Course, Follower] = {}
         self.lost: List[Lost] = []
 
@@ -418,11 +355,12 @@ class PathSearch:
         fault = self.wanted.fault()
         if fault:
             return Placement(State.LOST, None, fault)
+        if self.known is not None and self.known.given is not None:
+            return self.on_road(self.known, self.known.given)
         said = self.as_said()
         if isinstance(said, Found):
-            return Placement(State.SAID, said)
-        elsewhere = self.elsewhere(self.known) if self.known else None
-        return Placement(State.ELSEWHERE, elsewhere, said) if elsewhere else Placement(State.LOST, None, said, self.lost_at())
+            return Placement(State.SAID, said, off=0.0)
+        return Placement(State.LOST, None, said, self.lost_at())
 
     def lost_at(self) -> Tuple[Place, ...]:
         """Where the searches ended: a street that is edited elsewhere doesn't lead to other results."""
@@ -432,70 +370,76 @@ class PathSearch:
 
     def as_said(self) -> Result:
         """The lines of the streets, or else of the course, that the operator gave."""
-        by_streets: Result = Lost("it has neither streets nor a course", None)
-        if self.wanted.streets:
-            by_streets = self.finder.by_streets(self.wanted.streets, None, 0)
+        by_streets = self.by_given_streets()
         if isinstance(by_streets, Found) or not self.wanted.course:
             return by_streets
-        by_course = self.within(self.wanted.course) or self.by_said_course(self.wanted.course)
+        by_course = self.follow(self.wanted.course, Wish(snap=DRAWN, has_rivals=True))
         return by_course if isinstance(by_course, Found) or not self.wanted.streets else by_streets
 
-    def within(self, course: Course) -> Optional[Found]:
-        """The lines that the path has, if it still has them, and follows what was drawn as far as they were moved."""
-        if self.known is None or self.known.state is not State.SAID:
-            return None
-        found, moved = self.kept(self.known), self.edited.moved.intersection(self.known.lines)
-        return found if found and (not moved or self.follows(course, found, moved)) else None
+    def by_given_streets(self) -> Result:
+        """The lines of the streets that the operator gave."""
+        if not self.wanted.streets:
+            return Lost("it has neither streets nor a course", None)
+        return self.finder.by_streets(self.wanted.streets, None, 0)
 
-    def follows(self, course: Course, found: Found, moved: Container[int]) -> bool:
-        """Whether the moved ones of these lines, and the ends, are within the tolerance of the course, and the length is its
-        length within 1 % or twice the tolerance."""
-        tolerance, rows = self.finder.tolerance, [self.finder.rows[it] for it in found.lines]
-        ends = course_of(rows[:1], found.start, found.end if len(rows) == 1 else 0), course_of(rows[-1:], 0, found.end)
-        if apart(ends[0][0], course[0]) > tolerance or apart(ends[1][-1], course[-1]) > tolerance:
-            return False
-        plane = Plane(course[0][1])
-        strip = Strip([plane.flat(it) for it in course], max(50.0, tolerance))
-        length = sum(it.length for it in rows) - found.start - found.end
-        if abs(length / 10 - strip.length) > max(0.01 * strip.length, 2 * tolerance):
-            return False
-        points = [it for row in rows[1:-1] if row.number in moved for it in row.points]
-        points += [*ends[0], *(ends[1] if len(rows) > 1 else ())]
-        return all(strip.is_near(plane.flat(it), tolerance) for it in points)
+    # ---- on the road where it was given
 
-    def by_said_course(self, course: Course) -> Result:
-        """The lines that follow the drawn course, if they are the road where the path was."""
-        was = self.was
-        if was is None:
-            return self.follow(course, Wish(snap=DRAWN, has_rivals=True))
-        found = self.follow(course, Wish(was.streets, DRAWN, was.at_junctions, was.unlike, True))
-        strange = self.strange(was, found) if isinstance(found, Found) else None
-        if strange is None or isinstance(found, Lost):
-            return found
-        self.other_road = found
-        words = f"street {strange.street} is not the road that was there"
-        if all(it.kind != strange.kind for it in was.roads):
-            words += ": it has class {}, form {}, {}".format(*strange.kind[:2], "two-way" if strange.kind[2] else "one-way")
-        return Lost(words, strange.points[len(strange.points) // 2])
+    def on_road(self, known: Known, given: Course) -> Placement:
+        """The lines of the road of the given course."""
+        is_given, kept = known.state is State.SAID, self.kept(known)
+        if is_given and self.untouched and kept:
+            return Placement(State.SAID, kept, off=known.off, remarks=self.remarks(kept), has_rival=True)
+        last = self.last_map(known, given) if is_given else known.last
+        near, network = self.finder.around(given), self.finder.near(given)
+        answer = Roads(Given(given, *known.given_ends, streets_of(known.given_streets)), last, near, network, self.finder.tolerance).decide()
+        found = answer.found
+        if isinstance(found, Found) and answer.verdict is Verdict.THERE:
+            return Placement(State.SAID, found, off=answer.off, remarks=self.remarks(found), has_rival=answer.is_beside)
+        if isinstance(found, Lost):
+            self.lost.append(found)
+        lines = found if isinstance(found, Found) else self.elsewhere(known)
+        why = Lost(answer.words(), answer.place)
+        if lines:
+            return Placement(State.ELSEWHERE, lines, why, last=last)
+        return Placement(State.LOST, None, why, self.lost_at(), last=last)
 
-    def strange(self, was: WhereItWas, found: Found) -> Optional[Row]:
-        """The first line that isn't the road where the path was, or None."""
+    def last_map(self, known: Known, given: Course) -> Optional[LastMap]:
+        """The map before the round, as far as it is near."""
+        lines = self.before.around(given) if self.before else {}
+        return LastMap(lines, known.lines, (known.start, known.end)) if known.lines and all(it in lines for it in known.lines) else None
+
+    def remarks(self, found: Found) -> Tuple[Remark, ...]:
+        """What an operator who gave streets should know of the lines that were found."""
+        if not self.wanted.streets:
+            return ()
+        marked = [marked_street(it)[1] for it in self.wanted.streets]
+        self.finder.read_streets({*marked})
         rows = [self.finder.rows[it] for it in found.lines]
-        total, low = sum(it.length for it in rows) - found.start - found.end, -found.start
-        for row in rows:
-            begin, end = max(0, low) / 10, min(total, low + row.length) / 10
-            if was.unlike(row.number, row, begin, end, total / 10) == 1:
-                return row
-            low += row.length
-        return None
+        under = {it.street for it in rows}
+        remarks = [Remark("not on its street", f"street {it} is not under it any more", self.finder.rows[lines[0]].points[0])
+                   for it in dict.fromkeys(marked) if it not in under and (lines := self.finder.streets[it])]
+        for street, row, cut, words in ((marked[0], rows[0], found.start, "begins {} m before it"),
+                                        (marked[-1], rows[-1], found.end, "ends {} m farther on")):
+            left = cut + self.left(row, row is rows[-1]) if row.street == street else 0
+            if left > LEFT:
+                place = row.points[-1 if row is rows[-1] else 0]
+                remarks.append(Remark("farther on", f"street {street} " + words.format(round(left / 10)), place))
+        return tuple(remarks)
 
-    # ---- where it was
+    def left(self, row: Row, is_end: bool) -> int:
+        """The decimetres of a line's street beyond it in its direction, or before it."""
+        rows = [self.finder.rows[it] for it in self.finder.streets[row.street]]
+        rows = [it for it in rows if it.along == row.along and it.part == row.part]
+        return sum(it.length for it in rows if (it.k > row.k if is_end == row.along else it.k < row.k))
+
+    # ---- elsewhere
 
     def elsewhere(self, known: Known) -> Optional[Found]:
-        """The lines where the path was, as far as they can be had."""
-        attempts = self.by_where_it_was, self.kept, self.by_last_course, self.by_last_streets, self.by_any_streets
-        found = (it for it in (attempt(known) for attempt in attempts) if isinstance(it, Found))
-        return self.other_road or next(found, None)
+        """The lines where the path is instead, as far as they can be had."""
+        if isinstance(found := self.by_given_streets(), Found):
+            return found
+        attempts = self.kept, self.by_last_course, self.by_last_streets, self.by_any_streets
+        return next((it for it in (attempt(known) for attempt in attempts) if isinstance(it, Found)), None)
 
     def follow(self, course: Course, wish: Wish) -> Result:
         """The lines that follow a course."""
@@ -506,11 +450,6 @@ class PathSearch:
         if isinstance(found, Lost):
             self.lost.append(found)
         return found
-
-    def by_where_it_was(self, _: Known) -> Optional[Result]:
-        """The lines that follow the course on which the path was last found as said."""
-        was = self.was
-        return self.follow(was.course, Wish(was.streets, ends=was.at_junctions, unlike=was.unlike)) if was else None
 
     def kept(self, known: Known) -> Optional[Found]:
         """The same lines, if all are there and join; what is cut off them at the ends stays at its coordinates."""
@@ -525,9 +464,9 @@ class PathSearch:
 
     def by_last_course(self, known: Known) -> Optional[Result]:
         """The lines that follow the last course."""
-        if not known.course or self.was and known.course == self.was.course:
+        if not known.course or known.course == known.given:
             return None
-        return self.follow(known.course, Wish(frozenset(streets_of(known)), ends=known.at_junctions()))
+        return self.follow(known.course, Wish(streets_of(known.streets), ends=known.at_junctions()))
 
     def by_last_streets(self, known: Known) -> Optional[Result]:
         """The lines of the streets that the path led over, from its last start to its last end."""
@@ -553,9 +492,9 @@ def last_ends(known: Known, course: Course) -> LastEnds:
     return LastEnds(known.start, known.end, known.nodes, course)
 
 
-def streets_of(known: Known) -> Set[str]:
+def streets_of(marked: Sequence[str]) -> FrozenSet[str]:
     """The streets of a path without their directions."""
-    return {it[1:] if it[:1] in "<>" else it for it in known.streets}
+    return frozenset(marked_street(it)[1] for it in marked)
 
 
 def cut_before(row: Row, place: Place) -> int:
@@ -575,22 +514,6 @@ def length_of(course: Course) -> float:
     """The length of a course, in metres."""
     plane = Plane(course[0][1])
     return Polyline([plane.flat(it) for it in course]).length
-
-
-def course_of(rows: Sequence[Row], start: int, end: int) -> Course:
-    """The coordinates of lines in order, without these decimetres at their start and end."""
-    points = list(rows[0].points)
-    for it in rows[1:]:
-        points += it.points[1:]
-    if not (start or end):
-        return tuple(points)
-    plane = Plane(points[0][1])
-    shape = Polyline([plane.flat(it) for it in points])
-    first, last = Polyline([plane.flat(it) for it in rows[0].points]), Polyline([plane.flat(it) for it in rows[-1].points])
-    begin = start / rows[0].length * first.length
-    finish = shape.length - end / rows[-1].length * last.length
-    inner = [it for it, far in zip(points, shape.far) if begin < far < finish]
-    return (plane.degrees(shape.at(begin)), *inner, plane.degrees(shape.at(max(begin, finish))))
 
 
 def apart(a: Place, b: Place) -> float:
