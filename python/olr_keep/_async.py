@@ -21,7 +21,8 @@ class AsyncBatch:
 class AsyncKeep:
     """A register whose calls are coroutines, with the calls of `Keep`.
 
-    They are carried out in the order in which they are awaited. One that is cancelled may be carried out all the same.
+    They are carried out in the order in which they are awaited. One that is cancelled may be carried out all the same. After
+    `close` they raise ValueError. A child process that was forked can't use it, since it lacks the thread.
     """
 
     def __init__(self, library: LibraryName = None) -> None:
@@ -30,7 +31,12 @@ class AsyncKeep:
         self._thread = concurrent.futures.ThreadPoolExecutor(1, "olr-keep")
 
     async def _run(self, call: Callable[..., Result], *arguments: Any) -> Result:
-        return await asyncio.get_running_loop().run_in_executor(self._thread, call, *arguments)
+        loop = asyncio.get_running_loop()
+        try:
+            called = loop.run_in_executor(self._thread, call, *arguments)
+        except RuntimeError:  # the thread takes no calls any more
+            raise ValueError("the register is closed") from None
+        return await called
 
     async def text(self, records_text: Text) -> bytes:
         """Carries out records, and returns the bytes of their replies."""
@@ -154,7 +160,7 @@ class AsyncKeep:
         """Frees the register after the calls before, and returns its status. A second call does nothing more."""
         try:
             return await self._run(self._keep.close)
-        except RuntimeError:
+        except ValueError:
             return self._keep.status
         finally:
             self._thread.shutdown(wait=False)

@@ -1,9 +1,10 @@
 """A register in this process."""
 import contextlib
 import ctypes
+import os
 import threading
 import weakref
-from typing import Iterable, Iterator, Optional, Tuple, Union
+from typing import Iterable, Iterator, List, Optional, Tuple, Union
 
 from . import _records as records
 from ._library import ACCEPTED, REJECTED, Handle, LibraryName, load
@@ -11,6 +12,28 @@ from ._records import Degrees, Shape
 from ._replies import Answer, Changes, Explained, Obstacle, Rejected, Reply, replies_of
 
 Text = Union[str, bytes, bytearray, memoryview]
+
+
+_registers: "weakref.WeakSet[Keep]" = weakref.WeakSet()
+_registering = threading.Lock()
+_forking: List[threading.Lock] = []  # the locks that are held during a fork
+
+
+def _before_fork() -> None:
+    """Waits until no thread is within a call: a child has none that could end it."""
+    _registering.acquire()
+    _forking.append(_registering)
+    for it in list(_registers):
+        it._lock.acquire()
+        _forking.append(it._lock)
+
+
+def _after_fork() -> None:
+    while _forking:
+        _forking.pop().release()
+
+
+os.register_at_fork(before=_before_fork, after_in_parent=_after_fork, after_in_child=_after_fork)
 
 
 class Batch:
@@ -24,7 +47,8 @@ class Keep:
 
     Calls that change something return `Changes`, or raise `Rejected`. They raise MemoryError if memory ran out: `show` or
     `report` shows whether the record was carried out. Several threads may call one register: their calls wait for each other.
-    Its memory is freed by `close`, at the end of a `with` block, or when nothing refers to it any more.
+    Its memory is freed by `close`, at the end of a `with` block, or when nothing refers to it any more. A fork waits for calls of
+    other threads, and then both processes have the register as it is.
     """
 
     def __init__(self, library: LibraryName = None) -> None:
@@ -36,11 +60,14 @@ class Keep:
         self._free = weakref.finalize(self, self._library.olr_keep_drop, self._handle)
         # At the end of the process all memory goes, and another thread may still be in a call.
         self._free.atexit = False
+        with _registering:
+            _registers.add(self)
 
     def text(self, records_text: Text) -> bytes:
         """Carries out records, with or without the last line end, and returns the bytes of their replies.
 
-        An empty line has no reply. Raises TypeError for what is neither text nor bytes, and ValueError after `close`.
+        An empty line has no reply. Raises TypeError for what is neither text nor bytes, and ValueError after `close`. An
+        interrupt is raised after the call, and its replies are lost.
         """
         sent, length = records.bytes_of(records_text), ctypes.c_size_t()
         with self._lock:
@@ -51,7 +78,9 @@ class Keep:
             if status not in (ACCEPTED, REJECTED):
                 raise MemoryError("no memory for a record or its reply")
             at = self._library.olr_keep_text(self._handle, length)
-            return ctypes.string_at(at, length.value)
+            replies = ctypes.string_at(at, length.value)
+            self._held = records.held_after(sent, replies, self._held)
+            return replies
 
     def ask(self, record: Text) -> Optional[Reply]:
         """Carries out a record, with or without its line end, and returns its reply; None for an empty line.
@@ -65,7 +94,6 @@ class Keep:
         if not records.is_one_record(line):
             raise ValueError(f"not one record on one line: {record!r}")
         (reply,) = replies_of(self.text(line).decode("utf-8", "surrogateescape"))
-        self._held = reply.number if reply.word == "held" else self._held
         return reply
 
     def _accepted(self, record: str) -> Reply:
@@ -73,7 +101,6 @@ class Keep:
         (reply,) = replies_of(self.text(record).decode("utf-8", "surrogateescape"))
         if not reply.accepted:
             raise Rejected(record, reply.number, reply.rest)
-        self._held = reply.number if reply.word == "held" else self._held
         return reply
 
     def _change(self, record: str) -> Changes:
@@ -143,7 +170,7 @@ class Keep:
 
         It holds the changes of all threads.
         """
-        batch, self._held = Batch(), 0
+        batch = Batch()
         self.begin()
         try:
             yield batch

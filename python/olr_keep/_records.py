@@ -1,12 +1,13 @@
 """The text of records."""
 import decimal
 import math
+import numbers
 import operator
 import re
 from typing import Iterable, SupportsIndex, Tuple, Union
 
-# Degrees: a number, which is rounded to seven decimals, or a text or decimal, which is used as it is.
-Degrees = Union[float, int, str, decimal.Decimal]
+# Degrees: a number, also of numpy or a fraction, which is rounded to seven decimals, or a text or decimal, which is used as it is.
+Degrees = Union[float, int, str, decimal.Decimal, numbers.Real]
 # The shape points of a line: the distance of each from the line's start, in decimetres, and its longitude and latitude.
 Shape = Iterable[Tuple[int, Degrees, Degrees]]
 
@@ -14,6 +15,7 @@ Shape = Iterable[Tuple[int, Degrees, Degrees]]
 FIELD = rb'(?:"(?:[^"]|"")*"(?:[^",][^,]*)?|[^",][^,]*|)'
 ONE_RECORD = re.compile(rb"(?=[^\r\n]+\Z)" + FIELD + rb"(?:," + FIELD + rb")*")
 PLAIN = re.compile(rb'[^"\r\n]+')
+HELD = re.compile(rb"held,([0-9]+)\n")
 NAME = re.compile(r'[^",\r\n]+')
 
 
@@ -31,8 +33,19 @@ def is_one_record(line: bytes) -> bool:
     return bool(PLAIN.fullmatch(line) or ONE_RECORD.fullmatch(line))
 
 
+def held_after(sent: bytes, replies: bytes, held: int) -> int:
+    """How many changes the open batch holds after these replies, if it held so many before."""
+    if sent.rstrip() == b"begin" and replies == b"ok,0\n":
+        return 0
+    at = replies.rfind(b"held,")
+    found = HELD.match(replies, at) if at == 0 or replies[at - 1 : at] == b"\n" else None
+    return int(found[1]) if found else held
+
+
 def number(value: SupportsIndex) -> str:
-    """A whole number. Raises TypeError for what is none, such as a float."""
+    """A whole number. Raises TypeError for what is none, such as a float or True."""
+    if isinstance(value, bool):
+        raise TypeError("a whole number is no bool")
     return str(operator.index(value))
 
 
@@ -40,13 +53,15 @@ def degrees(value: Degrees) -> str:
     """A coordinate. Raises ValueError for a number that is not finite."""
     if isinstance(value, str):
         return name(value)
-    if isinstance(value, (int, decimal.Decimal)):
-        return f"{value:f}" if isinstance(value, decimal.Decimal) else str(int(value))
-    if not isinstance(value, float):
+    if isinstance(value, decimal.Decimal):
+        return f"{value:f}"
+    if isinstance(value, bool) or not isinstance(value, numbers.Real):
         raise TypeError(f"degrees are a number or a text, not {type(value).__name__}")
+    if isinstance(value, numbers.Integral):
+        return str(int(value))
     if not math.isfinite(value):
         raise ValueError(f"not degrees: {value}")
-    text = f"{value:.7f}".rstrip("0").rstrip(".")
+    text = f"{float(value):.7f}".rstrip("0").rstrip(".")
     return "0" if text == "-0" else text
 
 

@@ -3,10 +3,10 @@
 The program writes records over carriage returns behind the text, and never changes the text. So what stands before the first
 carriage return that is read was there at some moment, whatever is written meanwhile; a copy by blocks may have a gap behind it.
 """
-import os
 from typing import BinaryIO, Iterator
 
 from .command import STREAM, Failure
+from .files import FileFailure, refuse_inputs, replaced
 
 
 def whole(log: BinaryIO) -> Iterator[bytes]:
@@ -23,27 +23,17 @@ def whole(log: BinaryIO) -> Iterator[bytes]:
 
 def copy(log: str, to: str) -> int:
     """Copies a log, and syncs the copy before it gets its name. Returns how many records it has, `begin` and `commit` counted."""
-    part, count = f"{to}.part", -1
+    refuse_inputs([to], [log])
+    count = -1
     with open(log, "rb") as file:
-        if os.path.exists(to) and os.path.samefile(log, to):
-            raise Failure(STREAM, f"{to} is the log itself")
         if file.read(1) != b"\n":
             raise Failure(STREAM, f"{log} doesn't begin with an empty line: it is not a log that olr-keep has written")
         file.seek(0)
         try:
-            with open(part, "wb") as copied:
+            with replaced(to) as copied:
                 for line in whole(file):
                     copied.write(line)
                     count += 1
-                copied.flush()
-                os.fsync(copied.fileno())
-            os.replace(part, to)
-        finally:
-            if os.path.exists(part):
-                os.remove(part)
-    folder = os.open(os.path.dirname(os.path.abspath(to)), os.O_RDONLY)
-    try:
-        os.fsync(folder)
-    finally:
-        os.close(folder)
+        except OSError as error:
+            raise FileFailure(f"{to}: {error.strerror}") from None
     return count

@@ -6,17 +6,34 @@
 
     run_tool(main)
 """
-import argparse
-import contextlib
 import os
 import sys
-from types import TracebackType
-from typing import Callable, NoReturn, Optional, Type
+from types import FrameType, TracebackType
+from typing import Callable, NoReturn, Optional, Set, Type
 
-USAGE, STREAM, INTERRUPTED = 2, 3, 130
 NAME = os.path.basename(sys.argv[0])
 # The folder above those of the tools and of this package.
 TOP = os.path.realpath(os.path.join(os.path.dirname(os.path.realpath(__file__)), "../.."))
+
+
+def without_trace(kind: Type[BaseException], error: BaseException, trace: Optional[TracebackType]) -> None:
+    """Prints an exception that nobody handled; an interrupt before `run_tool` has no trace."""
+    if kind is not KeyboardInterrupt:
+        sys.__excepthook__(kind, error, trace)
+    elif sys.stderr:
+        print(f"{NAME}: interrupted", file=sys.stderr, flush=True)
+
+
+if os.path.dirname(os.path.dirname(os.path.realpath(sys.argv[0]))) == TOP:
+    sys.excepthook = without_trace  # before the imports that take time
+
+import argparse  # noqa: E402
+import contextlib  # noqa: E402
+import shutil  # noqa: E402
+import signal  # noqa: E402
+
+USAGE, STREAM, INTERRUPTED = 2, 3, 130
+MADE: Set[str] = set()  # files and folders that are removed if the tool is terminated
 
 
 class Failure(Exception):
@@ -27,23 +44,39 @@ class Failure(Exception):
         self.status = status
 
 
+def printable(text: str) -> str:
+    """A text as it may be printed on a terminal: with a mark for each character that isn't printed, but for line ends and tabs."""
+    return "".join(it if it.isprintable() or it in "\n\t" else "\ufffd" for it in text)
+
+
 def say(text: str) -> None:
-    """Prints a message on standard error, if it is open."""
+    """Prints a message on standard error, if it is open. It may name files, arguments and records as they are."""
     with contextlib.suppress(OSError):
         if sys.stderr:
-            print(f"{NAME}: {text}", file=sys.stderr, flush=True)
+            print(f"{NAME}: {printable(text)}", file=sys.stderr, flush=True)
+
+
+class Parser(argparse.ArgumentParser):
+    """A parser of the command line whose messages can be printed."""
+
+    def error(self, message: str) -> NoReturn:
+        super().error(printable(message))
 
 
 def command_line(about: Optional[str], usage: Optional[str] = None) -> argparse.ArgumentParser:
     """A parser of the command line, whose help is a text as at the head of a tool: its statuses are printed last."""
     text, statuses, last = (about or "").partition("\n\nstatus: ")
     form = argparse.RawDescriptionHelpFormatter
-    return argparse.ArgumentParser(description=text, epilog=statuses.strip() + " " + last, formatter_class=form, usage=usage)
+    return Parser(description=text, epilog=statuses.strip() + " " + last, formatter_class=form, usage=usage)
 
 
 def run_tool(main: Callable[[], int], interrupted: str = "interrupted") -> NoReturn:
     """Calls the main function of a tool, and ends with the status that it returns, or with that of its failure. If a file or
-    the output fails, the status is 3; if the reader of the output is gone, nothing is printed. An interrupt ends it with 130."""
+    the output fails, the status is 3; if the reader of the output is gone, nothing is printed. An interrupt ends it with 130; a
+    signal that terminates it also removes what is only half made."""
+    for number in (signal.SIGTERM, signal.SIGHUP):
+        if signal.getsignal(number) is signal.SIG_DFL:
+            signal.signal(number, end_by)
     try:
         if sys.stdout is None:
             raise Failure(STREAM, "standard output is closed")
@@ -57,6 +90,10 @@ def run_tool(main: Callable[[], int], interrupted: str = "interrupted") -> NoRet
         status = ended(STREAM, f"{error.filename or 'the output'}: {error.strerror}")
     except MemoryError:
         status = ended(STREAM, "out of memory")
+    except RecursionError:
+        status = ended(STREAM, "the input is nested too deeply")
+    except UnicodeError as error:
+        status = ended(STREAM, f"a name or a text is not UTF-8: {error}")
     except KeyboardInterrupt:
         status = ended(INTERRUPTED, interrupted)
     sys.exit(status)
@@ -74,13 +111,18 @@ def ended(status: int, text: str) -> int:
     return status
 
 
-def without_trace(kind: Type[BaseException], error: BaseException, trace: Optional[TracebackType]) -> None:
-    """Prints an exception that nobody handled; an interrupt before `run_tool` has no trace."""
-    if kind is KeyboardInterrupt:
-        say("interrupted")
-    else:
-        sys.__excepthook__(kind, error, trace)
+def remove(name: str) -> None:
+    """Removes a file, or a folder with all that is in it, if it is there."""
+    with contextlib.suppress(OSError):
+        if os.path.isdir(name) and not os.path.islink(name):
+            shutil.rmtree(name, ignore_errors=True)
+        else:
+            os.unlink(name)
 
 
-if os.path.dirname(os.path.dirname(os.path.realpath(sys.argv[0]))) == TOP:
-    sys.excepthook = without_trace
+def end_by(number: int, _: Optional[FrameType]) -> None:
+    """Removes what is only half made, and ends by this signal, as without a handler."""
+    for name in list(MADE):
+        remove(name)
+    signal.signal(number, signal.SIG_DFL)
+    os.kill(os.getpid(), number)

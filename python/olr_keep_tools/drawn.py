@@ -1,5 +1,5 @@
-"""Paths as they are drawn: the courses of their lines, what their offsets cut off, how their ends are extended to junctions, and
-where they are not encodable. Coordinates are whole units of records.
+"""Paths as they are drawn: the courses of their lines, what their offsets cut off, and how their ends are extended to junctions.
+Coordinates are whole units of records.
 """
 from typing import Dict, List, NamedTuple, Sequence, Tuple
 
@@ -100,31 +100,3 @@ class Junctions:
             now = new[0]
             found.append(now)
             used.add(now)
-
-
-class Refusal(NamedTuple):
-    """Why a path is not encodable, as a text, and where: up to two coordinates, the ends of what is missing."""
-
-    words: str
-    places: List[Degrees]
-
-
-def refusal(state: State, path: Path, answer: Sequence[str], junctions: Junctions) -> Refusal:
-    """Why a path with this answer is not encodable."""
-    kind, at, lines, known = answer[1], int(answer[2]) if len(answer) > 2 else 0, path.lines, state.lines
-    if kind == "1":
-        k = lines.index(at)
-        ends = [state.nodes[known[it].end] for it in lines[max(0, k - 1) : k] if it in known]
-        starts = [state.nodes[known[it].start] for it in lines[k + 1 : k + 2] if it in known]
-        return Refusal(f"Line {at} is not in the map.", [*ends, *starts])
-    if kind == "2":
-        a, b = known[lines[at]], known[lines[at + 1]]
-        words = f"Line {lines[at]} ends at node {a.end}, but the next line, {lines[at + 1]}, starts at node {b.start}."
-        return Refusal(words, [state.nodes[a.end], state.nodes[b.start]])
-    if kind == "3":
-        words = "The offsets together are as long as the path, or longer, so nothing of it is left."
-        return Refusal(words, [place_along(courses(state, lines)[0], path.positive)])
-    whole = [*junctions.extension(lines)[0], *lines]
-    line = known[whole[at]]
-    words = f"No next location reference point can follow node {line.start}: line {whole[at]}, which starts there, is longer"
-    return Refusal(f"{words} than 15 km, or leads more than a third of a degree away.", [state.nodes[line.start]])

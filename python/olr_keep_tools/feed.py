@@ -12,9 +12,9 @@ from typing import Deque, Dict, List, NamedTuple, Optional, Tuple, Union
 
 from . import stream
 from .command import STREAM, USAGE, Failure, say
-from .places import Shares
 from .records import is_open_after, word_of
 from .rejected import advice
+from .shares import Shares
 from .stream import IN_USE, LOST_STREAMS
 
 BYTES = 1 << 16
@@ -50,7 +50,10 @@ class Source:
         """A line as a record without quotes; nothing if it is empty or can't be sent."""
         line = line.rstrip(b"\r")
         text = line.decode("ascii", "replace")
-        fields = next(csv.reader([text]), []) if b'"' in line else [text]
+        try:
+            fields = next(csv.reader([text]), []) if b'"' in line else [text]
+        except csv.Error:  # a NUL, or a field of more than 128 KB
+            fields = ['"']
         record = ",".join(fields)
         if b'"' in line and any(c in it for it in fields for c in '",') or not (record.isascii() and record.isprintable()):
             self.leave_out(f"skipped a record that can't be sent: {text[:200]!r}")
@@ -272,7 +275,7 @@ class Verdicts:
         self.rejected = 0
         self.read: Dict[int, int] = {}
         self.reached = dict.fromkeys(range(shares.count), -1)
-        self.waiting: List[Tuple[int, str]] = []
+        self.waiting: List[Tuple[int, List[str]]] = []
 
     def follow(self, channel: stream.Channel) -> None:
         """Reads the answers of all shares: from where it has read, or from the first message of this feed on."""
@@ -289,12 +292,13 @@ class Verdicts:
         def take(at: int, tag: int, properties: stream.Properties, body: bytes) -> None:
             if at > self.read.get(share, -1):
                 self.read[share] = at
-                offset, part, kind = stream.position_of(properties.message_id)
-                if kind == stream.REJECTED:
-                    self.waiting.append((offset, body.decode("ascii", "replace")))
-                    self.sort_out()
-                elif part == stream.END:
-                    self.reached[share] = max(self.reached[share], offset)
+                if found := stream.answers_of(properties, body):
+                    (offset, part, kind), lines = found
+                    if kind == stream.REJECTED:
+                        self.waiting.append((offset, lines))
+                        self.sort_out()
+                    elif part == stream.END:
+                        self.reached[share] = max(self.reached[share], offset)
             channel.basic_ack(tag)
 
         return take
@@ -303,8 +307,8 @@ class Verdicts:
         """Prints the rejected records of this feed, as soon as it is known which messages are its own."""
         known = [it for it in self.waiting if it[0] <= self.there.seen]
         self.waiting = [it for it in self.waiting if it[0] > self.there.seen]
-        for offset, body in known:
-            for line in body.splitlines() if offset in self.there.before else ():
+        for offset, lines in known:
+            for line in lines if offset in self.there.before else ():
                 index, number, word, record = line.split(",", 3)
                 self.rejected += 1
                 head = f"fault,{number},{word}"

@@ -1,18 +1,22 @@
 """Findings on properties of a map that make strings ambiguous, and on errors of the map, with numbers of lines and nodes."""
+import functools
 import itertools
 import math
 from collections import defaultdict
-from typing import Collection, Dict, FrozenSet, Iterable, Iterator, List, NamedTuple, Sequence, Set, Tuple
+from typing import Callable, Collection, Dict, FrozenSet, Iterable, Iterator, List, NamedTuple, Sequence, Set, Tuple
 
+from .extent import connected
 from .geo import METRES, direction, distance
-from .receiver import CELL, Box, Cell, Road, RoadMap, bearing, cell_of, pieces, place, project, shape_length
+from .receiver import CELL, Box, Cell, Road, RoadMap, bearing, cell_of, is_wide, pieces, place, project, shape_length
 from .refound import SHORT, are_twins
 from .strings import SECTOR, STEP_16, STEP_24
 
 KINDS = ("twin-lines", "alike-lines", "line-over-node", "open-end", "short-line", "same-coordinate", "near-nodes", "under-straight",
-         "over-shape", "over-15-km", "one-way-dead-end", "separate-part", "lone-node")
+         "over-shape", "over-15-km", "over-100-km", "one-way-dead-end", "separate-part", "lone-node", "too-many-near")
+CROWD = 8  # nodes in a cell with which each other one there is compared
 AHEAD = 20.0  # metres over which a bearing is taken
 LONGEST = 15_000  # metres between two location reference points (LRPs) of a string
+FAR = 100_000  # metres; a line with a longer shape has a wrong coordinate
 
 # The greatest difference on each axis, in degrees, between a node and its coordinate in a string. For the first LRP it is less
 # than a step of 360 / 2^24 degrees, since the format truncates the value and decoding adds half a step. Each further LRP adds
@@ -82,6 +86,23 @@ def pairs_alike(roads: RoadMap, numbers: Sequence[int], is_last: bool) -> Iterat
                 yield a, b
 
 
+class TooMany(Exception):
+    """So many nodes are beside lines that no further ones are sought, from this line on."""
+
+
+class Budget:
+    """How many cells and nodes a search may look at: far more than on any map of roads."""
+
+    def __init__(self, lines: int):
+        self.left = 1_000_000 + 500 * lines
+
+    def spend(self, count: int, line: int) -> None:
+        """Counts what was looked at for a line."""
+        self.left -= count
+        if self.left < 0:
+            raise TooMany(line)
+
+
 def neighbours(roads: RoadMap) -> Dict[int, Set[int]]:
     """The nodes that lines connect with each node."""
     beside = defaultdict(set)
@@ -97,7 +118,13 @@ def lines_over_nodes(roads: RoadMap) -> Iterator[Finding]:
     beside = neighbours(roads)
     open_ends: Dict[int, Tuple[float, int]] = {}
     ends = {node for node, others in beside.items() if len(others) == 1}
-    for node, number in sorted(nodes_beside(roads, ends)):
+    found: Set[Tuple[int, int]] = set()
+    try:
+        nodes_beside(roads, ends, found)
+    except TooMany as why:
+        line = int(str(why))
+        yield Finding("too-many-near", (line,), (), f"so many nodes are near lines that from line {line} on none are sought")
+    for node, number in sorted(found):
         road = roads.lines[number]
         far, at = project(road, *roads.nodes[node])
         if far <= SHORT and node in ends and not beside[node].intersection(road[:2]):
@@ -125,33 +152,39 @@ class Leaving(NamedTuple):
     kinds: FrozenSet[Tuple[int, int]]
 
 
-def nodes_beside(roads: RoadMap, ends: Collection[int]) -> Set[Tuple[int, int]]:
-    """Pairs of a node and a line that may pass it: a box of the line, with a margin, contains the node, and the node is one of
-    these ends of roads, or a line with the same class and form leaves it."""
+def nodes_beside(roads: RoadMap, ends: Collection[int], found: Set[Tuple[int, int]]) -> None:
+    """Finds pairs of a node and a line that may pass it: a box of the line, with a margin, contains the node, and the node is one
+    of these ends of roads, or a line with the same class and form leaves it."""
     cells: Dict[Cell, List[Leaving]] = defaultdict(list)
-    found: Set[Tuple[int, int]] = set()
+    budget = Budget(len(roads.lines))
     near: Dict[Tuple[int, int, float, float], List[Leaving]] = {}
     for node, (lon, lat) in roads.nodes.items():
         kinds = frozenset(roads.lines[it][2:4] for it in roads.leaving.get(node, ()))
         cells[cell_of((lon, lat))].append(Leaving(lon, lat, node, kinds))
     for number, road in roads.lines.items():
+        if is_wide(road):
+            continue
         _, lons, lats = zip(*road.points)
         # The two directions of a road have the same points, and their sums are exact.
         key = (min(road[:2]), max(road[:2]), math.fsum(lons), math.fsum(lats))
         if key not in near:
-            near[key] = nodes_in(cells, boxes(road, lons, lats), road[:2])
+            near[key] = nodes_in(cells, boxes(road, lons, lats), road[:2], functools.partial(budget.spend, line=number))
         kind = road[2:4]
-        found.update((it.node, number) for it in near[key] if kind in it.kinds or it.node in ends)
-    return found
+        beside = [(it.node, number) for it in near[key] if kind in it.kinds or it.node in ends]
+        budget.spend(20 * len(beside), number)
+        found.update(beside)
 
 
-def nodes_in(cells: Dict[Cell, List[Leaving]], found_boxes: Iterable[Box], ends: Sequence[int]) -> List[Leaving]:
-    """The nodes within these boxes, but for a line's ends."""
+def nodes_in(cells: Dict[Cell, List[Leaving]], found_boxes: Iterable[Box], ends: Sequence[int],
+             spend: Callable[[int], None]) -> List[Leaving]:
+    """The nodes within these boxes, but for a line's ends. How many nodes and cells it looks at is counted."""
     found = []
     for west, south, east, north in found_boxes:
         for x in range(int(west // CELL), int(east // CELL) + 1):
             for y in range(int(south // CELL), int(north // CELL) + 1):
-                for it in cells.get((x, y), ()):
+                here = cells.get((x, y), ())
+                spend(1 + len(here))
+                for it in here:
                     if south <= it.lat <= north and west <= it.lon <= east and it.node not in ends:
                         found.append(it)
     return found
@@ -184,6 +217,9 @@ def lines_alone(roads: RoadMap) -> Iterator[Finding]:
         # A shape is no shorter than the straight line.
         if road.length > 1.2 * straight + SHORT and road.length > 1.2 * (shape := shape_length(road.points)) + SHORT:
             yield Finding("over-shape", (number,), road[:2], f"line {number}, {road.length:.1f} m, and its shape {shape:.1f} m")
+        if (straight > FAR or is_wide(road)) and (shape := shape_length(road.points)) > FAR:
+            text = f"line {number}, whose shape is of {shape / 1000:.1f} km: it is left out where nodes beside lines are sought"
+            yield Finding("over-100-km", (number,), road[:2], text)
         if road.length > LONGEST:
             yield Finding("over-15-km", (number,), road[:2], f"line {number}, {road.length / 1000:.1f} km")
 
@@ -204,7 +240,8 @@ def nodes_near(roads: RoadMap, point: int) -> Iterator[Finding]:
                     is_same = there == (lon, lat)
                     text = f"nodes {other} and {number}, {distance(there, (lon, lat)):.1f} m apart"
                     yield Finding("same-coordinate" if is_same else "near-nodes", (), (other, number), text)
-        cells[column, row].append(number)
+        if len(cells[column, row]) < CROWD:
+            cells[column, row].append(number)
 
 
 def dead_ends(roads: RoadMap) -> Iterator[Finding]:
@@ -221,16 +258,6 @@ def dead_ends(roads: RoadMap) -> Iterator[Finding]:
 
 def parts(roads: RoadMap) -> Iterator[Finding]:
     """The parts of the map that are not connected to the largest one; a node without lines is no part."""
-    beside, found = neighbours(roads), []
-    seen: Set[int] = set()
-    for node in sorted(beside):
-        if node not in seen:
-            seen.add(node)
-            part = [node]
-            for it in part:
-                more = beside[it] - seen
-                seen |= more
-                part += sorted(more)
-            found.append(part)
+    found = connected(it[:2] for it in roads.lines.values())
     for part in sorted(found, key=len, reverse=True)[1:]:
         yield Finding("separate-part", (), tuple(part), f"{len(part)} nodes, of them node {part[0]}")

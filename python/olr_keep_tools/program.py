@@ -12,8 +12,9 @@ import re
 import select
 import shutil
 import subprocess
+import sys
 from types import TracebackType
-from typing import IO, Iterator, List, NamedTuple, Optional, Sequence, Type, Union
+from typing import IO, Iterator, List, NamedTuple, Optional, Protocol, Sequence, Type, Union
 
 from .command import STREAM, TOP, Failure
 from .replies import UNCHANGED, Head, NoReply, Reply, is_one_record
@@ -21,7 +22,7 @@ from .replies import UNCHANGED, Head, NoReply, Reply, is_one_record
 CHUNK = 1 << 18
 LINE = 64  # bytes, about the length of a line
 UNCHANGED_REPLIES = re.compile(b"(?:ok,0\n)+")
-BESIDE = [os.path.join(TOP, name) for name in ("crates/olr_keep/out/olr_keep", "../../bin/olr-keep")]
+INSTALLED = os.path.join(TOP, "../../bin/olr-keep")
 
 
 class ProgramFailed(Failure):
@@ -39,6 +40,13 @@ class ProgramEnded(ProgramFailed):
         self.exit_status = status
 
 
+class Writable(Protocol):
+    """A file, as far as it is written."""
+
+    def write(self, text: bytes) -> object:
+        """Writes bytes."""
+
+
 class Run(NamedTuple):
     """So many equal replies in a row; more than one only of `ok,0`."""
 
@@ -47,13 +55,24 @@ class Run(NamedTuple):
 
 
 def program_name() -> str:
-    """The program: the variable OLR_KEEP, or the program built in this repository, or the installed one."""
-    beside = next(filter(os.path.exists, BESIDE), None)
-    found = os.environ.get("OLR_KEEP") or beside or shutil.which("olr-keep")
+    """The program: the variable OLR_KEEP, or the proved program of this checkout, or the installed one."""
+    found = os.environ.get("OLR_KEEP") or of_checkout() or (INSTALLED if os.path.exists(INSTALLED) else shutil.which("olr-keep"))
     if not found:
-        raise ProgramFailed("olr-keep is neither built here nor installed: ./olr-keep of a checkout builds it, or the variable "
-                            "OLR_KEEP names it")
+        raise ProgramFailed("olr-keep is not installed: the variable OLR_KEEP may name it")
     return found
+
+
+def of_checkout() -> str:
+    """The proved program of this checkout, or an empty text if this is none."""
+    if not os.path.exists(f"{TOP}/build/shipped.py"):
+        return ""
+    if f"{TOP}/build" not in sys.path:
+        sys.path.append(f"{TOP}/build")
+    import shipped
+    try:
+        return shipped.program()
+    except shipped.NoProduct as why:
+        raise ProgramFailed(f"{why}; the variable OLR_KEEP may name another program") from None
 
 
 class Program:
@@ -120,7 +139,7 @@ class Program:
             raise ProgramFailed(f"{self.name}: {why}") from None
         return Reply(*head, self.lines(head.following))
 
-    def write_dump(self, file: IO[bytes]) -> None:
+    def write_dump(self, file: Writable) -> None:
         """Writes the lines of a dump to a file as they arrive. After a failed write the rest is read, and OSError raised."""
         self.send(b"dump\n")
         head, failure = Head.of(self.lines(1)[0]), None

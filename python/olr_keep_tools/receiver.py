@@ -18,6 +18,7 @@ from .routes import Search, Step
 from .strings import Onward, Point, Reference
 
 CELL = 0.002  # degrees, the width of a cell of the grid
+WIDEST = 1.0  # degrees; a line over more than these is in no cell, and a segment over more is an error, and near its ends alone
 
 Cell = Tuple[int, int]
 Box = Tuple[float, float, float, float]  # west, south, east, north
@@ -60,9 +61,11 @@ class RoadMap:
 
     @functools.cached_property
     def line_cells(self) -> Dict[Cell, Dict[int, Box]]:
-        """The lines in each cell of the grid, each with its box."""
+        """The lines in each cell of the grid, each with its box; a line with a coordinate that is far off is in none."""
         cells: Dict[Cell, Dict[int, Box]] = defaultdict(dict)
         for number, road in self.lines.items():
+            if is_wide(road):
+                continue
             _, lons, lats = zip(*road.points)
             box = min(lons), min(lats), max(lons), max(lats)
             for a, b in zip(road.points, road.points[1:]):
@@ -85,6 +88,8 @@ class RoadMap:
         east, north = radius / scale(lat), radius / METRES
         columns = range(int((lon - east) // CELL), int((lon + east) // CELL) + 1)
         rows = range(int((lat - north) // CELL), int((lat + north) // CELL) + 1)
+        if len(columns) * CELL > WIDEST:  # beside a pole
+            return (it for (x, y), it in cells.items() if x in columns and y in rows)
         return (cells[it] for it in itertools.product(columns, rows) if it in cells)
 
     def nodes_near(self, lon: float, lat: float, radius: float) -> List[Tuple[int, float]]:
@@ -118,11 +123,18 @@ def cell_of(place: Degrees) -> Cell:
     return int(place[0] // CELL), int(place[1] // CELL)
 
 
+def is_wide(road: Road) -> bool:
+    """Whether the segments of a line together are wider or higher than any road."""
+    return sum(max(abs(b[1] - a[1]), abs(b[2] - a[2])) for a, b in zip(road.points, road.points[1:])) > WIDEST
+
+
 def pieces(a: Degrees, b: Degrees) -> Iterable[Tuple[Degrees, Degrees]]:
     """The parts of a straight segment, none wider or higher than a cell of the grid, as pairs of coordinates."""
     count = max(1, math.ceil(max(abs(b[0] - a[0]), abs(b[1] - a[1])) / CELL))
     if count == 1:
         return ((a, b),)
+    if count * CELL > WIDEST:
+        return ((a, a), (b, b))
     stops = [between(a, b, k / count) for k in range(count + 1)]
     return zip(stops, stops[1:])
 
@@ -130,9 +142,8 @@ def pieces(a: Degrees, b: Degrees) -> Iterable[Tuple[Degrees, Degrees]]:
 def cells_along(a: Degrees, b: Degrees) -> Iterator[Cell]:
     """The cells of the grid that a straight segment passes, and some neighbours."""
     for p, q in pieces(a, b):
-        for x in {int(p[0] // CELL), int(q[0] // CELL)}:
-            for y in {int(p[1] // CELL), int(q[1] // CELL)}:
-                yield x, y
+        (x, right), (y, top) = (sorted((int(p[k] // CELL), int(q[k] // CELL))) for k in (0, 1))
+        yield from itertools.product(range(x, right + 1), range(y, top + 1))
 
 
 # ---- geometry of roads

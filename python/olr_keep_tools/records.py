@@ -15,7 +15,7 @@ import tempfile
 from typing import IO, Callable, Dict, Generic, Iterable, Iterator, List, Mapping, NamedTuple, Optional, Sequence, Tuple
 from typing import TypeVar, Union
 
-from .command import STREAM, Failure
+from .command import STREAM, Failure, say
 from .program import Program, ProgramFailed, program_name
 from .rejected import advice
 from .replies import NO_RECORD, Reply, is_one_record
@@ -26,6 +26,7 @@ QUESTIONS = ("show", "show-node", "show-line", "show-margin", "depends", "report
              "ambiguous")
 ENDS = ("commit", "abort")
 BLOCK = 1 << 20
+LONGEST_LINE = 16 << 20  # bytes
 PADDING = re.compile(rb"\r(?!\n)")
 BOM = b"\xef\xbb\xbf"  # the byte order mark of UTF-8
 # What a file without a record begins with, and what it is.
@@ -239,6 +240,8 @@ def blocks(file: IO[bytes]) -> Iterator[bytes]:
     line, ends before its padding: what it has there of a record that was cut is none."""
     rest, is_log = b"", None
     while text := file.read(BLOCK):
+        if len(rest) > LONGEST_LINE:
+            raise RecordsError(f"{file.name}: a line is longer than 16 MB")
         is_log = text.startswith(b"\n") if is_log is None else is_log
         lines, end, rest = (rest + text).rpartition(b"\n")
         whole = lines + end
@@ -256,15 +259,23 @@ class Records:
     open at its end, is one that is rejected there."""
 
     def __init__(self, files: Iterable[str] = ()):
-        self.file, self.size, self.count = tempfile.NamedTemporaryFile(), 0, 0
+        self.file, self.size, self.count = tempfile.TemporaryFile(), 0, 0
         self.parts: List[Part] = []
         self.others: Dict[int, bytes] = {}
-        for name in files:
-            try:
-                with open(name, "rb") as file:
-                    self.add(name, blocks(file))
-            except OSError as error:
-                raise RecordsError(f"{name}: {error.strerror}") from None
+        try:
+            for name in files:
+                self.read(name)
+        except BaseException:
+            self.file.close()
+            raise
+
+    def read(self, name: str) -> None:
+        """Adds a file."""
+        try:
+            with open(name, "rb") as file:
+                self.add(name, blocks(file))
+        except OSError as error:
+            raise RecordsError(f"{name}: {error.strerror}") from None
 
     def add(self, name: str, texts: Iterable[bytes]) -> None:
         """Adds the blocks of a file: of the reply to `dump` the lines after the first, which counts them."""
@@ -297,7 +308,7 @@ class Records:
     def __iter__(self) -> Iterator[Record]:
         index = 0
         for part in self.parts:
-            with open(self.file.name, "rb") as file:
+            with open(f"/proc/self/fd/{self.file.fileno()}", "rb") as file:
                 file.seek(part.begin)
                 left = part.records
                 for number, line in enumerate(file, 1 + part.skipped):
@@ -315,7 +326,7 @@ class Records:
         self.file.writelines(f"{it}\n".encode() for it in questions)
         self.file.flush()
         self.file.seek(0)
-        return Program([program or program_name()], records=self.file.file)
+        return Program([program or program_name()], records=self.file)
 
     def answered(self, program: Optional[str], questions: Sequence[str]) -> Tuple[List[Rejected], List[Reply]]:
         """The rejected records, and the replies to these questions after all of them. A batch that the records leave open is
@@ -356,7 +367,8 @@ class Records:
 
 
 def read_state(files: Iterable[str], program: Optional[str] = None) -> State:
-    """The state after the records of these files, in this order. An open batch at the end is ignored.
+    """The state after the records of these files, in this order. An open batch at the end is ignored. It is said how many records are
+    rejected.
 
     Raises RecordsError if a file can't be read, if all its records are rejected, or if it has none.
     """
@@ -375,6 +387,10 @@ def state_and(records: Records, questions: Sequence[str], program: Optional[str]
     state = State()
     state.rejected, (dump, report, *others) = records.answered(program, ("dump", "report", *questions))
     records.check(state.rejected, or_empty)
+    if state.rejected:
+        first, reply = state.rejected[0]
+        why = f"{first.file}:{first.line}: {advice(first.shown(), reply.head)}"
+        say(f"{len(state.rejected)} of {records.count} records are rejected, the first at {why}")
     for name, reply in (("dump", dump), ("report", report)):
         if not reply.accepted:
             raise ProgramFailed(f"{name} is rejected: {reply.head}")

@@ -6,7 +6,7 @@
 import csv
 import re
 from collections import Counter
-from typing import Container, List, NamedTuple, Optional, Pattern, Tuple
+from typing import Container, List, NamedTuple, Optional, Pattern, Sequence, Tuple
 
 from .replies import is_one_record
 
@@ -14,6 +14,7 @@ NUMBER = re.compile("[0-9]+", re.ASCII)
 DEGREES = re.compile("-?[0-9]{1,3}([.][0-9]{1,7})?", re.ASCII)
 NAME = re.compile("[A-Za-z0-9_.-]{1,64}")
 TEXT = re.compile(".*", re.DOTALL)
+WORDS = re.compile("[A-Za-z_][A-Za-z_ -]*")
 MOST = 4294967295
 
 
@@ -106,12 +107,22 @@ def named(fields: List[str]) -> Optional[List[Tuple[str, str]]]:
     return list(zip(fixed + repeated * (more // max(1, len(repeated))), fields[1:]))
 
 
+def other_table(fields: Sequence[str]) -> str:
+    """What a row of another table than one of records is, if that can be seen: with other separators, or the names of columns."""
+    for sign, name in ((";", "semicolons"), ("\t", "tabs")):
+        if sign in fields[0]:
+            return f": fields are separated by commas, not by {name}"
+    if len(fields) > 1 and all(map(WORDS.fullmatch, fields)):
+        return ": a row of the names of columns is no record, leave it out"
+    return ""
+
+
 def wrong_form(fields: List[str]) -> str:
     """Why fields are not a record."""
     word = fields[0]
     if word not in FORMS:
         near = word.strip(" \t\ufeff").lower()
-        hint = f": write {near}, in lower case without spaces" if near in FORMS else ""
+        hint = f": write {near}, in lower case without spaces" if near in FORMS else other_table(fields)
         return f"{word[:40]!r} is no command word{hint}"
     fixed, repeated = (",".join(it.split()) for it in FORMS[word])
     many = "" if word in AT_MOST_ONE else "*"
@@ -120,7 +131,7 @@ def wrong_form(fields: List[str]) -> str:
         return f"its form is {form}, and it has {len(fields)} fields"
     for kind, field in kinds:
         if not KINDS[kind].form.fullmatch(field):
-            return f"{kind} is {field[:40]!r}, and has to be {KINDS[kind].text}"
+            return f"{kind} is {field[:40]!r}, and has to be {KINDS[kind].text}{other_table(fields)}"
     return f"its form is {form}"
 
 

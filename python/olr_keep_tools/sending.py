@@ -5,17 +5,21 @@
 import contextlib
 import re
 import socket
-from typing import List, NamedTuple, Optional, Tuple, Union
+from typing import Dict, List, NamedTuple, Optional, Tuple, Union
 
-from .command import INTERRUPTED, STREAM, Failure
+from .command import INTERRUPTED, STREAM, Failure, say
+from .drawn import Junctions
 from .program import Program, ProgramFailed
-from .records import ENDS, QUESTIONS, word_of
-from .rejected import advice, shown
+from .reasons import lines_about, refusal, without_map
+from .records import ENDS, QUESTIONS, Path, State, word_of
+from .rejected import advice, fields_of, shown
 from .replies import NoReply, Reply, is_one_record, read_reply
 
 MOST_HELD = 100_000
 AT_ONCE = 500  # records that are sent before their replies are read
+NOTHING = b'""'  # a line to which a service of 2.0.0 gives no reply
 OF_SERVICE = 0  # the number of the faults of the service itself
+ANSWERS = ("show", "report", "preview")  # the questions whose replies are answers of paths
 CAUSE = re.compile(r"fault,16,CountDiffers,([0-9]+),([0-9]+),(.*)")
 REJECTED, NO_REPLY = 1, 4
 
@@ -51,7 +55,7 @@ def read_records(name: Optional[str]) -> List[Record]:
     except OSError as error:
         raise Failure(STREAM, f"{name or 'the input'}: {error.strerror}") from None
     for number, line in enumerate(lines, 1):
-        if line and not is_one_record(line):
+        if line and (line == NOTHING or not is_one_record(line)):
             raise Failure(STREAM, f"line {number} is not one record: {shown(line[:80].decode(errors='replace'))}")
     return [Record(number, line.decode("utf-8", "surrogateescape")) for number, line in enumerate(lines, 1) if line]
 
@@ -153,14 +157,17 @@ class Sender:
     """Sends steps one after the other, and prints what they answer."""
 
     def __init__(self, target: "Target"):
-        self.target, self.is_open, self.done = target, False, 0
+        self.target, self.is_open, self.held, self.done = target, False, 0, 0
         self.step: Step = []
+        self.paths: Dict[str, Path] = {}
+        self.answers: List[str] = []  # of paths, since they were explained
 
     def send_all(self, all_steps: List[Step]) -> None:
         """Sends all steps."""
         for self.step in all_steps:
             self.send(self.step)
             self.done += 1
+            self.explain()
 
     def send(self, step: Step) -> None:
         """Sends a batch, or one record. If a record is rejected, the batch is aborted."""
@@ -176,7 +183,7 @@ class Sender:
 
     def open(self, begin: Record) -> None:
         """Opens a batch."""
-        self.is_open = True
+        self.is_open, self.held = True, 0
         reply = self.answer(begin)
         if not reply.accepted:
             self.is_open = False
@@ -185,20 +192,61 @@ class Sender:
     def answer(self, record: Record) -> Reply:
         """The reply to one record."""
         self.target.send(encoded([record]))
-        return self.target.reply()
+        return self.reply_to(record)
+
+    def reply_to(self, record: Record) -> Reply:
+        """The next reply. After one that the record can't have, nothing is known of it."""
+        reply = self.target.reply()
+        if not reply.accepted:
+            return reply
+        if self.is_open and record.word not in (*QUESTIONS, *ENDS, "begin"):
+            self.held += 1
+            is_own = (reply.word, reply.number) == ("held", self.held)
+        else:
+            is_own = reply.word == "ok"
+        if record.word == "show" and '"' not in record.text:
+            is_own &= [it.partition(",")[0] for it in reply.lines] == [record.text.partition(",")[2]]
+        if not is_own:
+            raise ProgramFailed(f"{reply.head} is no reply to {record.text[:80]}")
+        return reply
 
     def ask(self, records: List[Record]) -> None:
         """Sends records, reads all their replies, and prints those of questions and of what takes effect."""
         self.target.send(encoded(records))
-        rejected = []
+        rejected, answers = [], []
         for it in records:
-            reply = self.target.reply()
+            reply = self.reply_to(it)
             if not reply.accepted:
                 rejected.append(self.cause_of(it, reply))
-            elif it.word in QUESTIONS or it is self.step[-1]:
+                continue
+            if it.word in ("path", "repath"):
+                name, *numbers = fields_of(it.text)[1:]
+                self.paths[name] = Path(int(numbers[0]), int(numbers[1]), tuple(map(int, numbers[2:])))
+            if it.word in QUESTIONS or it is self.step[-1]:
                 print(reply.text(), end="", flush=True)
+                answers += reply.lines if it.word in ANSWERS or it.word not in QUESTIONS else []
         if rejected:
             self.stop(*rejected[0])
+        self.answers += answers
+
+    def explain(self) -> None:
+        """Reports for each path without a string the reason in words."""
+        answers, self.answers = self.answers, []
+        for line in answers:
+            name, *answer = line.split(",")
+            if answer[0] == "refused":
+                say(f"{name}: {','.join(answer)}: {self.why(name, answer)}")
+
+    def why(self, name: str, answer: List[str]) -> str:
+        """Why a path has no string, by its lines and theirs on the map, as far as they are known."""
+        path, state = self.paths.get(name), State()
+        about = lines_about(path, answer) if path else []
+        with contextlib.suppress(Failure):
+            for it in about:
+                state.read_dump(self.answer(Record(0, f"show-line,{it}")).lines)
+        if path and about and all(it in state.lines for it in about):
+            return refusal(state, path, answer, Junctions(state)).line()
+        return without_map(answer).line()
 
     def cause_of(self, record: Record, reply: Reply) -> Tuple[Record, Reply]:
         """The record that was rejected, and its fault. The service gives both with the reply to a `commit`, which ends the batch."""
@@ -210,7 +258,7 @@ class Sender:
         word, _, text = reply.rest.partition(",")
         if reply.number == OF_SERVICE and word == "NotKnown":
             raise ProgramFailed(f"the program ended: {text}")
-        if reply.number == OF_SERVICE and word in ("NotServed", "Connections"):
+        if reply.number == OF_SERVICE and word in ("NotServed", "Connections", "Idle"):
             raise Failure(NO_REPLY, f"{text}; {self.before()}")
         return record, reply
 
@@ -274,6 +322,8 @@ class Previewer(Sender):
         for line in reply.lines:
             before = self.answer(Record(0, f"show,{line.partition(',')[0]}"))
             print(*(f"-{it}" for it in before.lines), f"+{line}", sep="\n")
+        self.answers += reply.lines
+        self.explain()
 
 
 def send(target: Target, all_steps: List[Step], is_preview: bool = False) -> None:

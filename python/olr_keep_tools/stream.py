@@ -18,7 +18,7 @@ import time
 from typing import Any, Callable, List, NamedTuple, NoReturn, Optional, Tuple, TypeVar, Union
 
 from .command import USAGE, Failure, command_line, say
-from .places import Shares, SharesError
+from .shares import Shares, SharesError
 
 try:
     import pika
@@ -39,6 +39,11 @@ Result = TypeVar("Result")
 PLAIN = bytes(it for it in range(32, 127) if it != ord('"'))
 END = 2**31
 # What messages of answers have, in their order: rejected records, changes, and all answers, beside a snapshot.
+# The id of a message of answers, and the forms of its lines.
+ID = re.compile("[0-9]{1,9}:([0-9]{1,18})(?::([0-9]{1,9}))?(?::(rejected|whole))?")
+ANSWER = re.compile("[A-Za-z0-9._-]{1,64},(?:text,.*|refused,.*|dropped)")
+REJECTION = re.compile("[0-9]{1,9},[0-9]{1,9},[A-Za-z]*,.*")
+SHOWN = bytes(it if 32 <= it < 127 or it == ord("\n") else ord("?") for it in range(256))
 KINDS = "rejected", "changes", "whole"
 REJECTED, CHANGES, WHOLE = range(3)
 MANY = 20
@@ -102,11 +107,26 @@ def answers_name(stream: str, share: int, shares: Shares) -> str:
     return f"{stream}.answers.{share}.{shares.label}"
 
 
-def position_of(message_id: str) -> Position:
-    """The position of a message of answers: an offset, a part or END, and which of KINDS it has."""
-    _, offset, *more = message_id.split(":")
-    kind = KINDS.index(more.pop()) if more and more[-1] in KINDS else CHANGES
-    return int(offset), int(more[0]) if more else END, kind
+def position_of(message_id: Optional[str]) -> Optional[Position]:
+    """The position of a message of answers: an offset, a part or END, and which of KINDS it has. None if it has no such id."""
+    found = ID.fullmatch(message_id or "")
+    if not found:
+        return None
+    return int(found[1]), int(found[2]) if found[2] else END, KINDS.index(found[3]) if found[3] else CHANGES
+
+
+def lines_of(body: bytes) -> List[str]:
+    """The lines of a message, with a question mark for each byte that isn't printed ASCII."""
+    lines = body.translate(SHOWN).decode("ascii").split("\n")
+    return lines if lines[-1] else lines[:-1]
+
+
+def answers_of(properties: Properties, body: bytes) -> Optional[Tuple[Position, List[str]]]:
+    """The position of a message of answers, and its lines; None if it can't be read, as nobody who sends answers sends it."""
+    position, lines = position_of(properties.message_id), lines_of(body)
+    if position is None or not all(map((REJECTION if position[2] == REJECTED else ANSWER).fullmatch, lines)):
+        return None
+    return position, lines
 
 
 def id_of(share: int, position: Position) -> str:

@@ -15,6 +15,7 @@ SECTOR = 11.25  # degrees of a bearing's sector
 STEP = 58.6  # metres of a step of the distance to the next point
 Share = Tuple[float, float]  # the least and the greatest share of a leg
 
+CLASSES = ("main road", *(f"{it} class road" for it in ("first", "second", "third", "fourth", "fifth", "sixth", "other")))
 FORMS = ("undefined", "motorway", "multiple carriageway", "single carriageway", "roundabout", "traffic square", "slip road",
          "other")
 COMPASS = ("N", "NNE", "NE", "ENE", "E", "ESE", "SE", "SSE", "S", "SSW", "SW", "WSW", "W", "WNW", "NW", "NNW")
@@ -114,19 +115,22 @@ class Unreadable(NamedTuple):
     why: str
 
 
+def reading(keep: Program, text: str) -> Union[Reference, Unreadable]:
+    """The reference of a string, or why it has none, by a running program."""
+    if "\n" in text or "\r" in text:
+        return Unreadable("a line end is within it")
+    quoted = os.fsencode(text).decode("utf-8", "replace").replace('"', '""')
+    reply = keep.ask(f'explain,"{quoted}"')
+    if not reply.accepted:
+        return Unreadable(CAUSES.get(reply.rest.rpartition(",")[2], reply.head))
+    rows = (line.split(",") for line in reply.lines)
+    return reference_of((word, list(map(int, numbers))) for word, *numbers in rows)
+
+
 def explained(texts: Iterable[str]) -> Dict[str, Union[Reference, Unreadable]]:
     """The reference of each string, or why it has none. One run of the program reads all strings."""
-    found: Dict[str, Union[Reference, Unreadable]] = {}
     with Program([program_name()]) as keep:
-        for text in texts:
-            quoted = os.fsencode(text).decode("utf-8", "replace").replace('"', '""')
-            reply = keep.ask(f'explain,"{quoted}"')
-            if reply.accepted:
-                rows = (line.split(",") for line in reply.lines)
-                found[text] = reference_of((word, list(map(int, numbers))) for word, *numbers in rows)
-            else:
-                found[text] = Unreadable(CAUSES.get(reply.rest.rpartition(",")[2], reply.head))
-    return found
+        return {text: reading(keep, text) for text in texts}
 
 
 def read_reference(text: str) -> Reference:

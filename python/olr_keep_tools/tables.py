@@ -13,7 +13,7 @@ from typing import Any, Iterable, Iterator, List, NamedTuple, Optional, Protocol
 
 from . import stream
 from .command import STREAM, USAGE, Failure, say
-from .places import Shares
+from .shares import Shares
 from .stream import LOST_STREAMS
 
 try:
@@ -203,13 +203,20 @@ class Table:
                 return
             raise Failure(LOST_STREAMS, f"share {share} has answers at {read} after {before}: start a new table from a newer"
                                      " snapshot")
-        self.check_identity((properties.headers or {}).get("identity"))
-        offset, part, kind = stream.position_of(properties.message_id)
-        lines, changes = body.decode("ascii", "replace").splitlines(), 0
-        if kind == stream.REJECTED:
-            self.reject(share, offset, lines)
-        elif (offset, part) > position:
-            position, changes = (offset, part), self.change(share, offset, properties.type == "whole", lines)
+        found, changes = stream.answers_of(properties, body), 0
+        if found is None:
+            say(f"the answers of share {share} have a message at {read} that can't be read, with the id {properties.message_id}: it is"
+                " left out; the worker of the share sends all answers again")
+        else:
+            self.check_identity((properties.headers or {}).get("identity"))
+            (offset, part, kind), lines = found
+            if kind == stream.REJECTED:
+                self.reject(share, offset, lines)
+            elif properties.type == "whole" and (offset, part) >= position:
+                changes = self.set_all(share, offset, lines, (offset, part) == position)
+                position = offset, part
+            elif (offset, part) > position:
+                position, changes = (offset, part), self.change(share, offset, lines)
         self.file.run('update shares set "offset" = ?, record = ?, read = ?, changes = changes + ? where share = ?',
                       (*position, read, changes, share))
 
@@ -227,13 +234,20 @@ class Table:
             values = share, offset, int(index), int(fault), word, text
             self.file.run('insert into rejected values (?, ?, ?, ?, ?, ?) on conflict do nothing', values)
 
-    def change(self, share: int, offset: int, is_whole: bool, lines: List[str]) -> int:
-        """Changes the rows of these paths, or of all paths of a share, and returns the number of changes."""
+    def set_all(self, share: int, offset: int, lines: List[str], is_there: bool) -> int:
+        """Sets the rows of all paths of a share, and returns the number of changes. If the table is there already, none is due."""
+        there = {f"{name},{answer}" for name, answer in self.rows("select name, answer from published where share = ?", (share,))}
+        names, new = {it.partition(",")[0] for it in lines}, [it for it in lines if it not in there]
+        gone = [it.partition(",")[0] for it in there]
+        new += [f"{name},dropped" for name in gone if name not in names]
+        if is_there and new:
+            say(f"share {share} had other rows than its worker has computed from all commands up to offset {offset}: {len(new)} are set,"
+                f" such as {new[0]}")
+        return self.change(share, offset, new)
+
+    def change(self, share: int, offset: int, lines: List[str]) -> int:
+        """Changes the rows of these paths, and returns the number of changes."""
         answers = [line.partition(",")[::2] for line in lines]
-        if is_whole:
-            names = {name for name, _ in answers}
-            gone = self.rows("select name from published where share = ?", (share,))
-            answers += [(name, "dropped") for name, in gone if name not in names]
         last = dict(answers)
         self.file.put([(name, answer, share, offset) for name, answer in last.items() if answer != "dropped"])
         for name, answer in last.items():

@@ -15,6 +15,7 @@ from .snapshots import Snapshot, Snapshots, load
 from .stream import LOST_STREAMS, Position
 
 PART, LONGEST = 1 << 20, 1000
+LARGEST = 64 << 20  # bytes of all answers that are published without need
 # The seconds in which answers are published before a snapshot is written, and those after which it is tried again.
 SETTLED, MINUTE = 5, 60
 FIRST = (-1, -1, -1)
@@ -31,6 +32,7 @@ class Answers(NamedTuple):
     kind: str = "changes"
     tag: Optional[Tag] = None
     is_due: bool = False
+    is_again: bool = False  # beside those that are published
 
 
 class Commands(NamedTuple):
@@ -54,7 +56,11 @@ class Session(NamedTuple):
     connection: stream.Connection
 
 
-Work = Union[Commands, Published, Session]
+class Again(NamedTuple):
+    """All answers of the share are wanted, as they are once what was read is carried out."""
+
+
+Work = Union[Commands, Published, Session, Again]
 Done = Union[Answers, Failure]
 
 
@@ -117,6 +123,7 @@ class Carrier:
         self.clock = Clock(options.every, options.at)
         self.waiting: Deque[Commands] = collections.deque()
         self.published = Published(FIRST, snapshot.identity if snapshot else None)
+        self.is_wanted = False  # whether all answers are
         self.connection: stream.Connection = None
 
     def run(self) -> None:
@@ -133,12 +140,15 @@ class Carrier:
         options, snapshot = self.options, self.snapshot
         share = Share(Program(options.program, options.deadline), options.share, options.shares, snapshot.names if snapshot else {})
         if snapshot:
-            load(share, snapshot.file)
+            load(share, snapshot)
             self.put_whole(share, (snapshot.offset, stream.END, stream.CHANGES))
-        offset = -1
+        offset = snapshot.offset if snapshot else -1
         while True:
             if not self.waiting:
                 self.receive(1)
+            if self.is_wanted and offset >= 0 and not self.waiting:
+                self.is_wanted = False
+                self.put_whole(share, (offset, stream.END, stream.WHOLE), is_again=True)
             if self.waiting:
                 message = self.waiting.popleft()
                 offset, self.clock.bytes = message.offset, self.clock.bytes + len(message.body)
@@ -160,6 +170,8 @@ class Carrier:
             self.waiting.append(it)
         elif isinstance(it, Published):
             self.published = it
+        elif isinstance(it, Again):
+            self.is_wanted = True
         else:
             self.connection = it.connection
 
@@ -181,9 +193,9 @@ class Carrier:
             say(f"no snapshot at offset {offset}: {error.filename or snapshots.folder}: {error.strerror}")
         self.clock.reset()
 
-    def put_whole(self, share: Share, position: Position) -> None:
+    def put_whole(self, share: Share, position: Position, is_again: bool = False) -> None:
         """Puts all answers of the share."""
-        self.put(Answers(position, share.one("report").lines, kind="whole"))
+        self.put(Answers(position, share.one("report").lines, kind="whole", is_again=is_again))
 
     def put(self, it: Done) -> None:
         """Passes a result to the publisher, and wakes it."""
@@ -213,6 +225,9 @@ class Publisher:
         self.session_number = 0
         self.is_active = False
         self.published: Position = FIRST
+        # The position of the last result, and whether all answers have to be published beside those that are.
+        self.carried_out: Position = FIRST
+        self.is_wanted = False
         self.next_try = self.next_progress = 0.0
 
     def session(self, connection: stream.Connection) -> None:
@@ -243,7 +258,7 @@ class Publisher:
             first = None if commands.identity else stream.newest(self.connection, self.options.stream, start="first")
             self.check_identity(first.identity if first else commands.identity, self.options.stream)
         answers = stream.newest(self.connection, self.answers)
-        if answers:
+        if answers and stream.position_of(answers.properties.message_id):
             self.check_identity((answers.properties.headers or {}).get("identity"), self.answers)
 
     def check_identity(self, identity: Optional[str], name: str) -> None:
@@ -259,9 +274,14 @@ class Publisher:
             self.published = position
             self.work.put(Published(position, self.identity))
 
-    def take_answers(self, _: int, tag: int, properties: Any, __: bytes) -> None:
+    def take_answers(self, at: int, tag: int, properties: Any, body: bytes) -> None:
         """Notes what is published for this share, by any worker."""
-        self.note(stream.position_of(properties.message_id))
+        if found := stream.answers_of(properties, body):
+            self.note(found[0])
+        else:
+            say(f"the stream {self.answers} has a message at {at} that can't be read, with the id {properties.message_id}: all answers"
+                " are published again")
+            self.is_wanted = True
         self.channel.basic_ack(tag)
 
     def take_commands(self, offset: int, tag: int, properties: Any, body: bytes) -> None:
@@ -283,6 +303,7 @@ class Publisher:
                 self.settle()
                 raise it
             self.behind -= it.position[1:] == (stream.END, stream.CHANGES)
+            self.carried_out = it.position
             self.waiting.append(it)
 
     def try_lock(self) -> None:
@@ -290,17 +311,24 @@ class Publisher:
         self.next_try = time.monotonic() + 0.3
         name = f"{self.options.stream}.lock.{self.options.share}.{self.options.shares.label}"
         if stream.is_locked(self.connection, name):
-            self.is_active = True
+            # Tables compare what this worker has computed with what they have.
+            self.is_active, self.is_wanted = True, self.is_wanted or self.published > FIRST
             say(f"publishes share {self.options.share} of {self.options.shares.count}")
 
     def settle(self) -> None:
         """Publishes the waiting answers in order, and drops those that are published; without the lock it only drops. Of
         messages that changed nothing only the last one is published, one each second, and that before a snapshot, so that
         readers see how far the share is."""
+        if self.is_wanted and self.is_active and not self.waiting and FIRST[:2] < self.published[:2] <= self.carried_out[:2]:
+            self.is_wanted = False
+            self.work.put(Again())
         while self.waiting:
             it = self.waiting[0]
             is_last = not self.behind and len(self.waiting) == 1 or it.is_due or time.monotonic() > self.next_progress
-            if it.position > self.published and (it.lines or it.rejected or it.kind == "whole" or is_last):
+            if it.is_again:
+                if self.is_active and it.position[:2] >= self.published[:2]:
+                    self.publish_again(it)
+            elif it.position > self.published and (it.lines or it.rejected or it.kind == "whole" or is_last):
                 if not self.is_active:
                     return
                 if it.rejected:
@@ -310,6 +338,12 @@ class Publisher:
             self.waiting.popleft()
             if it.tag and it.tag[0] == self.session_number:
                 self.channel.basic_ack(it.tag[1])
+
+    def publish_again(self, it: Answers) -> None:
+        """Publishes all answers beside those that are published, so that tables are compared with them. It isn't needed if it is long."""
+        if sum(map(len, it.lines)) <= LARGEST:
+            self.published = min(self.published, (*it.position[:2], stream.CHANGES))
+            self.publish(it.position, it.lines, it.kind)
 
     def publish(self, position: Position, lines: Sequence[str], kind: str) -> None:
         """Publishes a message of answers, if it isn't published."""

@@ -1,14 +1,16 @@
-"""Tests of geo.py, routes.py, strings.py, drawn.py and places.py."""
+"""Tests of geo.py, routes.py, strings.py, drawn.py, reasons.py and shares.py."""
 import math
 import unittest
 from typing import Dict, List
 
 from olr_keep_tools import geo
-from olr_keep_tools.drawn import Junctions, courses, offset_parts, part, refusal
-from olr_keep_tools.places import Shares, boxes_of
+from olr_keep_tools.drawn import Junctions, courses, offset_parts, part
+from olr_keep_tools.names import Name, described, of_path, streets
+from olr_keep_tools.reasons import lines_about, refusal, without_map
 from olr_keep_tools.receiver import RULES, Failed, Found, RoadMap, decode, within
-from olr_keep_tools.records import State
+from olr_keep_tools.records import Path, State
 from olr_keep_tools.routes import Search, Step
+from olr_keep_tools.shares import Shares, boxes_of
 from olr_keep_tools.strings import TextError, absolute, read_reference
 
 
@@ -106,8 +108,29 @@ class Drawn(unittest.TestCase):
         junctions = Junctions(MAP)
         self.assertEqual([junctions.has_degree_two(it) for it in (1, 2, 3, 4)], [False, True, True, False])
         self.assertEqual(junctions.extension([2]), ([1], [3]))
-        words, places = refusal(MAP, MAP.paths["b"], ["refused", "2", "0"], junctions)
-        self.assertEqual((places, "Line 1 ends at node 2" in words), ([(10000, 0), (20000, 0)], True))
+
+    def test_reasons(self) -> None:
+        junctions, answer = Junctions(MAP), ["refused", "2", "0"]
+        why = refusal(MAP, MAP.paths["b"], answer, junctions)
+        self.assertEqual((why.places, "Line 1 ends at node 2" in why.words), ([(10000, 0), (20000, 0)], True))
+        self.assertRegex(why.line(), "^line 1 ends .*, at 0.001,0 and 0.002,0$")
+        self.assertEqual(lines_about(MAP.paths["b"], answer), list(MAP.paths["b"].lines[:2]))
+        self.assertEqual(lines_about(Path(0, 0, (1, 9, 2, 3)), ["refused", "1", "9"]), [1, 2])
+        self.assertEqual(without_map(answer).line(), "of its lines, number 1 does not end where number 2 begins")
+        self.assertEqual(without_map(["refused", "1", "9"]).line(), "line 9 is not in the map")
+
+
+class Streets(unittest.TestCase):
+    """What a path is called by its streets."""
+
+    def test_described(self) -> None:
+        names = {1: Name("Bahnhofstrasse", "B 10"), 2: Name("Bahnhofstrasse", ""), 4: Name("", "A 27")}
+        self.assertEqual(streets(names, [1, 2, 3, 4, 1]), ["B 10", "Bahnhofstrasse", "A 27"])
+        self.assertEqual(described(["B 10"], 600.4, (6, 49), (6.0001, 49.005)), "B 10, 600 m, northward")
+        self.assertEqual(described([], 1234, (6, 49), (5.99, 48.995)), "1.2 km, south-westward")
+        self.assertEqual(described(list("abcdefgh"), 10, (6, 49), (6, 49)), "a, b, c, d, e, f, 2 more, 10 m")
+        self.assertEqual(of_path(MAP, Path(300, 0, (1, 2)), names), "B 10, Bahnhofstrasse, 192 m, eastward")
+        self.assertEqual(of_path(MAP, Path(0, 0, (1, 9)), names), "B 10, Bahnhofstrasse")
 
 
 class Places(unittest.TestCase):

@@ -7,8 +7,8 @@ from typing import List
 
 from olr_keep_tools.carried import Share
 from olr_keep_tools.command import Failure
-from olr_keep_tools.places import Shares
 from olr_keep_tools.program import Program, ProgramEnded, ProgramFailed
+from olr_keep_tools.shares import Shares
 
 # Replies to each record: `ok` with as many lines as it has fields after the first, `fault` where there is none.
 ECHO = """
@@ -73,7 +73,7 @@ class Programs(unittest.TestCase):
             share = Share(keep, 0, Shares(1), {})
             found = list(share.carry_out(b"ok\nok,a\nfault/4/NoNode\nreport\n\xff\n"))
             shown = [(it.at, it.record, it.reply.number) for it in found]
-            wanted = [(3, "report", 0), (4, "\ufffd", 0), (1, "ok,a", 1), (2, "fault/4/NoNode", 4)]
+            wanted = [(3, "report", 0), (4, "?", 0), (1, "ok,a", 1), (2, "fault/4/NoNode", 4)]
             self.assertEqual(sorted(shown), sorted(wanted))
             with self.assertRaisesRegex(Failure, "out of memory"):
                 list(share.carry_out(b"fault/13/Memory\n"))

@@ -122,8 +122,8 @@ class Files(unittest.TestCase):
 
     def test_copy(self) -> None:
         with Records([self.write("1", b'a,"b\nc')]) as records:
-            with open(records.file.name, "rb") as file:
-                self.assertEqual((file.read(), records.count), (b"?\nc\n", 2))
+            records.file.seek(0)
+            self.assertEqual((records.file.read(), records.count), (b"?\nc\n", 2))
 
     def test_dump(self) -> None:
         self.assertEqual(self.rows(self.write("1", b"ok,2\na\nb\n")), [["1", 2, "a"], ["1", 3, "b"]])

@@ -6,7 +6,7 @@ from typing import List
 
 from olr_keep_tools.command import Failure
 from olr_keep_tools.replies import Reply, read_reply
-from olr_keep_tools.sending import Record, Sender, Service, steps
+from olr_keep_tools.sending import NO_REPLY, Record, Sender, Service, send, steps
 
 
 def records(*texts: str) -> List[Record]:
@@ -66,6 +66,18 @@ class Rejected(unittest.TestCase):
         self.assertEqual(text, "the program ended: of the whole batch; ask show-node,1")
         text = self.failure("ok,0\nheld,1\nfault,0,NotServed,the service ends\n", "node,1,0,0")
         self.assertEqual(text, "the service ends; nothing took effect")
+
+    def test_other_reply(self) -> None:
+        """A reply that the record can't have is noticed, and what is sent isn't known to have taken effect."""
+        for replies, given, why in (
+                ("ok,0\nheld,2\n", ("node,1,0,0", "node,2,0,0"), "held,2 is no reply to node,1,0,0: whether lines 1 to 2"),
+                ("ok,0\nheld,1\nok,0\n", ("node,1,0,0", "node,2,0,0"), "ok,0 is no reply to node,2,0,0: whether lines 1 to 2"),
+                ("held,1\n", ("report",), "held,1 is no reply to report: nothing was sent"),
+                ("ok,1\nb,text,B\n", ("show,a",), "ok,1 is no reply to show,a: nothing was sent")):
+            with self.assertRaises(Failure) as found, redirect_stdout(io.StringIO()):
+                send(Scripted(replies), steps(records(*given)))
+            self.assertIn(why, str(found.exception))
+            self.assertEqual(found.exception.status, NO_REPLY)
 
     def test_not_taken(self) -> None:
         """A connection that isn't taken: nothing was sent."""

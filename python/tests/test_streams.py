@@ -12,8 +12,8 @@ from unittest import mock
 from olr_keep_tools import stream
 from olr_keep_tools.command import Failure
 from olr_keep_tools.feed import Confirmed, Records, Source
-from olr_keep_tools.places import Shares
-from olr_keep_tools.snapshots import Snapshots
+from olr_keep_tools.shares import Shares
+from olr_keep_tools.snapshots import Snapshots, load
 from olr_keep_tools.tables import Message, Table
 from olr_keep_tools.worker import Carrier, Clock, Commands, Done, Published, Work
 
@@ -43,7 +43,7 @@ class Feeds(unittest.TestCase):
 
     def test_source(self) -> None:
         read, write = os.pipe()
-        os.write(write, b'node,1,0,0\r\n"node","2",0,0\nbegin\nnode,3,0,0\ncommit,1\n"a,b"\n\nbegin\nx')
+        os.write(write, b'node,1,0,0\r\n"node","2",0,0\nbegin\nnode,3,0,0\ncommit,1\n"a,b"\nshow,"a\0"\nshow,a\x0c\n\nbegin\nx')
         os.close(write)
         source = Source(read, "input")
         bodies: List[bytes] = []
@@ -52,7 +52,7 @@ class Feeds(unittest.TestCase):
                 bodies.append(source.next())
         os.close(read)
         self.assertEqual(b"".join(bodies), b"node,1,0,0\nnode,2,0,0\nbegin\nnode,3,0,0\ncommit,1\n")
-        self.assertEqual(source.left_out, 2)
+        self.assertEqual(source.left_out, 4)
 
     def test_sent_before(self) -> None:
         first = Records().message(b"a\nb\n", Confirmed("f"))
@@ -112,6 +112,56 @@ class Tables(unittest.TestCase):
             table.close()
             with self.assertRaisesRegex(Failure, "the table is for 1 shares"):
                 Table.of(f"{folder}/table", Shares(2))
+
+    def test_unreadable(self) -> None:
+        """A message that nobody who sends answers sends is left out and named; one that has what isn't printed is read."""
+        with tempfile.TemporaryDirectory() as folder:
+            table = Table.of(f"{folder}/table", Shares(1))
+            for read, (message_id, body) in enumerate((
+                    (None, b"a,dropped\n"), ("0", b""), ("0:1:x", b""), ("0:1", b"a\x0c\n"), ("0:1", b"a b,text,A\n"), ("0:1:rejected", b"1,2\n"))):
+                with mock.patch("olr_keep_tools.tables.say") as said:
+                    table.apply_all([Message(0, read, properties(str(message_id), headers={"identity": "j"}), body)])
+                self.assertIn(f"a message at {read} that can't be read", said.call_args[0][0])
+            table.apply_all([Message(0, 6, properties("0:1:rejected"), b"4,0,NotPlain,a\x0cb\x00\xef\xbf\xbd\n"),
+                             Message(0, 7, properties("0:1"), b"a,text,A\nb,refused,3\n")])
+            self.assertEqual(table.rows("select record, text from rejected"), [(4, "a?b????")])
+            self.assertEqual(table.of_share(0), ((1, stream.END), 7))
+            table.close()
+
+    def test_compared(self) -> None:
+        """All answers of a share, as its worker has computed them, are set and named where the table has others."""
+        with tempfile.TemporaryDirectory() as folder:
+            table = Table.of(f"{folder}/table", Shares(1))
+            table.apply_all([Message(0, 0, properties("0:1"), b"a,text,A\nb,text,B\n")])
+            for read, body, wanted in ((1, b"a,text,A\nb,text,B\n", 0), (2, b"b,text,C\nc,text,D\n", 3), (3, b"b,text,C\nc,text,D\n", 0)):
+                with mock.patch("olr_keep_tools.tables.say") as said:
+                    table.apply_all([Message(0, read, properties("0:1:whole", type="whole"), body)])
+                self.assertEqual(f": {wanted} are set" in str(said.call_args), wanted > 0)
+            with mock.patch("olr_keep_tools.tables.say") as said:
+                table.apply_all([Message(0, 4, properties("0:0:whole", type="whole"), b"a,text,A\n"),
+                                 Message(0, 5, properties("0:2:whole", type="whole"), b"b,text,E\nc,text,D\n")])
+            self.assertFalse(said.called)
+            self.assertEqual(table.rows("select name, answer from published order by name"), [("b", "text,E"), ("c", "text,D")])
+            self.assertEqual(list(table.offsets()), [(0, 2, 6)])
+            table.close()
+
+    def test_cut_snapshot(self) -> None:
+        """A snapshot that isn't as it was written is refused; one without a digest, of 2.0.0, isn't."""
+        text = b"node,1,0,0\nnode,2,0,0\n"
+        with tempfile.TemporaryDirectory() as folder:
+            snapshots, program, share = Snapshots(folder, "s", 0, Shares(1)), mock.Mock(), mock.Mock()
+            program.write_dump = lambda file: file.write(text)
+            share.carry_out_part.return_value, share.batch.held = [], None
+            snapshots.write(program, 3, "i", {})
+            newest = snapshots.newest()
+            assert newest
+            load(share, newest)
+            self.assertEqual(newest.records, 2)
+            for wrong in (text[:11], text[:-2], text.replace(b"2", b"3")):
+                with open(newest.file, "wb") as file:
+                    file.write(wrong)
+                self.assertRaisesRegex(Failure, "is not as it was written", load, share, newest)
+                load(share, newest._replace(digest=None))
 
     def test_snapshots(self) -> None:
         with tempfile.TemporaryDirectory() as folder:
