@@ -4,13 +4,16 @@ What a file holds is certain once it is synced, and the names in a folder once t
 sector of 512 bytes may be there or not, in any order; behind the old end of a file anything may stand; of the names that were
 made, changed or removed the first ones may be there.
 """
+import fnmatch
 import os
+import re
 from dataclasses import dataclass, field
 from random import Random
-from typing import Callable, Dict, Iterator, List, NamedTuple, Optional, Tuple, Union
+from typing import Callable, Collection, Dict, Iterator, List, NamedTuple, Optional, Tuple, Union
 
+MARK, HEAD = b"@EVENT@ ", re.compile(rb"@EVENT@ (\w+) (\d+) (-?\d+) (\d+)\n")
 SECTOR = 512
-CREATE = 0o100
+CREATE, CUT = 0o100, 0o1000
 
 
 class Event(NamedTuple):
@@ -28,13 +31,18 @@ class Event(NamedTuple):
 
 
 def events(trace: str) -> Iterator[Event]:
-    """The events in a file that `trace.c` wrote. The last one is left out if the program was killed while it was noted."""
+    """The events in a file that `trace.c` wrote. One that is cut is left out: the process was killed while it was noted."""
     with open(trace, "rb") as file:
-        while (head := file.readline()).endswith(b"\n"):
-            kind, number, at, size = head.decode().split()
-            data = file.read(int(size))
-            if len(data) == int(size):
-                yield Event(kind, int(number), int(at), data)
+        text = file.read()
+    at = text.find(MARK)
+    while at >= 0:
+        head = HEAD.match(text, at)
+        end = head.end() + int(head[4]) if head else len(text) + 1
+        if head and (end == len(text) or text.startswith(MARK, end)):
+            yield Event(head[1].decode(), int(head[2]), int(head[3]), text[head.end() : end])
+            at = end if end < len(text) else -1
+        else:
+            at = text.find(MARK, at + 1)
 
 
 @dataclass
@@ -49,6 +57,14 @@ class File:
         """Writes to the file, or cuts it or makes it longer."""
         self.now = changed(self.now, event)
         self.pending.append(event)
+
+    def find(self, content: bytes) -> None:
+        """It holds this, of which not all was noted that wrote it."""
+        if len(content) < len(self.now):
+            self.do(Event("cut", 0, len(content), b""))
+        at = next((k for k, (one, other) in enumerate(zip(content, self.now)) if one != other), len(self.now))
+        if content[at:] != self.now[at:]:
+            self.do(Event("write", 0, at, content[at:]))
 
     def sync(self) -> None:
         """What was written since the last sync is certain. A change that an earlier process failed to sync isn't."""
@@ -91,10 +107,10 @@ def sectors(event: Event) -> Iterator[Event]:
 
 
 class Disk:
-    """The files of one folder, and what is certain of them."""
+    """The files of one folder, or those of them that have such names, and what is certain of them."""
 
-    def __init__(self, folder: str) -> None:
-        self.folder, self.answered = os.path.realpath(folder), b""
+    def __init__(self, folder: str, only: Collection[str] = ()) -> None:
+        self.folder, self.only, self.answered = os.path.realpath(folder), only, b""
         self.names: Dict[str, File] = {}
         self.certain: Dict[str, File] = {}
         self.renames: List[Callable[[Dict[str, File]], object]] = []
@@ -109,7 +125,12 @@ class Disk:
     def name_in(self, name: str) -> Optional[str]:
         """The name in the folder, or None if it is another folder's."""
         path = os.path.join(os.path.realpath(os.path.dirname(name) or "."), os.path.basename(name))
-        return os.path.basename(path) if os.path.dirname(path) == self.folder else None
+        found = os.path.basename(path)
+        return found if os.path.dirname(path) == self.folder and self.has(found) else None
+
+    def has(self, name: str) -> bool:
+        """Whether it is about files of this name."""
+        return not self.only or any(fnmatch.fnmatch(name, it) for it in self.only)
 
     def rename(self, change: Callable[[Dict[str, File]], object]) -> None:
         """Changes the names, which isn't certain yet."""
@@ -129,7 +150,9 @@ class Disk:
             elif name not in self.names:
                 # It was there before, with a content that isn't looked at.
                 self.names[name] = self.certain[name] = File()
-            self.opened[event.file] = self.names[name]
+            self.opened[event.file] = file = self.names[name]
+            if event.at & CUT and file.now:
+                file.do(event._replace(kind="cut", at=0))
 
     def sync(self, event: Event) -> None:
         """A file, or the names in the folder, are certain."""
@@ -144,8 +167,12 @@ class Disk:
         opened = self.opened.get(event.file, "")
         if event.kind == "open":
             self.open(event)
+        elif event.kind == "close":
+            self.opened.pop(event.file, None)
         elif event.kind in ("write", "cut") and isinstance(opened, File):
             opened.do(event)
+        elif event.kind == "found" and isinstance(opened, File) and opened.now != event.data:
+            opened.find(event.data)
         elif event.kind == "sync":
             self.sync(event)
         elif event.kind == "answer":
@@ -167,10 +194,12 @@ class Disk:
         return f"{name} is not what is on the disk" if file and file.synced != file.now else ""
 
     def crash(self, rnd: Random, into: str) -> None:
-        """Writes the files that a crash at this moment may leave to another folder."""
+        """Writes the files that a crash at this moment may leave to another folder, or to this one. What is there remains the same file."""
         names = dict(self.certain)
         for change in self.renames[: rnd.randint(0, len(self.renames))]:
             change(names)
         for name, file in names.items():
             with open(f"{into}/{name}", "wb") as copy:
                 copy.write(file.after_crash(rnd))
+        for name in {*filter(self.has, os.listdir(into))} - {*names}:
+            os.unlink(f"{into}/{name}")

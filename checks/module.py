@@ -10,6 +10,7 @@ import inspect
 import os
 import sys
 import threading
+from fractions import Fraction
 
 import olr_keep
 from olr_keep import AsyncKeep, Keep, Rejected
@@ -161,6 +162,64 @@ def check_threads():
         same("threads of a closed register", stopped, ["the register is closed"] * 4)
 
 
+def check_batches_of_threads():
+    """A batch that another thread's `batch` can't open, or in which other threads change something, is committed."""
+    with Keep() as keep:
+        with keep.batch():
+            keep.node(1, 6, 49)
+
+            def refused():
+                with keep.batch():
+                    wrong.append("a second batch is open")
+
+            threads = [threading.Thread(target=lambda k=k: [keep.node(1000 * k + n, 6, 49) for n in range(100)]) for k in range(1, 5)]
+            for it in threads:
+                it.start()
+            for it in threads:
+                it.join()
+            raised(refused, Rejected)
+        same("nodes of a batch of five threads", len(keep.dump()), 401)
+
+
+def check_fork():
+    """A fork while another thread is in calls: parent and child have the register as it was, and go on."""
+    with Keep() as keep:
+        text, done = "".join(f"node,{n},{n % 90},{n % 80}\n" for n in range(1, 20001)), threading.Event()
+
+        def work():
+            keep.text(text)
+            while not done.is_set():
+                keep.text("report\n" * 1000)
+
+        worker = threading.Thread(target=work)
+        worker.start()
+        for _ in range(20):
+            child = os.fork()
+            if not child:
+                count = len(keep.dump())
+                os._exit(0 if count in (0, 20000) and keep.ask("node,30000,6,49").accepted else 1)
+            same("a child", os.waitpid(child, 0)[1], 0)
+        done.set()
+        worker.join()
+        same("the parent", len(keep.dump()), 20000)
+
+
+def check_numbers():
+    """Degrees of each kind of number are one record; True is no number."""
+    kinds = [Fraction(1, 3)]
+    try:
+        import numpy
+        kinds += [numpy.float64(6.12683), numpy.float32(6.5), numpy.int64(6)]
+    except ImportError:
+        pass
+    with Keep() as keep:
+        for k, it in enumerate(kinds, 1):
+            keep.node(k, it, 49)
+        same("degrees", [it.split(",")[2] for it in keep.dump()], ["0.3333333", "6.12683", "6.5", "6"][: len(kinds)])
+        for call in (lambda: keep.node(True, 6, 49), lambda: keep.node(9, True, 49), lambda: keep.depends(False)):
+            raised(call, TypeError)
+
+
 def check_memory():
     """Registers that nothing refers to any more free their memory."""
     def make():
@@ -217,6 +276,12 @@ async def ask_together():
         await asyncio.sleep(0.05)
         same("after a cancelled call", (await keep.show("a")).name, "a")
     same("closed", (await keep.close(), keep.status), (1, 1))
+    for call in (lambda: keep.report(), lambda: keep.ask("report"), lambda: keep.batch().__aenter__()):
+        try:
+            await call()
+            wrong.append("a call after close")
+        except ValueError as error:
+            same("a call after close", str(error), "the register is closed")
     same("the same calls", calls(AsyncKeep), calls(Keep))
     others = [it for it in calls(AsyncKeep) if not inspect.iscoroutinefunction(getattr(AsyncKeep, it))]
     same("all others are coroutines", others, ["batch", "status"])
@@ -236,6 +301,9 @@ def main():
     check_calls()
     check_what_is_no_record()
     check_threads()
+    check_batches_of_threads()
+    check_fork()
+    check_numbers()
     check_memory()
     asyncio.run(ask_together())
     print(*(f"module: {it}" for it in wrong), sep="\n", end="\n" if wrong else "")

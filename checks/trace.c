@@ -1,32 +1,42 @@
 // Notes what a program does to files. Loaded before it (LD_PRELOAD), this appends an event to the file that TRACE names for each
 // call that opens, writes, cuts, syncs, renames or removes a file, once it has succeeded, and for each write to standard output.
-// An event is a line `KIND DESCRIPTOR OFFSET SIZE` and so many bytes: what was written, or names with a zero byte between them.
+// An event is a line `@EVENT@ KIND DESCRIPTOR OFFSET SIZE` and so many bytes: what was written, or names with a zero byte between them. It
+// is appended as a whole: several processes may have one file, and the descriptor is noted with the process id above its 32 bits.
+// What olr_keep finds in a file that it opens to write to is an event, too: one that was killed may not have noted its last write.
 // With the variable TRACES, a folder, each process of olr_keep has a file of its own there, which begins with its process id.
 // A sync that is noted isn't made, which would take most of the time: the tests lose what isn't synced by these notes. With the
-// variable DROP_SYNCS it isn't noted either, and answers that it was made: to show that a test finds it.
+// variable DROP_SYNCS it isn't noted either, and answers that it was made: to show that a test finds it. With SLOW_SYNCS one of
+// olr_keep takes so many milliseconds more, up to 999, before it is noted.
 typedef unsigned long size_t;
 typedef long ssize_t;
 typedef long off_t;
 extern char *program_invocation_short_name;
 extern char *getenv(const char *name);
-extern int strcmp(const char *one, const char *other);
+extern int atoi(const char *text);
 extern long syscall(long number, ...);
 extern int snprintf(char *to, size_t size, const char *format, ...);
 
 enum {
-    WRITE = 1, OPEN = 2, CLOSE = 3, SEEK = 8, PWRITE = 18, GETPID = 39, CONTROL = 72, FSYNC = 74, FDATASYNC = 75, TRUNCATE = 77,
+    WRITE = 1, OPEN = 2, CLOSE = 3, SEEK = 8, MAP = 9, UNMAP = 11, PWRITE = 18, WRITEV = 20, SLEEP = 35, GETPID = 39, CONTROL = 72, FSYNC = 74, FDATASYNC = 75, TRUNCATE = 77,
     RENAME = 82, UNLINK = 87, OPENAT = 257, RENAMEAT = 264, UNLINKAT = 263, CREATE = 0100, NEW = 0200, APPEND = 02000, HERE = -100,
     DUPLICATE = 1030, NONE = -2
 };
 
 static int trace = -1;
 
+// Whether this is a process of the program, which is olr_keep, or olr_keep-NUMBER where it was unpacked.
+static int is_program(void) {
+    const char *name = program_invocation_short_name, *wanted = "olr_keep";
+    while (*wanted && *name == *wanted) name++, wanted++;
+    return !*wanted && (!*name || *name == '-');
+}
+
 static int open_trace(void) {
     char name[4096];
     const char *one = getenv("TRACE"), *folder = getenv("TRACES");
     int file = -1;
     if (one) file = (int)syscall(OPEN, one, 01 | CREATE | APPEND, 0600);
-    if (!one && folder && !strcmp(program_invocation_short_name, "olr_keep"))
+    if (!one && folder && is_program())
         for (int k = 0; file < 0 && k < 100; k++) {
             snprintf(name, sizeof name, "%s/%ld.%d", folder, syscall(GETPID), k);
             file = (int)syscall(OPEN, name, 01 | CREATE | NEW | APPEND, 0600);
@@ -42,9 +52,10 @@ static void note(const char *kind, int file, long at, const void *bytes, size_t 
     char head[80];
     if (trace == -1) trace = open_trace();
     if (trace < 0) return;
-    int n = snprintf(head, sizeof head, "%s %d %ld %lu\n", kind, file, at, size);
-    syscall(WRITE, trace, head, n);
-    if (size) syscall(WRITE, trace, bytes, size);
+    long number = (syscall(GETPID) << 32) + file;
+    size_t n = snprintf(head, sizeof head, "@EVENT@ %s %ld %ld %lu\n", kind, number, at, size);
+    struct { const void *from; size_t size; } parts[] = {{head, n}, {bytes, size}};
+    syscall(WRITEV, trace, parts, 2L);
 }
 
 static void note_names(const char *kind, int file, long more, const char *first, const char *second) {
@@ -69,12 +80,23 @@ ssize_t pwrite(int file, const void *from, size_t size, off_t at) {
 ssize_t pwrite64(int file, const void *from, size_t size, off_t at) { return pwrite(file, from, size, at); }
 
 static int synced(long number, int file) {
+    const char *slow = getenv("SLOW_SYNCS");
     if (getenv("DROP_SYNCS")) return 0;
+    if (slow && is_program()) {
+        long wait[] = {0, atoi(slow) * 1000000L};
+        syscall(SLEEP, wait, 0L);
+    }
     note("sync", file, 0, "", 0);
     return trace < 0 ? (int)syscall(number, file) : 0;
 }
 int fsync(int file) { return synced(FSYNC, file); }
 int fdatasync(int file) { return synced(FDATASYNC, file); }
+
+int close(int file) {
+    int status = (int)syscall(CLOSE, file);
+    if (!status && file > 2) note("close", file, 0, "", 0);
+    return status;
+}
 
 int ftruncate(int file, off_t size) {
     int status = (int)syscall(TRUNCATE, file, size);
@@ -97,9 +119,19 @@ int unlinkat(int folder, const char *name, int flags) {
 }
 int unlink(const char *name) { return unlinkat(HERE, name, 0); }
 
+static void note_found(int file) {
+    long size = syscall(SEEK, file, 0L, 2);
+    syscall(SEEK, file, 0L, 0);
+    void *bytes = size > 0 ? (void *)syscall(MAP, 0L, size, 1L, 2L, file, 0L) : 0;
+    if ((long)bytes <= 0) return;
+    note("found", file, 0, bytes, size);
+    syscall(UNMAP, bytes, size);
+}
+
 static int opened(int folder, const char *name, int flags, unsigned mode) {
     int file = (int)syscall(OPENAT, folder, name, flags, mode);
     if (file >= 0) note_names("open", file, flags, name, "");
+    if (file >= 0 && flags & 02 && is_program()) note_found(file);
     return file;
 }
 
