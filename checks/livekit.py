@@ -250,8 +250,10 @@ def verify_strings(cursor):
         fail(f"strings differ from those of a program from nothing: {sorted(differing)[:4]}")
 
 
-def rows_of(cursor, prefix, streets, key, frc, fow, direction, geom, path):
-    """The parts of the streets of a table that can be lines: (id, class, form, direction, text of the geometry)."""
+def rows_of(cursor, source):
+    """The parts of the streets of a table, a row of olr_keep.source, that can be lines: (id, class, form, direction, text of the
+    geometry)."""
+    prefix, streets, key, frc, fow, direction, geom, path = source
     cursor.execute(f"set local search_path = {path}")
     cursor.execute(f"""with street as (
             select ({key})::text as id, ({frc})::text as class, ({fow})::text as form, ({direction})::text as direction, ({geom}) as geom
@@ -272,7 +274,7 @@ def rows_of(cursor, prefix, streets, key, frc, fow, direction, geom, path):
 def verify_map(cursor):
     """Fails unless the lines are those of the editors' tables, cut at their junctions."""
     cursor.execute("select prefix, streets, id, class, form, direction, geom, search_path from olr_keep.source")
-    found = [it for source in cursor.fetchall() for it in rows_of(cursor, *source)]
+    found = [it for source in cursor.fetchall() for it in rows_of(cursor, source)]
     rows, wrong, counts = [], set(), collections.Counter()
     for key, frc, fow, direction, text in found:
         points = points_of(text)

@@ -53,6 +53,24 @@ def make_morning(keep):
     return keep.path("a", [10, 20, 30], positive=1500)
 
 
+def check_explained(explained):
+    """The fields of the second string of the morning."""
+    same("explain", (len(explained.points), explained.positive, explained.negative), (2, 45, None))
+    first, last = explained.points
+    same("its points", (round(first.lon, 4), round(last.lat, 4), first.dnp, last.dnp), (6.1268, 49.6031, 14, None))
+    same("its fields", (first.frc, first.fow, first.sector, first.lfrcnp, last.sector), (3, 2, 12, 5, 25))
+
+
+def check_rejected(keep):
+    """A rejected call and a rejected record."""
+    fault = raised(lambda: keep.drop_line(77), Rejected)
+    same("a rejected call", (fault.number, fault.word, str(fault)), (6, "NoLine", "fault,6,NoLine: drop-line,77"))
+    reply = keep.ask("drop-line,77\r\n")
+    same("a rejected record", reply, olr_keep.Reply("fault", 6, "NoLine"))
+    same("its text", (reply.accepted, reply.text()), (False, "fault,6,NoLine\n"))
+    raised(lambda: keep.margin(1.5, 0), TypeError)
+
+
 def check_calls():
     """Each call is the record that it is named for."""
     three, two = "CwRbWyNG9RpsCQCb/jsbtAT/6/+jK1lE", "CwRbWyNG9RqsDgCG/d4rWS0="
@@ -79,22 +97,13 @@ def check_calls():
         same("a path that is not encodable", list(keep.path("b", [10, 30])), [olr_keep.Answer("b", None, 2, 0)])
         same("report", [it.is_encodable for it in keep.report()], [True, False])
         same("repath", [it.reason for it in keep.repath("b", iter([10, 20]), 5610, 2000)], [3])
-        explained = keep.explain(two)
-        same("explain", (len(explained.points), explained.positive, explained.negative), (2, 45, None))
-        first, last = explained.points
-        same("its points", (round(first.lon, 4), round(last.lat, 4), first.dnp, last.dnp), (6.1268, 49.6031, 14, None))
-        same("its fields", (first.frc, first.fow, first.sector, first.lfrcnp, last.sector), (3, 2, 12, 5, 25))
+        check_explained(keep.explain(two))
         # Path b is now longer than its offsets, and its end is extended to node 4.
         same("set_line", [it.name for it in keep.set_line(10, 3, 2, 5700)], ["a", "b"])
         same("move and drop_path", (len(keep.move(4, 6.1282, 49.6031)), len(keep.drop_path("b"))), (2, 0))
         same("begin and abort", (len(keep.begin()), keep.node(9, 6, 49).held, len(keep.abort())), (0, 1, 0))
         same("node and drop_node", (len(keep.node(9, 6, 49)), len(keep.drop_node(9))), (0, 0))
-        fault = raised(lambda: keep.drop_line(77), Rejected)
-        same("a rejected call", (fault.number, fault.word, str(fault)), (6, "NoLine", "fault,6,NoLine: drop-line,77"))
-        reply = keep.ask("drop-line,77\r\n")
-        same("a rejected record", reply, olr_keep.Reply("fault", 6, "NoLine"))
-        same("its text", (reply.accepted, reply.text()), (False, "fault,6,NoLine\n"))
-        raised(lambda: keep.margin(1.5, 0), TypeError)
+        check_rejected(keep)
         same("the status", (keep.status, keep.close(), keep.close()), (1, 1, 1))
     raised(lambda: keep.ask("report"), ValueError)
 
@@ -234,31 +243,36 @@ def check_memory():
     same("memory after 20 dropped registers, in 10 MB", (memory() - before) // 10_000_000, 0)
 
 
+async def loop_goes_on(keep):
+    """Other coroutines have turns while a call runs long."""
+    ticks = []
+
+    async def tick():
+        while True:
+            ticks.append(1)
+            await asyncio.sleep(0)
+
+    ticking = asyncio.ensure_future(tick())
+    text = await keep.text("".join(f"node,{n},6,49\n" for n in range(1000, 30000)))
+    same("the replies", text.count(b"ok,0\n"), 29000)
+    # On a busy machine the loop may have no processor during a call.
+    most = 0
+    for _ in range(100):
+        before = len(ticks)
+        await keep.text("".join(f"move,{n},6,49\n" for n in range(1000, 30000)))
+        most = max(most, len(ticks) - before)
+        if most > 3:
+            break
+    ticking.cancel()
+    same("the loop goes on", most > 3, True)
+
+
 async def ask_together():
     """Coroutines over one register, with batches, faults and a cancelled call."""
     async with AsyncKeep() as keep:
         made = await asyncio.gather(*(keep.node(n, 6, 49) for n in range(1, 200)))
         same("coroutines", [len(it) for it in made], [0] * 199)
-        ticks = []
-
-        async def tick():
-            while True:
-                ticks.append(1)
-                await asyncio.sleep(0)
-
-        ticking = asyncio.ensure_future(tick())
-        text = await keep.text("".join(f"node,{n},6,49\n" for n in range(1000, 30000)))
-        same("the replies", text.count(b"ok,0\n"), 29000)
-        # On a busy machine the loop may have no processor during a call.
-        most = 0
-        for _ in range(100):
-            before = len(ticks)
-            await keep.text("".join(f"move,{n},6,49\n" for n in range(1000, 30000)))
-            most = max(most, len(ticks) - before)
-            if most > 3:
-                break
-        ticking.cancel()
-        same("the loop goes on", most > 3, True)
+        await loop_goes_on(keep)
         async with keep.batch() as batch:
             await keep.drop_node(1)
             await keep.line(1, 2, 3, 3, 3, 500)

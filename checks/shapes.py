@@ -1,4 +1,4 @@
-"""Whether the functions of the tools, of Python and of the build have the shapes that they shall have.
+"""Whether the functions of the tools, of Python, of the build and of the checks have the shapes that they shall have.
 
     checks/shapes.py FILE..
 
