@@ -29,7 +29,7 @@ LENGTHS = {
     "docs/DECISIONS.md": 3700,
     "docs/EMBEDDING.md": 2100,
     "docs/LIMITS.md": 3900,
-    "docs/LIVE.md": 2620,
+    "docs/LIVE.md": 2640,
     "docs/MAPS.md": 2800,
     "docs/QUALITY.md": 1700,
     "docs/SECURITY.md": 850,

@@ -739,6 +739,42 @@ def expressions(server):
     print("live: expressions with percent signs and functions, that fail, and a row that can't be read stop nothing else")
 
 
+NAMED = ("alter table streets add name text, add ref text", "update streets set (name, ref) = ('Kirch\tstr. \\n', 'B 10') where id = 1",
+         "update streets set name = ' ' where id = 2", f"insert into streets values (4, 9, 3, 'both', {line(east(0), east(1))}, 'unfit')")
+
+
+def named(server):
+    """Names of streets: of an expression, that changes, that fails, and that is taken away. They change no line and no string."""
+    with Case(server, "named") as case:
+        case.save(*(f"insert into streets values ({k}, 3, 3, 'both', {line(east(100 * k), east(100 * k + 100))})" for k in (1, 2, 3)),
+                  "insert into olr_keep.path (name, streets) values ('it', '{1,2,3}')")
+        read = "select digest, street from olr_keep.street order by street"
+        digests, before, rounds = case.ask(read), case.texts(), case.ask("select count(*) from olr_keep.history")
+        lines = case.ask("select xmin, line, fields from olr_keep.line order by line")
+        case.save("select olr_keep.add_streets('streets')")
+        if case.ask(read) != digests or case.ask("select about from olr_keep.path_state") != [(None,)]:
+            fail("named: streets without names are read as others")
+        case.save(*NAMED, "select olr_keep.add_streets('streets', name => 'concat_ws('', '', ref, name)')")
+        case.expect("select about from olr_keep.path_state", "B 10, Kirch\tstr. \\n, 300 m, eastward", "a path isn't named by its streets")
+        found = case.ask("select street, name from olr_keep.street order by street")
+        if found != [("1", "B 10, Kirch\tstr. \\n"), ("2", None), ("3", None), ("4", "unfit")]:
+            fail(f"named: the names are {found}")
+        case.save("update streets set name = 'Ring' where id > 1")
+        case.expect("select about from olr_keep.path_state", "B 10, Kirch\tstr. \\n, Ring, 300 m, eastward", "a name that changes isn't read")
+        case.do("alter table streets rename ref to number")
+        case.expect("select count(*) from olr_keep.problem where kind = 'table'", 1, "a name that can't be read is not listed")
+        case.do("alter table streets rename number to ref")
+        case.expect("select count(*) from olr_keep.problem where kind = 'table'", 0, "a name that can be read is listed")
+        case.save("select olr_keep.add_streets('streets')", "delete from streets where id = 4")
+        if case.ask(read) != digests or case.ask("select count(name) from olr_keep.street") != [(0,)]:
+            fail("named: names stay")
+        if case.ask("select xmin, line, fields from olr_keep.line order by line") != lines or case.texts() != before:
+            fail("named: names change lines or strings")
+        if case.ask("select count(*) from olr_keep.history") != rounds:
+            fail("named: names are published")
+    print("live: names of streets are read, follow their expression, and change no line and no string")
+
+
 LONG_ID = "(select string_agg(md5(k::text), '') from generate_series(1, 31250) as k)"  # of a million characters
 
 
@@ -1090,7 +1126,7 @@ def prepared(server):
 
 
 CASES = (rights, parts, stopped, open_editor, locked_paths, service_road, drift, two_roads, one_save, held_cluster, limits,
-         during_attempt, frozen, delayed, nation, accepted, identity, left_for_later, margin, draft, ambiguous, bad_paths, expressions, tables, numbers, upgrade, released, listens)
+         during_attempt, frozen, delayed, nation, accepted, identity, left_for_later, margin, draft, ambiguous, bad_paths, expressions, named, tables, numbers, upgrade, released, listens)
 
 
 def run_cases(server, times, names):

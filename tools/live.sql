@@ -98,6 +98,8 @@ create table if not exists olr_keep.street (
     shape bigint
 );
 comment on table olr_keep.street is 'The streets as live has read them; those without a class are left out of the map.';
+alter table olr_keep.street add column if not exists name text;
+comment on column olr_keep.street.name is 'Its name, by which people know it, or NULL.';
 comment on column olr_keep.street.shape is 'A digest of the direction and the geometry; that of the whole row is digest.';
 
 create table if not exists olr_keep.vertex (street text not null, part int not null, k int not null, place bigint not null);
@@ -241,6 +243,7 @@ create table if not exists olr_keep.source (
     id_type text not null, class text not null, form text not null, direction text not null, geom text not null,
     prefix text not null default '', search_path text not null default 'public'
 );
+alter table olr_keep.source add column if not exists name text;
 comment on table olr_keep.source is 'The tables of streets, with the expressions of their columns. add_streets writes it.';
 
 -- Makes or drops the indexes of the map, with the rights of the owner. A first load makes them when all rows are there, since that
@@ -457,14 +460,16 @@ set search_path = pg_catalog, pg_temp as $$
 $$;
 
 drop function if exists olr_keep.add_streets(text, text, text, text, text, text, text);
+drop function if exists olr_keep.add_streets(text, text, text, text, text, text, text, name[]);
 create or replace function olr_keep.add_streets(
     streets text, id text default 'id', class text default 'class', form text default 'form',
-    direction text default 'direction', geom text default 'geom', prefix text default '', schemas name[] default current_schemas(true)
+    direction text default 'direction', geom text default 'geom', prefix text default '', schemas name[] default current_schemas(true),
+    name text default null
 ) returns text language plpgsql set search_path = pg_catalog, pg_temp as $$
 declare
     given regclass;
     foreign_name text := olr_keep.foreign_names(schemas);
-    path text := (select string_agg(quote_ident(name), ', ') from unnest(schemas) as name where name !~ '^pg_temp');
+    path text := (select string_agg(quote_ident(it), ', ') from unnest(schemas) as it where it !~ '^pg_temp');
     whole text;
     type text;
     number int;
@@ -482,14 +487,14 @@ begin
     if whole is null then
         raise exception '% is not a table: triggers of a view don''t fire for the changes of its tables; name these', streets;
     end if;
-    execute format('select pg_typeof(%s), (%s)::text, (%s)::text, (%s)::text, ST_SRID(%s)
-        from (select 1) as one left join %s on false', id, class, form, direction, geom, whole) into type;
+    execute format('select pg_typeof(%s), (%s)::text, (%s)::text, (%s)::text, ST_SRID(%s), (%s)::text
+        from (select 1) as one left join %s on false', id, class, form, direction, geom, coalesce(name, 'null'), whole) into type;
     perform set_config('search_path', 'pg_catalog, pg_temp', true);
-    insert into olr_keep.source as old (streets, id, id_type, class, form, direction, geom, prefix, search_path)
-    values (whole, id, type, class, form, direction, geom, prefix, path)
+    insert into olr_keep.source as old (streets, id, id_type, class, form, direction, geom, prefix, search_path, name)
+    values (whole, id, type, class, form, direction, geom, prefix, path, name)
     on conflict on constraint source_streets_key do update
-        set (id, id_type, class, form, direction, geom, prefix, search_path) = (excluded.id, excluded.id_type, excluded.class,
-            excluded.form, excluded.direction, excluded.geom, excluded.prefix, excluded.search_path)
+        set (id, id_type, class, form, direction, geom, prefix, search_path, name) = (excluded.id, excluded.id_type, excluded.class,
+            excluded.form, excluded.direction, excluded.geom, excluded.prefix, excluded.search_path, excluded.name)
     returning source into number;
     perform olr_keep.make_triggers(number, whole, id, path);
     insert into olr_keep.note (source, who) values (number, session_user);
@@ -497,7 +502,7 @@ begin
     return format('%s is source %s', whole, number);
 end $$;
 comment on function olr_keep.add_streets is 'Adds a table of streets, or changes its expressions: direction gives both, along or
-against; prefix begins the ids; functions are sought in the schemas, those of the caller''s search_path.';
+against; prefix begins the ids; functions are sought in the schemas, those of the caller''s search_path; streets may have no name.';
 
 create or replace function olr_keep.drop_streets(streets text) returns text language plpgsql
 set search_path = pg_catalog, pg_temp as $$
@@ -653,11 +658,25 @@ where not exists (select from olr_keep.release where release.hold = hold.hold)
 group by hold.hold;
 comment on view olr_keep.held is 'The holds that are open, and the paths whose strings wait in them, with where these were.';
 
+create or replace function olr_keep.about(names text[], course geometry) returns text language sql stable
+begin atomic
+    select array_to_string(names[:6] || array[case when cardinality(names) > 6 then cardinality(names) - 6 || ' more' end,
+        case when round(far) < 1000 then round(far) || ' m' else round(far::numeric / 1000, 1) || ' km' end,
+        ('{north,north-east,east,south-east,south,south-west,west,north-west}'::text[])[round(turn / 45)::int % 8 + 1] || 'ward'], ', ')
+    from (select ST_Length(course::geography) as far,
+        degrees(ST_Azimuth(ST_StartPoint(course)::geography, ST_EndPoint(course)::geography)) as turn) as on_map
+    where cardinality(names) > 0;
+end;
+comment on function olr_keep.about is 'Names of streets, and the length and the direction of a course; NULL without a name.';
+
 create or replace view olr_keep.path_state as
 select name as path, case when waiting.kind = 'delayed' then 'delayed' else string.state end as state,
     string.text as string, last_text as last_string, string.reason, string.round, round.at, now() - round.at as age,
     (select string_agg(words, '; ' order by problem) from olr_keep.problem where problem.path = name) as problems, geom,
-    exists (select from olr_keep.ambiguity where ambiguity.name = string.name) as ambiguous, string.margin, off_m, due
+    exists (select from olr_keep.ambiguity where ambiguity.name = string.name) as ambiguous, string.margin, off_m, due,
+    olr_keep.about((select array_agg(each.name order by nth) from (
+        select street.name, min(nth) as nth from unnest(string.streets) with ordinality as way(marked, nth)
+        join olr_keep.street on street.street = substr(marked, 2) where street.name is not null group by street.name) as each), geom) as about
 from olr_keep.string left join olr_keep.round using (round) left join olr_keep.waiting using (name);
 comment on view olr_keep.path_state is 'Each path with its state, the age of its string, its problems in words, and its course.';
 

@@ -203,7 +203,7 @@ class FirstLoads(unittest.TestCase):
 # ---- reading
 
 
-SOURCE = Source(1, 'public."100%"', "'%' || id", "text", "class", "form", "direction", "geom", "", "public")
+SOURCE = Source(1, 'public."100%"', "'%' || id", "text", "class", "form", "direction", "geom", "", "public", None)
 
 
 class Reading(unittest.TestCase):
@@ -254,6 +254,7 @@ class Reading(unittest.TestCase):
         query = row_query(SOURCE) % {"prefix": "''"}
         self.assertIn("('%' || id) as id", query)
         self.assertIn('from public."100%"', query)
+        self.assertIn("(concat('%', ref))::text", row_query(SOURCE._replace(name="concat('%', ref)")) % {"prefix": "''"})
 
 
 class Failing(FakeCursor):
@@ -269,7 +270,7 @@ class Failing(FakeCursor):
             raise psycopg2.DataError("invalid input")
         if len(ids) > 2 and not self.found:
             shape = bytes.fromhex(wkb_hex((place(0), place(9)))[:2] + "02000000" + wkb_hex((place(0), place(9)))[18:])
-            self.found = [(it.strip('"'), 1, 2, "3", "3", "both", "ST_LineString", 4326, shape)
+            self.found = [(it.strip('"'), 1, 2, "Ring", "3", "3", "both", "ST_LineString", 4326, shape)
                           for it in ids[1:-1].split(",") if it]
 
 
@@ -319,6 +320,7 @@ class ReadingRows(unittest.TestCase):
         self.assertEqual(sorted(rows), [str(k) for k in range(8)])
         self.assertEqual(rows["3"][0].street, Unfit("invalid input"))
         self.assertIsInstance(rows["4"][0].street, Street)
+        self.assertEqual((rows["3"][0].name, rows["4"][0].name), (None, "Ring"))
 
 
 class Attempts(unittest.TestCase):

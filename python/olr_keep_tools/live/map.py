@@ -99,14 +99,16 @@ class MapUpdate:
         return self.records
 
     def set_attributes(self) -> None:
-        """Streets of which only class or form differ: their lines stay as they are but for that."""
-        rows = [(key, it.digest, it.source, street.frc, street.fow) for key, it in self.plain.items()
+        """Streets of which only class, form or name differ: their lines stay as they are but for class and form."""
+        rows = [(key, it.digest, it.source, street.frc, street.fow, it.name) for key, it in self.plain.items()
                 if isinstance(street := it.street, Street)]
-        update(self.cursor, """update olr_keep.street set digest = it.digest, source = it.source, class = it.class, form = it.form
-            from (values %s) as it(street, digest, source, class, form) where street.street = it.street""", rows)
+        update(self.cursor, """update olr_keep.street
+            set digest = it.digest, source = it.source, class = it.class, form = it.form, name = it.name
+            from (values %s) as it(street, digest, source, class, form, name) where street.street = it.street""", rows)
         self.cursor.execute("""update olr_keep.line
             set fields = class || ',' || form || substr(fields, length(substring(fields from '^[0-9]+,[0-9]+')) + 1)
             from olr_keep.street where street.street = line.street and street.street = any(%s::text[])
+                and substring(fields from '^[0-9]+,[0-9]+') <> class || ',' || form
             returning line, fields""", (text_array(self.plain),))
         self.records += [f"set-line,{line},{fields}" for line, fields in sorted(self.cursor.fetchall())]
         if self.affected.are_open(self.cursor):
@@ -215,10 +217,10 @@ class MapUpdate:
         rows, vertices = [], []
         for key, it in self.rows.items():
             street, name = self.after.get(key), key.translate(ESCAPES)
-            rows.append((key, it.digest, it.source, *(street[:3] if street else (None, None, None)), it.shape))
+            rows.append((key, it.digest, it.source, *(street[:3] if street else (None, None, None)), it.shape, it.name))
             for part, places in enumerate(street.parts if street else ()):
                 vertices += [f"{name}\t{part}\t{k}\t{place}\n" for k, place in enumerate(places)]
-        copy(self.cursor, "street", "street, digest, source, class, form, direction, shape", rows)
+        copy(self.cursor, "street", "street, digest, source, class, form, direction, shape, name", rows)
         copy_lines(self.cursor, "vertex", "street, part, k, place", vertices)
 
     def write_nodes(self, cut: Cut) -> None:

@@ -22,6 +22,7 @@ class StreetRow(NamedTuple):
     digest: int
     shape: int
     street: Union[Street, Unfit]
+    name: Optional[str] = None
 
 
 class LastRead(NamedTuple):
@@ -43,7 +44,7 @@ class Fate(enum.Enum):
 
 
 class Block(NamedTuple):
-    """Streets that differ: rows by street, streets that are gone, and those of which only class or form are others."""
+    """Streets that differ: rows by street, streets that are gone, and those of which only class, form or name are others."""
 
     rows: Dict[str, StreetRow]
     gone: Set[str]
@@ -348,14 +349,14 @@ class Reader:
     def fetch(self, source: Source, ids: Set[str]) -> Dict[str, List[StreetRow]]:
         """The rows of these ids, as lists by street."""
         self.cursor.execute(
-            f"""select street, digest, shape, class, form, direction, ST_GeometryType(geom), ST_SRID(geom),
+            f"""select street, digest, shape, name, class, form, direction, ST_GeometryType(geom), ST_SRID(geom),
                 ST_AsBinary(olr_keep.degrees(geom), 'NDR')
             from ({row_query(source, where_ids(source))}) as row""",
             {"prefix": source.prefix, "ids": text_array(ids)})
         found: Dict[str, List[StreetRow]] = {}
-        for street, digest, shape, frc, fow, direction, kind, srid, binary in self.cursor:
+        for street, digest, shape, name, frc, fow, direction, kind, srid, binary in self.cursor:
             read = street_of(frc, fow, direction, kind, srid, None if binary is None else bytes(binary))
-            row = StreetRow(source.source, digest, shape, read)
+            row = StreetRow(source.source, digest, shape, read, name)
             found.setdefault(street, []).append(row)
         return found
 
@@ -429,5 +430,5 @@ def is_nameless(key: str) -> bool:
 
 
 def is_plain(known: Optional[LastRead], row: StreetRow) -> bool:
-    """Whether only the class or the form of a street is another one."""
+    """Whether only the class, the form or the name of a street is another one."""
     return known is not None and known.is_fit and known.shape == row.shape and isinstance(row.street, Street)

@@ -22,7 +22,7 @@ class Busy(Exception):
 
 
 class Source(NamedTuple):
-    """A table of streets, and the expressions of its columns."""
+    """A table of streets, and the expressions of its columns; streets may have no names."""
 
     source: int
     streets: str
@@ -34,6 +34,7 @@ class Source(NamedTuple):
     geom: str
     prefix: str
     search_path: str
+    name: Optional[str]
 
 
 class Readable(enum.Enum):
@@ -88,7 +89,7 @@ def connect(database: str, idle: int) -> Any:
 
 def check_schema(cursor: Any) -> None:
     """Fails if the schema is missing, or that of another version."""
-    cursor.execute("select to_regclass('olr_keep.identity') is null")
+    cursor.execute("select not exists (select from pg_attribute where attrelid = to_regclass('olr_keep.street') and attname = 'name')")
     if cursor.fetchone()[0]:
         raise psycopg2.ProgrammingError("the database has no schema olr_keep, or that of another version: run tools/live.sql")
 
@@ -114,9 +115,9 @@ def end_stopped(cursor: Any, seconds: float) -> bool:
 
 def sources_of(cursor: Any, draft: str = "") -> List[Source]:
     """The tables of streets; those of the same names in the schema of a draft take their places."""
-    cursor.execute("""select source, case when to_regclass(name) is null then streets else name end, id, id_type, class, form,
-            direction, geom, prefix, search_path
-        from olr_keep.source cross join lateral (select format('%%I.%%I', %s, (parse_ident(streets))[2]) as name) as of_draft
+    cursor.execute("""select source, case when to_regclass(whole) is null then streets else whole end, id, id_type, class, form,
+            direction, geom, prefix, search_path, name
+        from olr_keep.source cross join lateral (select format('%%I.%%I', %s, (parse_ident(streets))[2]) as whole) as of_draft
         order by source""", (draft,))
     return [Source(*it) for it in cursor]
 
@@ -221,10 +222,10 @@ def first_line(error: Exception) -> str:
 def row_query(source: Source, where: str = "") -> str:
     """The rows of a table of streets, with the columns that make a street. It is to be run with parameters."""
     columns = f"({source.id}) as id, ({source.frc})::text as class, ({source.fow})::text as form"
-    columns += f", ({source.direction})::text as direction, ({source.geom}) as geom"
+    columns += f", ({source.direction})::text as direction, ({source.geom}) as geom, nullif(btrim(({source.name or 'null'})::text), '') as name"
     inner = f"select {columns} from {source.streets}".replace("%", "%%")
-    return f"""select case when octet_length(id::text) <= {LONGEST_ID} then %(prefix)s || id::text end as street, class, form, direction, geom, shape,
-            hashtextextended(concat_ws('|', coalesce(class, '?'), coalesce(form, '?'), shape), 0) as digest
+    return f"""select case when octet_length(id::text) <= {LONGEST_ID} then %(prefix)s || id::text end as street, class, form, direction, geom, shape, name,
+            hashtextextended(concat_ws('|', coalesce(class, '?'), coalesce(form, '?'), shape, name), 0) as digest
         from (select *, hashtextextended(concat_ws('|', coalesce(direction, '?'), geom::text), 0) as shape
             from ({inner} {where}) as it offset 0) as it"""
 
