@@ -674,6 +674,7 @@ BAD_PATHS = {
     "outside": ("course", "'LINESTRING(6.1 49.6, 600 4900)'", "beyond"),
     "long": ("course", "'LINESTRING(6.1 49.6, 100 60)'", "100 km"),
     "unknown": ("streets", "'{nowhere}'", "street nowhere has no line"),
+    "cut": ("cut_start, streets", "1000, '{6100000}'", "the offsets together are as long as the path, or longer, so nothing of it is left"),
 }
 
 
@@ -681,7 +682,7 @@ def bad_paths(server):
     """Paths that are wrong in each way, beside a good one; an upgrade of the program finds them too."""
     with Case(server, "bad_paths") as case:
         for name, (column, value, _) in BAD_PATHS.items():
-            given = value if column == "streets" else f"ST_GeomFromText({value}, 4326)"
+            given = value if column != "course" else f"ST_GeomFromText({value}, 4326)"
             if name in ("nan", "infinite"):
                 numbers = "'NaN', 'NaN'" if name == "nan" else "'Infinity', 49.6"
                 given = f"ST_SetSRID(ST_MakeLine(ST_MakePoint(6.1, 49.6), ST_MakePoint({numbers})), 4326)"

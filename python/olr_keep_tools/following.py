@@ -11,7 +11,7 @@ import time
 from typing import Dict, Iterator, List, NamedTuple, Optional, Protocol, Union
 
 from .command import say
-from .reasons import without_map
+from .reasons import in_words
 
 FIRST = "-"  # the identity that is asked for at first
 WAIT = 1.0  # seconds after which a sink is notified that nothing follows yet, and before the service is asked again
@@ -33,7 +33,7 @@ class Changed(NamedTuple):
         kind, _, rest = self.answer.partition(",")
         if kind == "text":
             return {"event": "changed", **what, "string": rest}
-        return {"event": "dropped", **what} if kind == "dropped" else {"event": "changed", **what, "reason": self.answer, "words": words(self.answer)}
+        return {"event": "dropped", **what} if kind == "dropped" else {"event": "changed", **what, "reason": self.answer, "words": in_words(self.answer)}
 
     @property
     def key(self) -> str:
@@ -78,12 +78,6 @@ class Sink(Protocol):
 
 class Broken(Exception):
     """Why a connection gives no more events."""
-
-
-def words(answer: str) -> str:
-    """A reason in words."""
-    parts = answer.split(",")
-    return without_map(parts).line() if parts[0] == "refused" and len(parts) > 1 and all(map(str.isdecimal, parts[1:])) else answer
 
 
 class Reader:

@@ -64,6 +64,12 @@ def without_map(answer: Sequence[str]) -> Refusal:
     return Refusal(words.get(kind, TITLES.get(kind, kind)), [])
 
 
+def in_words(answer: str) -> str:
+    """An answer as `refused,2,0` in words, without the path and its map. One that is no refusal stays as it is."""
+    parts = answer.split(",")
+    return without_map(parts).line() if parts[0] == "refused" and len(parts) > 1 and all(map(str.isdecimal, parts[1:])) else answer
+
+
 def lines_about(path: Path, answer: Sequence[str]) -> List[int]:
     """The lines of a path that `refusal` needs for a missing line, or for lines that don't join; none for another reason."""
     if answer[1] == "1" and int(answer[2]) in path.lines:

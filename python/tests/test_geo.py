@@ -6,7 +6,7 @@ from typing import Dict, List
 from olr_keep_tools import geo
 from olr_keep_tools.drawn import Junctions, courses, offset_parts, part
 from olr_keep_tools.names import Name, described, of_path, streets
-from olr_keep_tools.reasons import lines_about, refusal, without_map
+from olr_keep_tools.reasons import in_words, lines_about, refusal, without_map
 from olr_keep_tools.receiver import RULES, Failed, Found, RoadMap, decode, within
 from olr_keep_tools.records import Path, State
 from olr_keep_tools.routes import Search, Step
@@ -117,7 +117,8 @@ class Drawn(unittest.TestCase):
         self.assertEqual(lines_about(MAP.paths["b"], answer), list(MAP.paths["b"].lines[:2]))
         self.assertEqual(lines_about(Path(0, 0, (1, 9, 2, 3)), ["refused", "1", "9"]), [1, 2])
         self.assertEqual(without_map(answer).line(), "of its lines, number 1 does not end where number 2 begins")
-        self.assertEqual(without_map(["refused", "1", "9"]).line(), "line 9 is not in the map")
+        self.assertEqual(in_words("refused,1,9"), "line 9 is not in the map")
+        self.assertEqual([in_words(it) for it in ("dropped", "refused", "refused,x")], ["dropped", "refused", "refused,x"])
 
 
 class Streets(unittest.TestCase):

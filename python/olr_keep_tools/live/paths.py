@@ -9,6 +9,7 @@ from ..courses import Ends, Found, Lost, Rival, course_of
 from ..forked import Forked
 from ..geo import METRES
 from ..pathlines import Finder, Known, PathSearch, Placement, Remark, State, Unread, Wanted, marked_street
+from ..reasons import in_words
 from ..roads import restored, stored
 from ..sql import Course, Place, coordinates, copy, course_hex, number_array, places_hex, point, text_array, update
 from .cells import merged
@@ -392,14 +393,6 @@ def write_rows(cursor: Any, rows: Sequence[Sequence[object]]) -> None:
             excluded.given_streets, excluded.last_map, excluded.lost_at, excluded.at_junctions, excluded.off_m)""", rows)
 
 
-REASONS = {
-    "1": "it has no lines on the map now: line {} is gone",
-    "2": "its lines do not join: line {} of them, from 0, does not end where the next one begins",
-    "3": "what is cut off at its ends is as long as the path, or longer",
-    "4": "no location reference point can follow position {}: the line there is too long",
-}
-
-
 class Cause(NamedTuple):
     """Which round wrote a problem first, or None, and who made the edits of it."""
 
@@ -475,5 +468,4 @@ def why_no_string(reason: str, placed: Optional[Placed], start: Optional[Place])
     """Why a path has no string, in words, and where."""
     if placed and placed.why and placed.state is State.LOST:
         return placed.why.words, point(placed.why.place or start)
-    kind, _, at = reason.partition(",")[2].partition(",")
-    return REASONS.get(kind, "no lines follow it").format(at), point(start)
+    return "no lines follow it" if reason == "lost" else in_words(reason), point(start)
