@@ -11,10 +11,7 @@ Degrees = Union[float, int, str, decimal.Decimal, numbers.Real]
 # The shape points of a line: the distance of each from the line's start, in decimetres, and its longitude and latitude.
 Shape = Iterable[Tuple[int, Degrees, Degrees]]
 
-# The CSV fields of one line: quoted, with text after the closing quote allowed, or without a quote at the start.
-FIELD = rb'(?:"(?:[^"]|"")*"(?:[^",][^,]*)?|[^",][^,]*|)'
-ONE_RECORD = re.compile(rb"(?=[^\r\n]+\Z)" + FIELD + rb"(?:," + FIELD + rb")*")
-PLAIN = re.compile(rb'[^"\r\n]+')
+QUOTES = re.compile(rb'"+')
 HELD = re.compile(rb"held,([0-9]+)\n")
 NAME = re.compile(r'[^",\r\n]+')
 
@@ -29,8 +26,16 @@ def bytes_of(record: Union[str, bytes, bytearray, memoryview]) -> bytes:
 
 
 def is_one_record(line: bytes) -> bool:
-    """Whether these bytes are one record on one line, without its line end."""
-    return bool(PLAIN.fullmatch(line) or ONE_RECORD.fullmatch(line))
+    """Whether these bytes are one record on one line, without its line end: neither empty nor with an open quote. A field that begins
+    with a quote is open until an odd number of quotes in a row; then text may follow. Other fields may have quotes."""
+    if not line or b"\n" in line or b"\r" in line:
+        return False
+    is_open = False
+    for run in QUOTES.finditer(line):
+        at, end = run.span()
+        if (end - at) % 2 and (is_open or not at or line[at - 1 : at] == b","):
+            is_open = not is_open
+    return not is_open
 
 
 def held_after(sent: bytes, replies: bytes, held: int) -> int:

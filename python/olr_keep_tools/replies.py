@@ -9,9 +9,7 @@
 import re
 from typing import List, NamedTuple, Optional, Protocol, Union
 
-# The CSV fields of one line: quoted, with text after the closing quote allowed, or without a quote at the start.
-FIELD = rb'(?:"(?:[^"]|"")*"(?:[^",][^,]*)?|[^",][^,]*|)'
-ONE_RECORD = re.compile(rb"(?=[^\r\n]+\Z)" + FIELD + rb"(?:," + FIELD + rb")*")
+QUOTES = re.compile(rb'"+')
 
 # The first line of a reply.
 HEAD = re.compile(r"(ok|held|fault),([0-9]{1,18})(?:,(.*))?")
@@ -32,11 +30,17 @@ class Readable(Protocol):
 
 
 def is_one_record(line: Union[bytes, str]) -> bool:
-    """Whether this text is one record on one line: neither empty, nor with a line end or an open quote."""
+    """Whether this text is one record on one line: neither empty, nor with a line end or an open quote. A field that begins with a
+    quote is open until an odd number of quotes in a row; then text may follow. Other fields may have quotes."""
     text = line if isinstance(line, bytes) else line.encode("utf-8", "surrogateescape")
-    if not any(it in text for it in (b'"', b"\r", b"\n")):
-        return bool(text)
-    return ONE_RECORD.fullmatch(text) is not None
+    if not text or b"\n" in text or b"\r" in text:
+        return False
+    is_open = False
+    for run in QUOTES.finditer(text):
+        at, end = run.span()
+        if (end - at) % 2 and (is_open or not at or text[at - 1 : at] == b","):
+            is_open = not is_open
+    return not is_open
 
 
 class Head(NamedTuple):

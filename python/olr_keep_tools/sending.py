@@ -11,7 +11,7 @@ from .command import INTERRUPTED, STREAM, Failure, say
 from .drawn import Junctions
 from .program import Program, ProgramFailed
 from .reasons import lines_about, refusal, without_map
-from .records import ENDS, QUESTIONS, Path, State, word_of
+from .records import BOM, ENDS, QUESTIONS, Path, State, word_of
 from .rejected import advice, fields_of, shown
 from .replies import NoReply, Reply, is_one_record, read_reply
 
@@ -48,10 +48,11 @@ def encoded(records: List[Record]) -> bytes:
 
 
 def read_records(name: Optional[str]) -> List[Record]:
-    """The records of a file, or of the input."""
+    """The records of a file, or of the input, in which a byte order mark may stand first."""
     try:
         with open(name or 0, "rb", closefd=bool(name)) as file:
             lines = [it.rstrip(b"\r\n") for it in file]
+        lines[:1] = [it[len(BOM) :] if it.startswith(BOM) else it for it in lines[:1]]
     except OSError as error:
         raise Failure(STREAM, f"{name or 'the input'}: {error.strerror}") from None
     for number, line in enumerate(lines, 1):

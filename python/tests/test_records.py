@@ -1,7 +1,10 @@
 """Tests of records.py, rejected.py and replies.py, without the program."""
 import io
+import itertools
 import os
+import re
 import tempfile
+import tracemalloc
 import unittest
 from typing import List
 
@@ -42,6 +45,20 @@ class Words(unittest.TestCase):
         for text in ("", "a\n", '"a', 'a,"b', "a\rb", '"a\nb"'):
             self.assertFalse(is_one_record(text), text)
             self.assertFalse(is_record(text.encode()), text)
+
+    def test_quotes(self) -> None:
+        """All short texts, by a pattern that says the same; a long one takes no memory beyond itself."""
+        field = rb'(?:"(?:[^"]|"")*"(?:[^",][^,]*)?|[^",][^,]*|)'
+        pattern = re.compile(rb"(?=[^\r\n]+\Z)" + field + rb"(?:," + field + rb")*")
+        for text in (bytes(it) for size in range(7) for it in itertools.product(b'a",\n', repeat=size)):
+            found = pattern.fullmatch(text) is not None
+            self.assertEqual((is_one_record(text), is_record(text)), (found, found), text)
+        for text in (b'explain,"' + b"a" * (1 << 18) + b'"', b'"",' * (1 << 14), b'a,"' + b'""' * (1 << 17) + b'"'):
+            tracemalloc.start()
+            self.assertTrue(is_one_record(text) and is_record(text))
+            most = tracemalloc.get_traced_memory()[1]
+            tracemalloc.stop()
+            self.assertLess(most, 100_000)
 
     def test_batch(self) -> None:
         batch: Batch[str] = Batch()

@@ -1,12 +1,13 @@
 """Tests of how records are divided into batches, and of what is said of a batch that the service rejects, without either."""
 import io
+import tempfile
 import unittest
 from contextlib import redirect_stdout
 from typing import List
 
 from olr_keep_tools.command import Failure
 from olr_keep_tools.replies import Reply, read_reply
-from olr_keep_tools.sending import NO_REPLY, Record, Sender, Service, send, steps
+from olr_keep_tools.sending import NO_REPLY, Record, Sender, Service, read_records, send, steps
 
 
 def records(*texts: str) -> List[Record]:
@@ -27,6 +28,17 @@ class Scripted(Service):
         found = read_reply(self.replies)
         assert found
         return found
+
+
+class Input(unittest.TestCase):
+    def test_mark(self) -> None:
+        """A byte order mark is skipped at the start, as by the program, and a part of the first record of another line."""
+        for content, texts in ((b"\xef\xbb\xbfnode,1,0,0\r\nreport", ["node,1,0,0", "report"]), (b"", []), (b"\xef\xbb\xbf", []),
+                               (b"report\n\xef\xbb\xbfnode", ["report", "\ufeffnode"])):
+            with tempfile.NamedTemporaryFile() as file:
+                file.write(content)
+                file.flush()
+                self.assertEqual([it.text for it in read_records(file.name)], texts)
 
 
 class Steps(unittest.TestCase):
