@@ -13,12 +13,13 @@ from typing import Dict, Iterable, Iterator, List, Mapping, NamedTuple, Optional
 
 from .courses import Found, Ground, Network, cells_near, course_of
 from .drawn import courses
-from .geo import Degrees, degrees
+from .geo import Degrees, degrees, distance
 from .receiver import Cell, cells_along
 from .records import Path, State
 from .roads import WIDER, Answer, Given, LastMap, Roads, Verdict
 
 FAR = 20.0  # metres within which a path is found again
+LONGEST = 100_000.0  # metres between two points of a course; beyond, one of them is wrong
 
 
 class Nearby:
@@ -104,7 +105,8 @@ class TwoMaps:
         self.near_old, self.near_new = Nearby(old, cells), Nearby(new, cells)
 
     def roads(self, path: Path) -> Optional[Roads]:
-        """The decision for a path of the old map, or None if it isn't on connected lines, or nothing of it is left."""
+        """The decision for a path of the old map, or None if it isn't on connected lines, nothing of it is left, or two points of
+        its course are very far apart, which a wrong coordinate brings about."""
         if not are_connected(self.old, path.lines):
             return None
         positive, negative, lines = without_cut(self.old, path)
@@ -112,6 +114,8 @@ class TwoMaps:
             return None
         own = [numbered(self.near_old, it) for it in lines]
         course = course_of(own, positive, negative)
+        if any(distance(a, b) > LONGEST for a, b in zip(course, course[1:])):
+            return None
         old, new = ({it: numbered(nearby, it) for cell in cells_near(course, WIDER) for it in nearby.lines.get(cell, ())}
                     for nearby in (self.near_old, self.near_new))
         last = LastMap({**old, **dict(zip(lines, own))}, lines, (positive, negative))

@@ -11,7 +11,8 @@ from olr_keep_tools import courses, osmrecords, receiver
 from olr_keep_tools.command import printable
 from olr_keep_tools.files import FileFailure
 from olr_keep_tools.osm import Extract, OsmError, read_xml, refuse_inflated
-from olr_keep_tools.records import LONGEST_LINE, Records, RecordsError
+from olr_keep_tools.records import LONGEST_LINE, Path, Records, RecordsError, State
+from olr_keep_tools.twomaps import TwoMaps
 
 
 @contextlib.contextmanager
@@ -71,6 +72,13 @@ class Inputs(unittest.TestCase):
         self.assertLess(len(list(receiver.cells_along((6.0, 49.0), (-170.0, 49.0)))), 20)
         self.assertLess(len(courses.cells_along((6.0, 49.0), (-170.0, 49.0), courses.CELL)), 20)
         self.assertGreater(len(set(receiver.cells_along((6.0, 49.0), (6.5, 49.0)))), 200)
+
+    def test_far_course(self) -> None:
+        """On which road a path is isn't decided if a coordinate of its course is far off, which would take minutes."""
+        for lon, is_decided in (("6.01", True), ("-170", False)):
+            state, path = State(), Path(0, 0, (1,))
+            state.read_dump(["node,1,6,49", f"node,2,{lon},49", "line,1,1,2,3,3,7000"])
+            self.assertEqual(TwoMaps(state, state, [path]).roads(path) is not None, is_decided)
 
     def test_printable(self) -> None:
         self.assertEqual(printable("a\x1b[31mb\u202ec\udcff\n\u00e9"), "a\ufffd[31mb\ufffdc\ufffd\n\u00e9")
