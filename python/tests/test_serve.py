@@ -589,7 +589,11 @@ class Tables(unittest.TestCase):
             point("delete from identity")
             last = point()
             self.assertEqual(last.position, emptied.position + SKIPPED + 1)
-            self.assertEqual(len({it.identity for it in (first, restored, again, emptied, last)}), 5)
+            os.unlink(name)
+            os.unlink(f"{folder}/noted")
+            both = point()  # as a new one, of which only the identity says that it is another one
+            self.assertEqual(both.position, 1)
+            self.assertEqual(len({it.identity for it in (first, restored, again, emptied, last, both)}), 6)
 
     def test_upgrade(self) -> None:
         """A table of 2.0.0 goes on at its position. Without the file beside the log nobody knows whether a table is the last one."""

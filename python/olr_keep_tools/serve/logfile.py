@@ -199,6 +199,15 @@ def look(log: str, most_fewer: float = MOST_FEWER) -> List[Finding]:
     return findings + (missing(scan, last, most_fewer) if last else [])
 
 
+def other_file(log: str) -> List[Finding]:
+    """Whether a file has records and is no log: served, it would become one."""
+    with open(log, "rb") as file:
+        head = file.read(3)
+    if head.startswith(b"\n") or not head.strip(b"\r\n"):
+        return []
+    return [Finding(f"{log} is no log but other records, such as a map, and would be replaced by one: --new --map {log} LOG makes one")]
+
+
 def room_for_more(log: str) -> str:
     """Why a disk has no room for as much as the program lengthens a log by at once, or nothing."""
     try:

@@ -11,7 +11,7 @@ from typing import List
 from olr_keep_tools.command import STREAM, USAGE, Failure, command_line, say
 from olr_keep_tools.files import beside, refuse_inputs
 from olr_keep_tools.program import program_name
-from olr_keep_tools.serve.logfile import MOST_FEWER, NOT_SERVED, accept, look, refusal
+from olr_keep_tools.serve.logfile import MOST_FEWER, NOT_SERVED, accept, look, other_file, refusal
 from olr_keep_tools.serve.notify import Systemd, passed_sockets
 from olr_keep_tools.serve.program import STARTED
 from olr_keep_tools.serve.service import HANDLED, Service, Settings
@@ -96,7 +96,7 @@ def check(log: str, most_fewer: float) -> List[str]:
     """What speaks against serving a log. All that was found is said."""
     if not os.path.exists(log):
         raise Failure(USAGE, f"{log} is missing: is its disk mounted? --new --map FILE makes one")
-    found = look(log, most_fewer)
+    found = look(log, most_fewer) + other_file(log)
     for it in found:
         say(it.text)
     return [it.text for it in found if it.is_against]
@@ -121,7 +121,8 @@ def make(log: str, name: str, program: List[str]) -> None:
             if not STARTED.search(ended.stderr):
                 raise Failure(STREAM, f"{program[0]} is not olr-keep")
             os.link(made, log)
-            say(f"{log} is made: {said.splitlines()[-1]}")
+            # The map may be a log with padding, of which the program says that replies of its last run may be missing.
+            say(f"{log} is made: {said.splitlines()[-1].partition(';')[0]}")
     except FileExistsError:
         raise Failure(USAGE, f"{log} is there, and stays as it is") from None
     except OSError as error:
