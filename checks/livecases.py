@@ -559,7 +559,8 @@ def at_start(case, first):
     for options in (["--margin", "0,0"], []):
         before = case.texts(), margins(case), case.ask("select * from olr_keep.counter order by 1")
         shown = subprocess.run([*command, *options], capture_output=True, text=True, timeout=LIMIT, check=False)
-        if shown.stdout.splitlines() != sorted(f"{name},text,{text}" for name, text in first.items()) or shown.returncode:
+        wanted = [f"{sign}{name},text,{text}" for name in sorted(first) for sign, text in (("-", before[0][name]), ("+", first[name]))]
+        if shown.stdout.splitlines() != wanted or shown.returncode:
             fail(f"margin: a preview {options} prints {shown.stdout}{shown.stderr}")
         if (case.texts(), margins(case), case.ask("select * from olr_keep.counter order by 1")) != before:
             fail(f"margin: a preview {options} changes something")

@@ -198,9 +198,11 @@ class Attempt:
             self.work.rollback()
             self.live.would_hold |= write_report(verdicts, self.settings.draft)
         else:
+            before = self.round.read_published(set(shown))
             self.work.rollback()
             for name, answer in sorted(shown.items()):
-                print(f"{name},{answer.written()}")
+                was = [f"-{name},{before[name].answer.written()}"] if name in before else []
+                print(*was, f"+{name},{answer.written()}", sep="\n")
         words = f"; {len(held)} paths would be held" if held else ""
         print(f"live: {len(self.outcome.published)} answers; {self.outcome.counts.text()}{words}", file=sys.stderr)
         return Ending.SHOWN
