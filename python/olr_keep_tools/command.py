@@ -87,7 +87,7 @@ def run_tool(main: Callable[[], int], interrupted: str = "interrupted") -> NoRet
     except BrokenPipeError:
         status = ended(STREAM, "")
     except OSError as error:
-        status = ended(STREAM, f"{error.filename or 'the output'}: {error.strerror}")
+        status = ended(STREAM, f"{error.filename or 'the output'}: {error.strerror or error}")
     except MemoryError:
         status = ended(STREAM, "out of memory")
     except RecursionError:
