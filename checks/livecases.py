@@ -564,13 +564,32 @@ def at_start(case, first):
             fail(f"margin: a preview {options} prints {shown.stdout}{shown.stderr}")
         if (case.texts(), margins(case), case.ask("select * from olr_keep.counter order by 1")) != before:
             fail(f"margin: a preview {options} changes something")
+        without_reader([*command, *options])
         if options:
             case.stop()
             case.do("update olr_keep.margin set (routes, classes) = (0, 0)")
+    before = len(case.said())
     case.begin()
     case.settle()
     if case.texts() != first or set(margins(case).values()) != {"0,0"}:
         fail("margin: the start doesn't apply it")
+    end = time.monotonic() + LIMIT
+    while SERVES not in (said := case.said()[before:]) and time.monotonic() < end:
+        time.sleep(0.05)
+    if said.find(" 3 answers; ") < 0 or SERVES not in said:
+        fail(f"margin: the start says {said}")
+
+
+def without_reader(command):
+    """A preview whose output nobody reads ends at once, and says nothing of it."""
+    with subprocess.Popen(command, stdout=subprocess.PIPE, stderr=subprocess.PIPE, text=True, env={**os.environ, "PYTHONUNBUFFERED": "1"}) as it:
+        it.stdout.close()
+        said = it.stderr.read()
+    if it.returncode != 3 or "again" in said or "Broken pipe" in said:
+        fail(f"margin: a preview without a reader: status {it.returncode}, {said}")
+
+
+SERVES = "everything is read; what is saved from now on is published"
 
 
 def held_margin(server):
