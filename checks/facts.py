@@ -31,7 +31,7 @@ LENGTHS = {
     "docs/LIMITS.md": 3900,
     "docs/LIVE.md": 2640,
     "docs/MAPS.md": 2800,
-    "docs/QUALITY.md": 1700,
+    "docs/QUALITY.md": 1840,
     "docs/SECURITY.md": 850,
     "docs/SERVICE.md": 3060,
     "docs/START.md": 1000,

@@ -1,0 +1,127 @@
+"""Sections across a course, every few metres as in `roads`, and where lines pass them."""
+from __future__ import annotations
+
+import math
+from collections import defaultdict
+from typing import Dict, Iterable, List, NamedTuple, Sequence, Tuple
+
+from ..courses import Polyline
+from ..roads import SLANT, STEP
+
+CELL = 64.0  # metres
+Place = Tuple[float, float]
+
+
+class Pass(NamedTuple):
+    """Where a line passes a section in the direction of the course: the section, the position on the line, and how many metres to the
+    left of the course."""
+
+    section: int
+    at: float
+    left: float
+
+
+class Across:
+    """The sections across a course, about so many metres apart: of each the position, the point, and the direction as a vector."""
+
+    def __init__(self, course: Polyline, step: float = STEP) -> None:
+        count = max(4, round(course.length / step))
+        self.step = course.length / count
+        self.at = [(k + 0.5) * self.step for k in range(count)]
+        both = places(course, [k * self.step / 2 for k in range(2 * count + 1)])
+        self.points, self.directions = both[1::2], list(map(unit, both[:-1:2], both[2::2]))
+        self.cells: Dict[Tuple[float, float], List[int]] = defaultdict(list)
+        for k, (x, y) in enumerate(self.points):
+            self.cells[x // CELL, y // CELL].append(k)
+
+    def near(self, a: Place, b: Place, reach: float) -> Iterable[int]:
+        """The sections that a segment may pass."""
+        low, right = sorted((a[0], b[0]))
+        bottom, top = sorted((a[1], b[1]))
+        columns = range(int((low - reach) // CELL), int((right + reach) // CELL) + 1)
+        rows = range(int((bottom - reach) // CELL), int((top + reach) // CELL) + 1)
+        if len(columns) * len(rows) > len(self.cells):
+            return range(len(self.at))
+        cells = self.cells
+        return [k for x in columns for y in rows for k in cells.get((x, y), ())]
+
+    def passes(self, line: Polyline, reach: float) -> List[Pass]:
+        """Where a line passes the sections within a distance."""
+        found: List[Pass] = []
+        points, directions = self.points, self.directions
+        for i, (a, b) in enumerate(zip(line.points, line.points[1:])):
+            begin, long, (ax, ay), (bx, by) = line.far[i], line.far[i + 1] - line.far[i], a, b
+            for k in self.near(a, b, reach):
+                (x, y), (east, north) = points[k], directions[k]
+                before = (ax - x) * east + (ay - y) * north
+                if before > 0:
+                    continue
+                after = (bx - x) * east + (by - y) * north
+                if after <= 0 or after - before < SLANT * long:
+                    continue
+                share, one = before / (before - after), (ay - y) * east - (ax - x) * north
+                left = one + share * ((by - y) * east - (bx - x) * north - one)
+                if abs(left) <= reach:
+                    found.append(Pass(k, begin + share * long, left))
+        return found
+
+
+def unit(a: Place, b: Place) -> Place:
+    """The direction from one point to another."""
+    far = math.dist(a, b) or 1.0
+    return (b[0] - a[0]) / far, (b[1] - a[1]) / far
+
+
+def places(course: Polyline, positions: Iterable[float]) -> List[Place]:
+    """The points at positions in ascending order, as `Polyline.at` has them."""
+    found, k, far, last = [], 0, course.far, len(course.far) - 1
+    begin = end = x = y = east = north = 0.0
+    for it in positions:
+        if it > end or not k:
+            while k < last and (far[k] < it or not k):
+                k += 1
+            begin, end, (x, y), (to_x, to_y) = far[k - 1], far[k], course.points[k - 1], course.points[k]
+            east, north = ((to_x - x) / (end - begin), (to_y - y) / (end - begin)) if end > begin else (0.0, 0.0)
+            end = end if k < last else math.inf
+        metres = min(it, far[k]) - begin
+        found.append((x + metres * east, y + metres * north))
+    return found
+
+
+def chain(passes: Sequence[Pass], most: float, step: float) -> List[Pass]:
+    """The passes within a distance that are one after the other on both courses, so that as many sections as possible are passed, as
+    near as possible, and what lies between two is about as long on both."""
+    within = sorted(it for it in passes if abs(it.left) <= most)
+    scores: List[float] = []
+    links: List[int] = []
+    best = -1
+    for k, it in enumerate(within):
+        score, link = before(within, scores, k, best, step)
+        scores.append(score + 1.0 - abs(it.left) / (2 * most))
+        links.append(link)
+        best = k if best < 0 or scores[k] >= scores[best] else best
+    found: List[Pass] = []
+    while best >= 0:
+        found.append(within[best])
+        best = links[best]
+    return found[::-1]
+
+
+BACK, JUMP = 24, 60.0  # passes before one that may be the one before it, and the metres that a jump counts at most
+
+
+def before(within: Sequence[Pass], scores: Sequence[float], k: int, best: int, step: float) -> Tuple[float, int]:
+    """The best pass before one, and the score with it; none and 0 if it begins a chain."""
+    score, link = 0.0, -1
+    section, at, _ = within[k]
+    for j in (*range(k - 1, max(-1, k - BACK), -1), best):
+        if j < 0 or within[j][0] >= section or within[j][1] >= at:
+            continue
+        sections, metres = section - within[j][0], at - within[j][1]
+        more = abs(sections * step - metres)
+        found = scores[j] - min(more, JUMP) / step
+        if found > score:
+            score, link = found, j
+        if sections == 1 and more < 0.3 * step:
+            break
+    return score, link
