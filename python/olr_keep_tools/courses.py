@@ -22,6 +22,7 @@ from .routes import Waiting
 SNAP = 1.0  # metres along a line between an end of the course and a node that are taken as none
 DRAWN = 5.0  # the same for a course that was drawn, or is from another map
 SAMPLE = 10.0  # metres between the points at which a line is compared with the course
+MOST_SAMPLES = 1000  # of them in a straight segment: no road is straight for longer, but one with a wrong coordinate
 SHARE = 0.01
 OTHER = 0.01  # the added mean distance of a line that isn't preferred
 SAME = 1e-6  # costs that differ by less are equal
@@ -163,11 +164,12 @@ class Polyline:
         return min((onto_segment(a, b, *point)[0] for a, b in ends), default=math.inf)
 
     def samples(self, begin: float, end: float) -> Iterator[float]:
-        """Positions between two positions: those of the points, and further ones so that none are more than SAMPLE apart."""
+        """Positions between two positions: those of the points, and further ones so that none are more than SAMPLE apart, as far as
+        MOST_SAMPLES do."""
         low, high = bisect.bisect_right(self.far, begin), bisect.bisect_left(self.far, end)
         marks = [begin, *self.far[low:high], end]
         for a, b in zip(marks, marks[1:]):
-            count = max(1, math.ceil((b - a) / SAMPLE))
+            count = max(1, min(MOST_SAMPLES, math.ceil((b - a) / SAMPLE)))
             yield from (a + (b - a) * k / count for k in range(count))
         yield end
 

@@ -3,6 +3,7 @@ import math
 import random
 from typing import Callable, Dict, Iterator, List, NamedTuple, Optional, Sequence, Set, Tuple, Union
 
+from .courses import MOST_SAMPLES, SAMPLE
 from .geo import METRES, Degrees, between, distance, on_piece, scale
 from .receiver import Cell, Failed, Found, Road, RoadMap, Rules, cells_along, decode, place, shape_length, within
 from .records import Path
@@ -87,7 +88,7 @@ def farthest(coordinates: Sequence[Degrees], others: Sequence[Degrees]) -> float
         for cell in cells_along(a, b):
             cells.setdefault(cell, []).append(k)
     for a, b in zip(coordinates, coordinates[1:]):
-        count = max(1, math.ceil(distance(a, b) / 10))
+        count = max(1, min(MOST_SAMPLES, math.ceil(distance(a, b) / SAMPLE)))
         for lon, lat in (between(a, b, k / count) for k in range(count + 1)):
             near = {k for cell in cells_along((lon - 4e-4, lat - 4e-4), (lon + 4e-4, lat + 4e-4)) for k in cells.get(cell, ())}
             worst = max(worst, min((on_piece(others[k], others[k + 1], lon, lat)[0] for k in near), default=math.inf))

@@ -3,11 +3,12 @@ import contextlib
 import io
 import os
 import tempfile
+import time
 import unittest
 import zlib
 from typing import Iterator
 
-from olr_keep_tools import courses, osmrecords, receiver
+from olr_keep_tools import courses, osmrecords, receiver, refound
 from olr_keep_tools.command import printable
 from olr_keep_tools.files import FileFailure
 from olr_keep_tools.osm import Extract, OsmError, read_xml, refuse_inflated
@@ -72,6 +73,14 @@ class Inputs(unittest.TestCase):
         self.assertLess(len(list(receiver.cells_along((6.0, 49.0), (-170.0, 49.0)))), 20)
         self.assertLess(len(courses.cells_along((6.0, 49.0), (-170.0, 49.0), courses.CELL)), 20)
         self.assertGreater(len(set(receiver.cells_along((6.0, 49.0), (6.5, 49.0)))), 200)
+
+    def test_far_points(self) -> None:
+        """A straight segment that a wrong coordinate makes very long is compared at some points."""
+        for length, count in ((95.0, 10), (9_999.0, 1000), (9e6, 1000)):
+            self.assertEqual(len(list(courses.Polyline([(0.0, 0.0), (length, 0.0)]).samples(0.0, length))), count + 1)
+        began = time.process_time()
+        self.assertGreater(refound.farthest([(6.0, 49.0), (6.0, -80.0)], [(6.0, 49.0), (6.01, 49.0)]), 1000.0)
+        self.assertLess(time.process_time() - began, 2.0)
 
     def test_far_course(self) -> None:
         """On which road a path is isn't decided if a coordinate of its course is far off, which would take minutes."""

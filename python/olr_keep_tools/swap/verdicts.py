@@ -11,7 +11,6 @@ from ..strings import TextError, read_reference
 from .carry import Carried, Gone, How, Report, Result
 
 SLACK = 0.2  # metres by which rounded positions may be off
-SAMPLE = 10.0  # metres between the points of a course that is compared
 CLOSE = 0.01  # metres by which a course may be farther off than what is found
 BESIDE = 6  # segments of a course that are compared with a segment of the other one
 REPORTED = 1000
