@@ -18,6 +18,7 @@ from ..files import FileFailure, beside
 from ..geo import Degrees, degrees, distance
 from ..records import Path, State
 from ..roads import BESIDE, REACH, STEP, TWIN
+from ..strings import STEP as STEP_METRES
 from ..strings import Reference, read_reference
 from ..swap.publish import refuse_existing
 from ..twomaps import Nearby, cells_around
@@ -25,6 +26,7 @@ from .across import Across
 from .ours import ABOUT, STRINGS, Beside, Mark, Ours, lines_of
 from .words import FOR_PARTNER
 
+STEP_DM = 10 * STEP_METRES  # decimetres of a step of the distance to the next point
 HOLE = 2  # sections from one that a line crosses to the next one
 ROUNDED = 3.5, 0.9  # metres by which the first point of a string may be off its node, and each further one more
 Report = Callable[[str], None]
@@ -58,20 +60,32 @@ def whole_of(state: State, junctions: Junctions, path: Path) -> Whole:
     return Whole(lines, course, added + path.positive, course[-1][0] - cut)
 
 
-def marks_of(state: State, whole: Whole, reference: Reference) -> List[Tuple[float, int]]:
-    """The position in decimetres and the node of each location reference point: the nodes of the course in order of travel that are
-    where the string's points are, as far from each other as it says."""
-    at, nodes = 0, [(0, state.lines[whole.lines[0]].start)]
+Stop = Tuple[int, int]  # a position of a course in decimetres, and the node there
+
+
+def marks_of(state: State, whole: Whole, reference: Reference) -> List[Stop]:
+    """The position and the node of each location reference point: the nodes of the course in order of travel that are where the
+    string's points are, as far from each other as it says."""
+    at, stops = 0, [(0, state.lines[whole.lines[0]].start)]
     for it in map(state.lines.__getitem__, whole.lines):
         at += it.length
-        nodes.append((at, it.end))
-    found = [nodes[0]]
-    for k, (before, point) in enumerate(zip(reference.points, reference.points[1:-1]), 1):
-        dnp = before.onward.metres if before.onward else 0.0
-        there = [it for it in nodes if it[0] > found[-1][0] and distance(degrees(state.nodes[it[1]]), point[:2]) <= ROUNDED[0] + k * ROUNDED[1]]
-        last = found[-1][0]
-        found.append(min(there, key=lambda it: abs((it[0] - last) / 10 - dnp), default=found[-1]))
-    return [*found, nodes[-1]]
+        stops.append((at, it.end))
+    places = {node: degrees(state.nodes[node]) for _, node in stops}
+    there = [[it for it in stops[1:-1] if distance(places[it[1]], point[:2]) <= ROUNDED[0] + k * ROUNDED[1]]
+             for k, point in enumerate(reference.points[1:-1], 1)]
+    return [stops[0], *between_ends(stops[0][0], stops[-1][0], there, reference), stops[-1]]
+
+
+def between_ends(begin: int, end: int, there: Sequence[Sequence[Stop]], reference: Reference) -> List[Stop]:
+    """The points between the first and the last one, where each may be one of several stops; none if none fit."""
+    # The stops up to each point that are as far from each other as the string says; a course may pass a node twice.
+    ways: List[List[Stop]] = [[]]
+    for k, stops in enumerate((*there, [(end, 0)])):
+        dnp = reference.points[k].onward
+        low, high = (dnp.dnp * STEP_DM, (dnp.dnp + 1) * STEP_DM) if dnp else (0.0, 0.0)
+        fitting = [[*way, it] for way in ways for it in stops if low - 1 <= it[0] - (way[-1][0] if way else begin) <= high + 1]
+        ways = list({way[-1]: way for way in reversed(fitting)}.values())
+    return ways[-1][:-1] if ways else []
 
 
 class Along:
