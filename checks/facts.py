@@ -20,7 +20,7 @@ from olr_keep_tools.carried import UNANSWERED  # noqa: E402
 # The most words of each page.
 LENGTHS = {
     "README.md": 1230,
-    "CHANGELOG.md": 2200,
+    "CHANGELOG.md": 2240,
     "CONTRIBUTING.md": 2000,
     "docs/ARCHITECTURE.md": 3100,
     "docs/CHOOSE.md": 1040,
@@ -31,7 +31,7 @@ LENGTHS = {
     "docs/LIMITS.md": 3900,
     "docs/LIVE.md": 2640,
     "docs/MAPS.md": 2800,
-    "docs/QUALITY.md": 1840,
+    "docs/QUALITY.md": 1900,
     "docs/SECURITY.md": 850,
     "docs/SERVICE.md": 3060,
     "docs/START.md": 1000,

@@ -51,8 +51,7 @@ class Outcome(enum.Enum):
 
 
 class Judged(NamedTuple):
-    """What became of a string: the outcome in words, by how many metres, where, and the location reference point before, from 0.
-    the other course, shifted to our map."""
+    """What became of a string: the outcome in words, by how many metres, where, and the location reference point before, from 0."""
 
     ours: Ours
     outcome: Outcome

@@ -68,7 +68,7 @@ class Picture:
 def figure(it: Judged, theirs: Sequence[Sequence[Degrees]]) -> str:
     """The picture of a string, with what became of it."""
     ours = it.ours.location()
-    picture = Picture([ours, *theirs])
+    picture = Picture([ours, *theirs, [mark.place for mark in it.ours.marks]])
     parts = [picture.course(ours, "ours"), *(picture.course(part, "theirs") for part in theirs)]
     parts += [picture.circle(mark.place, 4, "#c49a1b" if mark.ambiguous else "#1b62c4") for mark in it.ours.marks]
     parts += [picture.circle(it.place, 5, "#c4371b")] if it.place else []
