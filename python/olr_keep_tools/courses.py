@@ -10,6 +10,7 @@ along the course, tries no route twice, however many lines lead from one node to
 from __future__ import annotations
 
 import bisect
+import functools
 import itertools
 import math
 from collections import defaultdict
@@ -123,7 +124,8 @@ def reach(course: Sequence[Place], tolerance: float) -> Place:
     return high / max(0.01, math.cos(math.radians(max([abs(it[1]) for it in course])))), high
 
 
-def cells_near(course: Sequence[Place], tolerance: float, cell: float = CELL) -> Set[Tuple[int, int]]:
+@functools.lru_cache(maxsize=4)
+def cells_near(course: Tuple[Place, ...], tolerance: float, cell: float = CELL) -> FrozenSet[Tuple[int, int]]:
     """The cells of this size in which lines near a course may have points."""
     wide, high = reach(course, tolerance)
     places = list(course[:1])
@@ -133,7 +135,7 @@ def cells_near(course: Sequence[Place], tolerance: float, cell: float = CELL) ->
         places.append(b)
     boxes = [((x - wide) // cell, (x + wide) // cell, (y - high) // cell, (y + high) // cell) for x, y in places]
     ranges = {(min(a[0], b[0]), max(a[1], b[1]), min(a[2], b[2]), max(a[3], b[3])) for a, b in {*zip(boxes, boxes[1:])}}
-    return {(x, y) for w, e, s, n in ranges for x in range(int(w), int(e) + 1) for y in range(int(s), int(n) + 1)}
+    return frozenset((x, y) for w, e, s, n in ranges for x in range(int(w), int(e) + 1) for y in range(int(s), int(n) + 1))
 
 
 class Polyline:
@@ -149,6 +151,16 @@ class Polyline:
         k = min(max(1, bisect.bisect_left(self.far, far)), len(self.far) - 1)
         a, b = self.far[k - 1 : k + 1]
         return between(self.points[k - 1], self.points[k], min(1.0, max(0.0, (far - a) / (b - a))) if b > a else 0.0)
+
+    def every(self, step: float, count: int) -> List[Place]:
+        """The first point, and those at so many multiples of a distance from it, to the last one."""
+        found, k, last = [self.points[0]], 1, len(self.far) - 1
+        for far in (it * step for it in range(1, count)):
+            while self.far[k] < far and k < last:
+                k += 1
+            low, high = self.far[k - 1 : k + 1]
+            found.append(between(self.points[k - 1], self.points[k], (far - low) / (high - low or 1.0)))
+        return [*found, self.points[-1]]
 
     def project(self, point: Place, segments: Optional[Iterable[int]] = None) -> List[Tuple[float, float]]:
         """The distance of a point from each of these segments, and the position of the nearest point there."""
@@ -351,6 +363,12 @@ class Follower:
         found = self.search()
         return self.with_rival(found) if wish.has_rivals and isinstance(found, Found) else found
 
+    def blocked(self) -> Optional[Lost]:
+        """Why no lines lead from the start of the course to its end, whatever is wished; None if some do."""
+        self.wish = Wish()
+        best = self.labels()
+        return best if isinstance(best, Lost) else None
+
     def node(self, node: int) -> Place:
         """A node in the plane."""
         return self.plane.flat(self.network.nodes[node])
@@ -496,6 +514,11 @@ class Follower:
 
     def search(self) -> Union[Found, Lost]:
         """The found lines, or why there are none."""
+        best = self.labels()
+        return best if isinstance(best, Lost) else self.found(best)
+
+    def labels(self) -> Union[Dict[Label, Best], Lost]:
+        """The best ways to labels, with the end among them, or why there is none to the end."""
         ends = self.ends()
         furthest = 0.0
         best: Dict[Label, Best] = {}
@@ -518,7 +541,7 @@ class Follower:
             if cost > best[label].cost:
                 continue
             if isinstance(label, str):
-                return self.found(best)
+                return best
             furthest = max(furthest, label[1])
             for more, after, step in self.onward(*label, best[label].step is not None, ends[END]):
                 relax(cost + more, after, step, label)

@@ -12,6 +12,7 @@ from __future__ import annotations
 
 import bisect
 import enum
+import functools
 import json
 import math
 from collections import Counter, defaultdict
@@ -26,6 +27,8 @@ BESIDE = 40.0  # metres for which another road has to run along it, and to be as
 TWIN = 2.0  # metres up to which lines beside each other are the same road, if ids don't tell them apart
 REACH = 40.0  # metres on both sides of the course in which roads of the last map are
 WIDER = 60.0  # the same of the map as it is now
+GRID = 40.0  # metres of the cells by which the sections near a segment are found
+LEFTS = range(-60, 61, 20)  # metres to the left of the course: each place of a section is within a quarter of a cell of one
 SLANT = 0.7  # the least cosine of the angle between a road and the course
 SAME_ID = 5.0  # metres that a pair with the same id costs less
 ALONE = 20.0  # metres that a road of the last map without a pair costs
@@ -61,22 +64,35 @@ class LastMap(NamedTuple):
     cuts: Tuple[int, int] = (0, 0)
 
 
-def stored(last: LastMap, course: Sequence[Place]) -> str:
-    """The part of a last map that matters for a course, as JSON."""
-    plane = Plane(course[0][1])
-    across = Sections(Polyline(plane.course(course))).crossings(last.lines, plane, REACH)
+def nearby(last: LastMap, course: Sequence[Place]) -> LastMap:
+    """The part of a last map that matters for a course: the lines at the nodes of the path's own ones, and those along it."""
     ends = {it for number in last.own for it in (last.lines[number].start, last.lines[number].end)}
-    numbers = {it.number for several in across for it in several} | {*last.own}
-    numbers |= {number for number, it in last.lines.items() if it.start in ends or it.end in ends}
-    lines = ((number, last.lines[number]) for number in sorted(numbers))
-    rows = [[number, it.start, it.end, it.street, it.length, it.points] for number, it in lines]
+    kept = {number for number, it in last.lines.items() if it.start in ends or it.end in ends}
+    rest = {number: it for number, it in last.lines.items() if number not in kept}
+    if rest:
+        plane = Plane(course[0][1])
+        across = Sections(Polyline(plane.course(course))).crossings(rest, plane, REACH)
+        kept |= {it.number for several in across for it in several}
+    return last._replace(lines={number: last.lines[number] for number in sorted(kept)})
+
+
+def stored(last: LastMap) -> str:
+    """A last map as JSON. A line with the coordinates of another one in the other direction has the number of this instead."""
+    shapes: Dict[Tuple[str, Tuple[Place, ...]], int] = {}
+    rows: List[List[object]] = []
+    for number, it in last.lines.items():
+        other = shapes.get((it.street, it.points[::-1]))
+        shapes[it.street, it.points] = number
+        rows.append([number, it.start, it.end, it.street, it.length, it.points if other is None else other])
     return json.dumps({"own": list(last.own), "cuts": last.cuts, "lines": rows})
 
 
 def restored(text: Mapping[str, Any]) -> LastMap:
     """A last map that was stored."""
-    lines = {number: Ground(start, end, street, tuple((lon, lat) for lon, lat in points), length)
-             for number, start, end, street, length, points in text["lines"]}
+    lines: Dict[int, Line] = {}
+    for number, start, end, street, length, points in text["lines"]:
+        places = lines[points].points[::-1] if isinstance(points, int) else tuple((lon, lat) for lon, lat in points)
+        lines[number] = Ground(start, end, street, places, length)
     start, end = text["cuts"]
     return LastMap(lines, text["own"], (start, end))
 
@@ -133,15 +149,14 @@ class Sections:
         self.step = course.length / count
         self.at = [(k + 0.5) * self.step for k in range(count)]
         self.tangents: List[Tuple[float, float, float, float]] = []
-        self.cells: Dict[Tuple[float, float], List[int]] = defaultdict(list)
-        for k, at in enumerate(self.at):
-            (x, y), a, b = course.at(at), course.at(at - STEP / 2), course.at(at + STEP / 2)
+        self.cells: Dict[Tuple[int, int], List[int]] = defaultdict(list)
+        places = course.every(self.step / 2, 2 * count)
+        for k, (a, (x, y), b) in enumerate(zip(places[::2], places[1::2], places[2::2])):
             far = math.dist(a, b) or 1.0
-            self.tangents.append((x, y, (b[0] - a[0]) / far, (b[1] - a[1]) / far))
-            cell_x, cell_y = x // WIDER, y // WIDER
-            for i in (-1, 0, 1):
-                for j in (-1, 0, 1):
-                    self.cells[cell_x + i, cell_y + j].append(k)
+            east, north = (b[0] - a[0]) / far, (b[1] - a[1]) / far
+            self.tangents.append((x, y, east, north))
+            for left in LEFTS:
+                self.cells[int((x - left * north) // GRID), int((y + left * east) // GRID)].append(k)
 
     def crossings(self, lines: Mapping[int, Line], plane: Plane, reach: float) -> List[List[Crossing]]:
         """The lines that cross each section in its direction, from right to left."""
@@ -149,38 +164,38 @@ class Sections:
         for number, line in lines.items():
             points = plane.course(line.points)
             for a, b in zip(points, points[1:]):
-                for k in self.near(a, b):
-                    left = self.left(k, a, b)
+                near = self.near(a, b)
+                for k, left in self.crossed(near, a, b) if near else ():
                     if abs(left) <= reach:
                         found[k].append(Crossing(left, number, line.street))
         for it in found:
             it.sort()
         return found
 
-    def near(self, a: Place, b: Place) -> Iterable[int]:
+    def near(self, a: Place, b: Place) -> Set[int]:
         """The sections that a segment may cross."""
-        one, two = (a[0] // WIDER, a[1] // WIDER), (b[0] // WIDER, b[1] // WIDER)
-        if one == two:
-            return self.cells.get(one, ())
-        low, right, bottom, top = (*sorted((one[0], two[0])), *sorted((one[1], two[1])))
-        if (right - low + 1) * (top - bottom + 1) > len(self.at):
-            return range(len(self.at))
-        cells = ((x, y) for x in range(int(low), int(right) + 1) for y in range(int(bottom), int(top) + 1))
-        return {k for cell in cells for k in self.cells.get(cell, ())}
+        (w, s), (e, n), half = a, b, GRID / 4
+        w, e = (w - half, e + half) if w < e else (e - half, w + half)
+        s, n = (s - half, n + half) if s < n else (n - half, s + half)
+        rows = range(int(s // GRID), int(n // GRID) + 1)
+        found: Set[int] = set()
+        for x in range(int(w // GRID), int(e // GRID) + 1):
+            for y in rows:
+                found.update(self.cells.get((x, y), ()))
+        return found
 
-    def left(self, k: int, a: Place, b: Place) -> float:
-        """How far to the left of the course a segment crosses a section along the course; infinite if it doesn't."""
-        x, y, east, north = self.tangents[k]
-        p, q = a[0] - x, a[1] - y
-        before = p * east + q * north
-        if before > 0:
-            return math.inf
-        r, s = b[0] - x, b[1] - y
-        after = r * east + s * north
-        if after <= 0 or after - before < SLANT * math.dist(a, b):
-            return math.inf
-        one, two = q * east - p * north, s * east - r * north
-        return one - before / (after - before) * (two - one)
+    def crossed(self, near: Iterable[int], a: Place, b: Place) -> Iterator[Tuple[int, float]]:
+        """Those of some sections that a segment crosses along the course, and how far to the left of this."""
+        (x, y), (east, north), least = a, (b[0] - a[0], b[1] - a[1]), SLANT * math.dist(a, b)
+        for k in near:
+            from_x, from_y, along_x, along_y = self.tangents[k]
+            along = east * along_x + north * along_y
+            if along < least:
+                continue
+            far, up = x - from_x, y - from_y
+            before = far * along_x + up * along_y
+            if before <= 0 < before + along:
+                yield k, up * along_x - far * along_y - before / along * (north * along_x - east * along_y)
 
 
 Costs = List[List[float]]
@@ -355,9 +370,13 @@ class Roads:
         self.last = last if last and last.own and all(it in last.lines for it in last.own) else None
         self.plane = Plane(given.course[0][1])
         self.course = Polyline(self.plane.course(given.course))
-        self.across, self.scale = Sections(self.course), 1.0
+        self.scale = 1.0
         self.by = self.moved_by() if self.last else (0.0, 0.0)
-        self.pairings = self.pair()
+
+    @functools.cached_property
+    def across(self) -> Sections:
+        """The sections across the given course."""
+        return Sections(self.course)
 
     def moved_by(self) -> Place:
         """By how much the junctions around the path are moved, in metres."""
@@ -367,7 +386,8 @@ class Roads:
         new = {place for it in self.near.values() for place in (it.points[0], it.points[-1])}
         return moved_by(self.plane.course(old), self.plane.course(new), self.tolerance)
 
-    def pair(self) -> List[Optional[Section]]:
+    @functools.cached_property
+    def pairings(self) -> List[Optional[Section]]:
         """The sections with their costs; None where the path's own road isn't known."""
         new = self.across.crossings(self.near, self.plane, WIDER)
         if self.last is None:
@@ -394,9 +414,12 @@ class Roads:
     def decide(self) -> Answer:
         """What became of the path's road."""
         course = self.expected()
+        follower = Follower(course, self.network, self.tolerance)
+        blocked = follower.blocked()
+        if blocked and course == self.given.course:
+            return Answer(Verdict.GONE, blocked)
         self.scale = self.course.length / (Polyline(self.plane.course(course)).length or 1.0)
-        found = Follower(course, self.network, self.tolerance).follow(
-            Wish(self.own_streets(), price=self.price, junctions=self.junctions()))
+        found = blocked or follower.follow(Wish(self.own_streets(), price=self.price, junctions=self.junctions()))
         answer = Answer(Verdict.GONE, found) if isinstance(found, Lost) else Judged(self, found).answer()
         return answer if answer.verdict is Verdict.THERE and answer.off <= NOTHING else self.exact() or answer
 

@@ -1,7 +1,10 @@
 """Tests of the steps of tools/live: cutting, reading, finding paths, holding, numbers, and what is sent to the program."""
 import argparse
 import functools
+import json
+import math
 import os
+import random
 import signal
 import struct
 import tempfile
@@ -11,7 +14,8 @@ import unittest.mock
 from collections import Counter
 from typing import Any, Dict, Iterator, List, Mapping, Optional, Sequence, Set, Tuple
 
-from olr_keep_tools.courses import CELL, DRAWN, Ends, Found, Ground, Lost, Network, Strip, Wish, cells_along, cells_near, follow
+from olr_keep_tools.courses import (CELL, DRAWN, Ends, Follower, Found, Ground, Lost, Network, Polyline, Strip, Wish, cells_along,
+                                    cells_near, follow)
 from olr_keep_tools.forked import Forked, in_order
 from olr_keep_tools.live.ambiguous import Obstacle, named_places, obstacles, write_ambiguities
 from olr_keep_tools.live.draft import Was, verdict
@@ -28,7 +32,7 @@ from olr_keep_tools.live.session import Readable, Source, SourceTable, row_query
 from olr_keep_tools.pathlines import (Finder, Known, PathSearch, Row, State, Wanted, Ways, boxes_of,
                                       consecutive, marked_street)
 from olr_keep_tools.program import ProgramFailed
-from olr_keep_tools.roads import LastMap
+from olr_keep_tools.roads import LastMap, Sections, nearby, restored, stored
 from olr_keep_tools.sql import copy_line, places_hex, psycopg2, text_array
 from olr_keep_tools.streets import (LONGEST, SHORT, Old, Recut, Street, Unfit, are_between, distances, first_place, is_short,
                                     place_of, street_of, stretches_of, subdivided, wkb_hex)
@@ -524,9 +528,9 @@ class Grids(unittest.TestCase):
         self.assertEqual(network.near(degrees(250), *(10 * it for it in metres)), [])
 
     def test_cells_near(self) -> None:
-        course = [(6.0011, 49.0011), (6.0019, 49.0011)]
+        course = (6.0011, 49.0011), (6.0019, 49.0011)
         self.assertEqual(cells_near(course, 20.0), {(3000, 24500), (3001, 24500)})
-        self.assertEqual(len(cells_near([(6.0011, 49.0011), (6.0611, 49.0011)], 20.0)), 31)
+        self.assertEqual(len(cells_near(((6.0011, 49.0011), (6.0611, 49.0011)), 20.0)), 31)
         self.assertGreater(len(cells_near(course, 500.0)), 20)
 
     def test_boxes(self) -> None:
@@ -535,6 +539,51 @@ class Grids(unittest.TestCase):
             (1, 5, 3, 6), (4, 5, 5, 6), (1, 6, 2, 7), (1, 7, 3, 8), (7, 5, 8, 6), (8, 5, 9, 6), (1, 8, 2, 9), (-1, 5, 0, 6))))
         self.assertEqual(list(boxes_of([(x, y) for x in range(8) for y in range(8)])), [(0, 0, 8 * CELL, 8 * CELL)])
         self.assertEqual(list(consecutive([1, 2, 3, 5, 7, 8])), [(1, 3), (5, 5), (7, 8)])
+
+
+class Across(unittest.TestCase):
+    """Sections across a course, and the part of a last map that matters for it."""
+
+    COURSE = (0.0, 0.0), (130.0, 0.0), (130.0, 0.0), (170.0, 90.0), (60.0, 240.0)
+
+    def test_points_at_each_multiple_of_a_distance(self) -> None:
+        course = Polyline(list(self.COURSE))
+        for k, it in enumerate(course.every(course.length / 37, 37)):
+            self.assertLess(math.dist(it, course.at(k * course.length / 37)), 1e-9)
+        self.assertEqual(Polyline([(1.0, 2.0), (1.0, 2.0)]).every(0.0, 2), 3 * [(1.0, 2.0)])
+
+    def test_crossings_are_those_of_all_sections(self) -> None:
+        across, rnd, count = Sections(Polyline(list(self.COURSE))), random.Random(1), 0
+        for _ in range(3000):
+            far, angle = rnd.choice((1, 20, 70, 300)), rnd.uniform(0, math.tau)
+            a = rnd.uniform(-150, 300), rnd.uniform(-150, 400)
+            b = a[0] + far * math.cos(angle), a[1] + far * math.sin(angle)
+            near, crossed = across.near(a, b), dict(across.crossed(range(len(across.at)), a, b))
+            count += len(crossed)
+            self.assertLessEqual({k for k, left in crossed.items() if abs(left) <= 60}, near)
+            for k, left in crossed.items():
+                x, y, east, north = across.tangents[k]
+                place = x - left * north, y + left * east
+                self.assertAlmostEqual(math.dist(a, place) + math.dist(place, b), math.dist(a, b), 5)
+        self.assertGreater(count, 1000)
+
+    def test_last_map(self) -> None:
+        there, back = (degrees(0), degrees(50, 3), degrees(100)), (degrees(100), degrees(50, 3), degrees(0))
+        lines = {4: ground(1, 2, "a", *there), 5: ground(2, 1, "a", *back), 6: ground(2, 3, "b", degrees(100), degrees(100, 90)),
+                 7: ground(8, 9, "c", degrees(0, 20), degrees(100, 20)), 8: ground(9, 8, "c", degrees(100, 20), degrees(0, 20)),
+                 9: ground(6, 7, "d", degrees(0, 70), degrees(100, 70))}
+        last = nearby(LastMap(lines, [4], (2, 3)), there)
+        self.assertEqual(last, LastMap({it: lines[it] for it in (4, 5, 6, 7)}, [4], (2, 3)))
+        again = restored(json.loads(stored(last)))
+        self.assertEqual((again.own, again.cuts), ([4], (2, 3)))
+        self.assertEqual(again.lines, {number: it._replace(kind=()) for number, it in lines.items() if number < 8})
+        self.assertEqual(stored(last).count(str(degrees(50, 3)[1])), 1)
+
+    def test_blocked(self) -> None:
+        there = (degrees(0), degrees(100))
+        self.assertIsNone(Follower(there, Network({1: ground(1, 2, "a", *there)}), 20.0).blocked())
+        lost = Follower(there, Network({1: ground(1, 2, "a", degrees(0), degrees(60))}), 20.0).blocked()
+        self.assertEqual(lost, follow(there, {1: ground(1, 2, "a", degrees(0), degrees(60))}))
 
 
 def known(**changes: Any) -> Known:

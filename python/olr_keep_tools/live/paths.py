@@ -10,7 +10,7 @@ from ..forked import Forked
 from ..geo import METRES
 from ..pathlines import Finder, Known, PathSearch, Placement, Remark, State, Unread, Wanted, marked_street
 from ..reasons import in_words
-from ..roads import restored, stored
+from ..roads import nearby, restored, stored
 from ..sql import Course, Place, coordinates, copy, course_hex, number_array, places_hex, point, text_array, update
 from .cells import merged
 from .map import FEW, Affected
@@ -349,8 +349,10 @@ class Placing:
         given, at_junctions, given_streets = course, Ends(ends[0] == 0, ends[1] == 0) if lines else None, streets
         if known is not None and known.given:
             given, at_junctions, given_streets = known.given, known.given_ends, known.given_streets
-        last = placement.last if known is None or placement.last else known.last
-        text = stored(last, given) if last and given and placement.state is not State.SAID else None
+        last = placement.last or (known and known.last)
+        if last and given and (known is None or last is not known.last):
+            last = nearby(last, given) if placement.state is not State.SAID else None
+        text = stored(last) if last and placement.state is not State.SAID else None
         offsets = (ends[0] + self.cuts[0], ends[1] + self.cuts[1]) if lines else (0, 0)
         off = None if placement.off is None else round(placement.off, 1)
         return Placed(placement.state, lines, streets, *ends, *offsets, nodes, course, self.wanted.definition, given,
