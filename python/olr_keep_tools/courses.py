@@ -309,10 +309,10 @@ class Wish(NamedTuple):
         wanted = self.junctions[side]
         return far if node in wanted or not wanted and far <= self.snap else MISSED + far
 
-    def along(self, side: int) -> float:
-        """The cost of a start (0) or an end (1) along a line."""
+    def along(self, far: float, side: int) -> float:
+        """The cost of a start (0) or an end (1) along a line so many metres from it."""
         if self.price is not None:
-            return MISSED - 1 if self.junctions[side] else 0.0
+            return far + (MISSED - 1 if self.junctions[side] else 0.0)
         return FORCED if self.ends[side] else 0.0
 
 
@@ -330,6 +330,13 @@ def course_of(lines: Sequence[Line], start: int, end: int) -> Tuple[Place, ...]:
     finish = shape.length - end / lines[-1].length * last.length
     inner = [it for it, far in zip(points, shape.far) if begin < far < finish]
     return (plane.degrees(shape.at(begin)), *inner, plane.degrees(shape.at(max(begin, finish))))
+
+
+class End(NamedTuple):
+    """A place along a line where the course may start or end: how far along, and how far from there, in metres."""
+
+    at: float
+    far: float
 
 
 class Best(NamedTuple):
@@ -455,9 +462,9 @@ class Follower:
             more += wish.price(number, low, high)
         return more + (2 * self.tolerance if number in self.avoided else 0.0)
 
-    def ends(self) -> Dict[str, Dict[int, float]]:
-        """The parts of lines on which the course starts and ends: (distance along the line, distance from it) by number."""
-        found: Dict[str, Dict[int, float]] = {}
+    def ends(self) -> Dict[str, Dict[int, End]]:
+        """The places along lines where the course may start and end, by the number of the line."""
+        found: Dict[str, Dict[int, End]] = {}
         for name, k in ((START, 0), (END, -1)):
             found[name], place, point = {}, self.places[k], self.course.points[k]
             for number in self.near(place):
@@ -465,10 +472,10 @@ class Follower:
                     shape = self.shape(number)
                     far, at = min(shape.project(point))
                     if far <= self.tolerance and self.wish.snap < at < shape.length - self.wish.snap:
-                        found[name][number] = at
+                        found[name][number] = End(at, far)
         return found
 
-    def from_start(self, ends: Mapping[str, Mapping[int, float]]) -> Iterator[Tuple[float, Label, Optional[Step]]]:
+    def from_start(self, ends: Mapping[str, Mapping[int, End]]) -> Iterator[Tuple[float, Label, Optional[Step]]]:
         """The labels at which a route begins: (cost, label, lines)."""
         start = self.course.points[0]
         near = [self.lines[it] for it in self.near(self.places[0])]
@@ -476,18 +483,18 @@ class Follower:
             far = math.dist(self.node(node), start)
             if far <= self.tolerance:
                 yield self.wish.at_node(node, far, 0), (node, 0.0), None
-        forced = self.wish.along(0)
-        for number, begin in ends[START].items():
-            yield from ((forced + cost, label, step) for cost, label, step in self.steps(number, self.lines[number].end, begin, 0.0))
-            if number in ends[END] and ends[END][number] > begin:
+        for number, (begin, far) in ends[START].items():
+            first = self.wish.along(far, 0)
+            yield from ((first + cost, label, step) for cost, label, step in self.steps(number, self.lines[number].end, begin, 0.0))
+            if number in ends[END] and ends[END][number].at > begin:
                 for cost, step in self.last_step(number, begin, ends[END][number], 0.0):
-                    yield forced + cost, END, step
+                    yield first + cost, END, step
 
-    def last_step(self, number: int, begin: float, end: float, low: float) -> Iterator[Tuple[float, Step]]:
+    def last_step(self, number: int, begin: float, end: End, low: float) -> Iterator[Tuple[float, Step]]:
         """The part of a line that leads to the end of the course, where it ends along the line."""
-        cost = self.cost(number, begin, end, low, self.course.length)
+        cost = self.cost(number, begin, end.at, low, self.course.length)
         if cost is not None:
-            yield cost + self.wish.along(1), (number, begin, self.shape(number).length - end)
+            yield cost + self.wish.along(end.far, 1), (number, begin, self.shape(number).length - end.at)
 
     def steps(self, number: int, node: int, begin: float, low: float) -> Iterator[Tuple[float, Label, Optional[Step]]]:
         """The labels that a line to a node leads to from a distance along it, where the course is at this position."""
@@ -498,7 +505,7 @@ class Follower:
             if cost is not None:
                 yield cost, (node, high), (number, begin, 0.0)
 
-    def onward(self, node: int, low: float, has_lines: bool, ends: Mapping[int, float]) -> Iterator[Tuple[float, Label, Optional[Step]]]:
+    def onward(self, node: int, low: float, has_lines: bool, ends: Mapping[int, End]) -> Iterator[Tuple[float, Label, Optional[Step]]]:
         """The labels that a label leads to, and the end, if it is near, or on one of the lines: (cost, label, lines)."""
         if has_lines and self.course.length - low <= 2 * self.tolerance:
             last = math.dist(self.node(node), self.course.points[-1])

@@ -472,6 +472,11 @@ class Courses(unittest.TestCase):
         found = lines_of([degrees(0), degrees(100)], self.ROADS, Wish(price=lambda number, *_: 5.0 * (number == 1)))
         self.assertEqual(found.lines, [2])
 
+    def test_an_end_along_a_line_costs_its_distance(self) -> None:
+        roads = {1: ground(1, 2, "a", degrees(0), degrees(100)), 2: ground(2, 3, "b", degrees(100), degrees(95, 15))}
+        found = lines_of([degrees(0), degrees(100), degrees(95, 15)], roads, Wish(frozenset("a"), price=lambda *_: 0.0))
+        self.assertEqual((found.lines, found.end), ([1, 2], 0))
+
     def test_ends_at_junctions(self) -> None:
         roads = {1: ground(1, 2, "a", degrees(0), degrees(100)), 3: ground(3, 1, "c", degrees(0, -100), degrees(0))}
         course = [degrees(0, -9), degrees(50), degrees(100)]
