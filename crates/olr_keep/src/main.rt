@@ -6,9 +6,8 @@
 ghost use Rattle.std.specs.Prelude.{⊤};
 ghost use Rattle.sqlite_disk.specs.Disk.{Only};
 
-use olr_log::{
-    HostDisk, LogFile, LogFolder, OpenError, Unknown, open_place, open_records, set_aside,
-};
+use olr_host::{HostDisk, LogFolder, Unknown, open_place, open_records, set_aside};
+use olr_log::{LogFile, OpenError};
 use olr_run::{Buffered, OpenLog, RunFault, WRONG_ARGUMENTS, program, report_fault};
 use std::process::ExitCode;
 use std::{env, io};

@@ -10,10 +10,9 @@ pub use Rattle.olr_log.specs.States.{Stands, is_broken_in, is_ready_in, stored_i
 pub use Rattle.olr_log.specs.Texts.{counts, ends_blank, ends_blank_behind, is_native, left_behind, longest_front, text_of}
 pub use Rattle.olr_log.specs.declared.state.State.TheVariants.{Broken, Foreign, Opened, Ready}
 pub use Rattle.olr_log.specs.declared.state.State.{State}
-pub use Rattle.olr_log.specs.declared.traced.Traced.{Traced}
 pub use Rattle.sqlite_disk.specs.Disk.{Cut, Follows, Holds, Mixed, Only, Torn}
 pub use Rattle.sqlite_disk.specs.declared.Disk.{Ghosts}
-pub use Rattle.std.proofs.Common.{Bool, List, MutBor, None, Option, Some, [], ap, append_assoc, arith, drop, false, get_or, inl}
+pub use Rattle.std.proofs.Common.{Bool, List, None, Option, Some, [], ap, append_assoc, arith, drop, false, get_or, inl}
 pub use Rattle.std.proofs.Common.{inr, length, length-append, length-drop, length-take, max, min, refl, replicate, rules, subst, suc}
 pub use Rattle.std.proofs.Common.{sym, take, take-add, take-append-drop, true, zero, ℕ, ⊎_elim, ◌++◌, ◌+◌, ◌-◌, ◌<◌, ◌∙◌, ◌∷◌}
 pub use Rattle.std.proofs.Common.{◌≡◌, ◌≤◌, ◌⊎◌}
@@ -24,16 +23,5 @@ pub use Rattle.std.proofs.lemmas.List.{append-nil, drop-append-le, drop-drop, dr
 pub use Rattle.std.proofs.lemmas.List.{get_or-replicate, get_or-take, length-replicate, length-take-le, places, take-append-le}
 pub use Rattle.std.proofs.lemmas.List.{take-take, take_all, take_more, with_items_is}
 pub use Rattle.std.proofs.lemmas.Result.{on_ok_weaker}
-pub use Rattle.std.proofs.raw_atomic.Walks.{proved}
 pub use Rattle.std.specs.Prelude.{IsNone, IsTrue, codes, if◌then◌else◌, not, ◌&&◌, ◌==◌, ◌||◌}
 pub use Rattle.std.specs.Str.{bytes_eq}
-pub use contract.Running.{tables}
-pub use denote.Shadow.{pure_i}
-pub use denote.Steps.{closes, nothing, opens}
-pub use denote.Triple.Entry.{on_entry}
-pub use denote.Triple.Walked.{ends_at, says}
-pub use mir.Val.{Val, vcons, vnil, vptr, vstruct, vunit}
-pub use types.ByLocal.{alloc_all, free_all, get, look_at, pass_all, sets}
-pub use types.Kit.{ !, done, join, keep, qed, raw, suffices, ◌$◌, ◌∵◌}
-pub use types.Part.{agg}
-pub use types.Run.{and_then, enter, no_more, of_opd, returns, unit_lit}

@@ -3,8 +3,6 @@ pub mod Files
 pub mod States
 pub mod Scanning
 pub mod Reads
-pub mod Tracing
 pub mod Outcomes
 pub mod Failures
 pub mod Logs
-pub mod Places

@@ -16,8 +16,8 @@ use Rattle.olr_run.specs.Sizes.{IsLength, NoSize}
 use Rattle.olr_log.specs.Logs.{as_journal, stored_of, left_of, is_native_of}
 use Rattle.olr_log.specs.declared.folder.Folder as folder
 use Rattle.olr_log.specs.declared.log_file.LogFile.{LogFile}
-use Rattle.olr_log.specs.declared.place.OpenError.{OpenError}
-use Rattle.olr_log.specs.declared.place.OpenError.TheVariants as unopened
+use Rattle.olr_log.specs.declared.unopened.OpenError.{OpenError}
+use Rattle.olr_log.specs.declared.unopened.OpenError.TheVariants as unopened
 use Rattle.olr_register.specs.Registered.{Registered, nothing_registered}
 use Rattle.olr_run.specs.LogEnds.{Begins, Unbegun}
 use Rattle.olr_run.specs.Logs.{Lasts, RanThrough}

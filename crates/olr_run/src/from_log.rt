@@ -1,7 +1,7 @@
 //! The program with a log.
 
 ghost use Rattle.std.specs.Prelude.{◌≡◌, ◌≤◌, ◌⊎◌, ℕ, Bool, List, [], true, length, IfSome, is_ok};
-ghost use Rattle.olr_log.specs.declared.place.OpenError.{OpenError};
+ghost use Rattle.olr_log.specs.declared.unopened.OpenError.{OpenError};
 ghost use Rattle.olr_log.specs.Logs.{stored_of, left_of};
 ghost use Rattle.olr_run.specs.LogEnds.{is_rejected};
 ghost use Rattle.olr_run.specs.Ends.{LeftAfter, OpensLog, UnbegunCode, UnopenedCode, WithLog, run_code};

@@ -3,8 +3,8 @@ use Rattle.std.specs.Prelude.{ℕ, length, take, Result, Ok, Err, is_ok}
 use Rattle.std.specs.declared.io.Error.{Error}
 use Rattle.sqlite_disk.specs.Events.{Event, settled, measured, read, read_under, written, cut, flushed}
 use Rattle.sqlite_disk.specs.Refusal.{is_no_room, finds_no_room, as_number}
-use Rattle.olr_log.specs.declared.traced.Call.{Call}
-use Rattle.olr_log.specs.declared.traced.Call.TheVariants as call
+use Rattle.olr_host.specs.declared.traced.Call.{Call}
+use Rattle.olr_host.specs.declared.traced.Call.TheVariants as call
 
 abbrev pub count_of : Result ℕ Error → ℕ
 count_of (Ok n) = n

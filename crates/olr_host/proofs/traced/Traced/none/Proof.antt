@@ -1,14 +1,19 @@
 -- A value of no bytes, with no call in its list.
-use Rattle.olr_log.proofs.Common.{Val, vstruct, vcons, vnil, tables, raw, ◌$◌, ◌∵◌, !, qed, keep, join, suffices, done, no_more}
-use Rattle.olr_log.proofs.Common.{and_then, returns, enter, agg, alloc_all, pass_all, free_all, look_at, get, sets, pure_i}
-use Rattle.olr_log.proofs.Common.{nothing, on_entry, says, ends_at, proved, Traced}
+use Rattle.olr_host.proofs.Common.{Val, tables, ◌$◌, ◌∵◌, !, qed, keep, join, suffices, done, returns, enter, alloc_all, pass_all}
+use Rattle.olr_host.proofs.Common.{free_all, look_at, sets, nothing, on_entry, says, ends_at, proved, Traced}
+use denote.Shadow.{pure_i}
+use mir.Val.{vstruct, vcons, vnil}
+use types.ByLocal.{get}
+use types.Kit.{raw}
+use types.Part.{agg}
+use types.Run.{no_more, and_then}
 use mathlib.Core.Path.{refl}
 use mathlib.Core.List.{[], ◌∷◌}
-use Rattle.olr_log.specs.contracts.traced.Traced.none.Key.{name as #it}
-use Rattle.olr_log.specs.contracts.traced.Traced as T
-use Rattle.olr_log.specs.contracts.traced.Traced.none as it
-use Rattle.olr_log.proofs.traced.Traced.none.Statement as stated
-use Rattle.olr_log.proofs.traced.Traced.none.Code as code
+use Rattle.olr_host.specs.contracts.traced.Traced.none.Key.{name as #it}
+use Rattle.olr_host.specs.contracts.traced.Traced as T
+use Rattle.olr_host.specs.contracts.traced.Traced.none as it
+use Rattle.olr_host.proofs.traced.Traced.none.Statement as stated
+use Rattle.olr_host.proofs.traced.Traced.none.Code as code
 
 abbrev v : Val
 v = vstruct (vcons (vstruct vnil) vnil)

@@ -1,6 +1,6 @@
 //! Where the records of a file end that is read and not used as a log. Read, and not proved.
 
-use crate::writes::BLOCK;
+use olr_log::BLOCK;
 use std::fs;
 use std::io::{self, Read};
 use std::os::unix::fs::FileExt;

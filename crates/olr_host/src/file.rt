@@ -5,7 +5,7 @@ ghost use Rattle.std.specs.Prelude.{◌≡◌, ◌<◌, ◌≤◌, ◌^◌, [], 
 ghost use Rattle.sqlite_disk.specs.Events.{settled};
 
 use crate::traced::{Call, Traced};
-use crate::writes::BLOCK;
+use olr_log::BLOCK;
 use sqlite_disk::Calls;
 use std::os::unix::fs::FileExt;
 use std::{fs, io};

@@ -1,8 +1,9 @@
-use Rattle.olr_log.proofs.Common.{List, sym, ◌∙◌, ap}
+use Rattle.olr_host.proofs.Common.{List}
+use Rattle.std.proofs.Common.{sym, ◌∙◌, ap}
 use Rattle.sqlite_disk.specs.Events.{Event, replay}
 use Rattle.sqlite_disk.specs.Modelled.{start_of}
-use Rattle.olr_log.specs.declared.host.HostFile.{HostFile}
-use Rattle.olr_log.proofs.place.open_place.Goals as goal
+use Rattle.olr_host.specs.declared.file.HostFile.{HostFile}
+use Rattle.olr_host.proofs.place.open_place.Goals as goal
 
 -- its number is the one that was given to it
 pub returns-clause-named : goal.returns-clause-named

@@ -3,13 +3,11 @@
 ghost use Rattle.std.specs.Prelude.{◌≡◌, ◌⊎◌, ℕ, List, [], true, Some, IsTrue, IsNone, IfOk, refl, ⊤};
 ghost use Rattle.std.proofs.Common.{inl};
 ghost use Rattle.olr_log.specs.Logs.{stored_of, left_of, left_over_of, is_native_of, is_ready, is_clean};
-ghost use Rattle.olr_log.specs.Places.{disk_is_usable, disk_number, IsFreshDisk, folder_may_lead};
+ghost use Rattle.olr_host.specs.Places.{disk_is_usable, disk_number, IsFreshDisk, folder_may_lead};
 
-use crate::folder::Folder;
-use crate::host::HostFile;
-use crate::log_file::LogFile;
+use crate::file::HostFile;
+use olr_log::{Folder, LogFile, OpenError};
 use sqlite_disk::{Modelled, Start};
-use std::alloc::AllocError;
 use std::cell::Cell;
 use std::fs::OpenOptions;
 use std::io::{self, Read, Write};
@@ -23,42 +21,6 @@ const IO_ERROR: i32 = 5;
 
 /// A file of the operating system that held what `S` says.
 pub type HostDisk<S> = Modelled<HostFile, S>;
-
-/// Why a log can't be opened.
-#[derive(Clone, Copy, Debug)]
-pub enum OpenError {
-    /// There is no such file.
-    Missing,
-    /// The log was to be a new one, and the file is there.
-    Exists,
-    /// Another process uses the log. Its id, if it is known.
-    InUse(Option<u32>),
-    /// The file beside it that is locked can't be opened or made.
-    Lock(io::Error),
-    Io(io::Error),
-}
-
-impl From<io::Error> for OpenError {
-    fn from(error: io::Error) -> OpenError {
-        OpenError::Io(error)
-    }
-}
-
-/// Of a lock that another process holds, whose id isn't known.
-impl From<fs::TryLockError> for OpenError {
-    fn from(error: fs::TryLockError) -> OpenError {
-        match error {
-            fs::TryLockError::WouldBlock => OpenError::InUse(None),
-            fs::TryLockError::Error(error) => OpenError::Io(error),
-        }
-    }
-}
-
-impl From<AllocError> for OpenError {
-    fn from(_error: AllocError) -> OpenError {
-        OpenError::Io(io::ErrorKind::OutOfMemory.into())
-    }
-}
 
 /// The folder of a log, with the log's name and its lock.
 #[derive(Drop)]

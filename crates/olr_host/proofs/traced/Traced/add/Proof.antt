@@ -1,7 +1,10 @@
 -- Nothing is done in memory: the borrow is taken up, and given back with one more call in its list.
-use Rattle.olr_log.proofs.Common.{ℕ, List, [], ◌∷◌, refl, MutBor, Val, vunit, vptr, tables, ◌$◌, ◌∵◌, !, qed, keep, join}
-use Rattle.olr_log.proofs.Common.{suffices, done, unit_lit, of_opd, returns, enter, alloc_all, pass_all, free_all, look_at}
-use Rattle.olr_log.proofs.Common.{sets, opens, closes, nothing, on_entry, says, ends_at, proved, Traced}
+use Rattle.olr_host.proofs.Common.{List, Val, tables, ◌$◌, ◌∵◌, !, qed, keep, join, suffices, done, returns, enter, alloc_all}
+use Rattle.olr_host.proofs.Common.{pass_all, free_all, look_at, sets, nothing, on_entry, says, ends_at, proved, Traced}
+use Rattle.std.proofs.Common.{ℕ, [], ◌∷◌, refl, MutBor}
+use denote.Steps.{opens, closes}
+use mir.Val.{vunit, vptr}
+use types.Run.{unit_lit, of_opd}
 use seplogic.Ra.Ura.{Ura}
 use mir.Syntax.{named}
 use base.Logic.{SProp, ent, sep, emp, via, fst∗, id⊢}
@@ -19,16 +22,16 @@ use denote.Memory.{mem}
 use denote.Ref.{Bor, MutRef, ShrRef, mut_vals, mut_Tells, shr_vals, shr_Tells}
 use denote.Signature.{plain, named_lft}
 use denote.Triple.Walked.{Stays, stay_ref, stay_dropped, walk_of, AllGo, Goes-ref, Goes-dropped}
-use Rattle.olr_log.specs.Tracing.{event_of}
+use Rattle.olr_host.specs.Tracing.{event_of}
 use denote.Builtin.{RefOf}
 use denote.Exit.{yes}
-use Rattle.olr_log.specs.declared.traced.Call.{Call}
-use Rattle.olr_log.specs.contracts.traced.Traced.add.Key.{name as #it}
-use Rattle.olr_log.specs.contracts.traced.Traced as T
-use Rattle.olr_log.specs.contracts.traced.Traced.add as it
-use Rattle.olr_log.proofs.traced.Traced.add.Statement as stated
-use Rattle.olr_log.proofs.traced.Traced.add.Code as code
-use Rattle.olr_log.specs.contracts.traced.Call as Calling
+use Rattle.olr_host.specs.declared.traced.Call.{Call}
+use Rattle.olr_host.specs.contracts.traced.Traced.add.Key.{name as #it}
+use Rattle.olr_host.specs.contracts.traced.Traced as T
+use Rattle.olr_host.specs.contracts.traced.Traced.add as it
+use Rattle.olr_host.proofs.traced.Traced.add.Statement as stated
+use Rattle.olr_host.proofs.traced.Traced.add.Code as code
+use Rattle.olr_host.specs.contracts.traced.Call as Calling
 
 abbrev Arg : Type 0
 Arg = MutBor Traced × (Bor Call × Unit {0})

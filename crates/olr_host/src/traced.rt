@@ -3,7 +3,7 @@
 ghost use Rattle.std.specs.Prelude.{◌≡◌, List, [], ◌∷◌};
 ghost use Rattle.std.specs.Borrow.{ftrue};
 ghost use Rattle.sqlite_disk.specs.Events.{Event};
-ghost use Rattle.olr_log.specs.Tracing.{event_of};
+ghost use Rattle.olr_host.specs.Tracing.{event_of};
 
 use std::io;
 use std::marker::{Model, PhantomData};

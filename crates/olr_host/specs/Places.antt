@@ -5,8 +5,8 @@ use Rattle.sqlite_disk.specs.Modelled.{start_of}
 use Rattle.sqlite_disk.specs.declared.modelled.Modelled.{Modelled}
 use Rattle.sqlite_disk.specs.declared.calls.Calls as calls
 use Rattle.sqlite_disk.specs.declared.start.Start.{Ghosts}
-use Rattle.olr_log.specs.declared.host.HostFile.{HostFile}
-use Rattle.olr_log.specs.declared.place.LogFolder.{LogFolder}
+use Rattle.olr_host.specs.declared.file.HostFile.{HostFile}
+use Rattle.olr_host.specs.declared.place.LogFolder.{LogFolder}
 
 module _ {S : Type 0} {g : calls.Ghosts HostFile} where
   -- the member `is_usable` of a file of the operating system

@@ -1,0 +1,40 @@
+//! Why a log was not opened.
+
+use std::alloc::AllocError;
+use std::{fs, io};
+
+/// Why a log can't be opened.
+#[derive(Clone, Copy, Debug)]
+pub enum OpenError {
+    /// There is no such file.
+    Missing,
+    /// The log was to be a new one, and the file is there.
+    Exists,
+    /// Another process uses the log. Its id, if it is known.
+    InUse(Option<u32>),
+    /// The file beside it that is locked can't be opened or made.
+    Lock(io::Error),
+    Io(io::Error),
+}
+
+impl From<io::Error> for OpenError {
+    fn from(error: io::Error) -> OpenError {
+        OpenError::Io(error)
+    }
+}
+
+/// Of a lock that another process holds, whose id isn't known.
+impl From<fs::TryLockError> for OpenError {
+    fn from(error: fs::TryLockError) -> OpenError {
+        match error {
+            fs::TryLockError::WouldBlock => OpenError::InUse(None),
+            fs::TryLockError::Error(error) => OpenError::Io(error),
+        }
+    }
+}
+
+impl From<AllocError> for OpenError {
+    fn from(_error: AllocError) -> OpenError {
+        OpenError::Io(io::ErrorKind::OutOfMemory.into())
+    }
+}
