@@ -1,10 +1,11 @@
 -- The file and the folder of a log, as they are opened.
-use Rattle.std.specs.Prelude.{◌≡◌, ◌⊎◌, ℕ, Bool, true, Some, [], ◌∷◌}
+use Rattle.std.specs.Prelude.{◌≡◌, ℕ, Bool, true, [], ◌∷◌}
 use Rattle.sqlite_disk.specs.Events.{settled, replay}
 use Rattle.sqlite_disk.specs.Modelled.{start_of}
 use Rattle.sqlite_disk.specs.declared.modelled.Modelled.{Modelled}
 use Rattle.sqlite_disk.specs.declared.calls.Calls as calls
 use Rattle.sqlite_disk.specs.declared.start.Start.{Ghosts}
+use Rattle.olr_host.specs.Names.{MayLead}
 use Rattle.olr_host.specs.declared.file.HostFile.{HostFile}
 use Rattle.olr_host.specs.declared.place.LogFolder.{LogFolder}
 
@@ -23,4 +24,4 @@ module _ {S : Type 0} {g : calls.Ghosts HostFile} where
 
 -- the member `may_lead` of a folder
 abbrev pub folder_may_lead : LogFolder → ℕ → Type 0
-folder_may_lead folder n = (n ≡ folder.number) ⊎ (folder.next ≡ Some n)
+folder_may_lead folder = MayLead folder.calls.events

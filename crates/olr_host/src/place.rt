@@ -1,11 +1,12 @@
 //! Where a log lies: its name, its folder, and the lock that one process holds. Read, and not proved, but for its names.
 
-ghost use Rattle.std.specs.Prelude.{◌≡◌, ◌⊎◌, ℕ, List, [], true, Some, IsTrue, IsNone, IfOk, refl, ⊤};
-ghost use Rattle.std.proofs.Common.{inl};
+ghost use Rattle.std.specs.Prelude.{◌≡◌, ℕ, List, [], ◌∷◌, true, false, is_ok, IsTrue, IsNone, IfOk, ⊤};
 ghost use Rattle.olr_log.specs.Logs.{stored_of, left_of, left_over_of, is_native_of, is_ready, is_clean};
+ghost use Rattle.olr_host.specs.Names.{renamed, folder_synced, newest, newest_leads};
 ghost use Rattle.olr_host.specs.Places.{disk_is_usable, disk_number, IsFreshDisk, folder_may_lead};
 
 use crate::file::HostFile;
+use crate::traced::{Call, Traced};
 use olr_log::{Folder, LogFile, OpenError};
 use sqlite_disk::{Modelled, Start};
 use std::cell::Cell;
@@ -31,16 +32,14 @@ pub struct LogFolder<'a> {
     lock: fs::File,
     log: PathBuf,
     beside: String,
-    /// The number of the file that has the name, its device and its inode.
-    number: u64,
+    /// The device and the inode of the file that has the name.
     node: (u64, u64),
-    /// The number of the file that may have it too, since it was put in its place.
-    next: Option<u64>,
     /// The number of the file that was made last, its device and its inode.
     last: u64,
     last_node: (u64, u64),
     /// When the file of that name was last changed, if this process changed it last.
     written: Cell<Option<(i64, i64)>>,
+    calls: Traced,
 }
 
 fn node_of(file: &fs::File) -> io::Result<(u64, u64)> {
@@ -93,6 +92,33 @@ impl LogFolder<'_> {
         Ok(file)
     }
 
+    /// Gives the file beside the log the log's name. Also returns whether it is known that it has not got it: the system says so by
+    /// each error but that of a device.
+    fn rename(&mut self) -> (io::Result<()>, bool)
+        ensures calls { self.new.calls.events ≡ renamed self.old.last (is_ok result.0) result.1 ∷ self.old.calls.events }
+        ensures refused { result.1 ≡ true → is_ok result.0 ≡ false }
+        ensures last { self.new.last ≡ self.old.last }
+    {
+        let answer = fs::rename(self.rt, self.beside.as_str(), self.log.as_str());
+        let is_refused = match &answer {
+            Ok(()) => false,
+            Err(error) => error.raw_os_error() != Some(IO_ERROR),
+        };
+        self.calls
+            .add(&Call::Renamed(self.last, is_refused, &answer));
+        (answer, is_refused)
+    }
+
+    /// Syncs the folder: the log's name stays where it leads.
+    fn sync(&mut self) -> io::Result<()>
+        ensures calls { self.new.calls.events ≡ folder_synced (is_ok result) ∷ self.old.calls.events }
+        ensures last { self.new.last ≡ self.old.last }
+    {
+        let answer = self.folder.sync_all();
+        self.calls.add(&Call::SyncedFolder(&answer));
+        answer
+    }
+
     /// Makes a file for what stands behind the text of the log, under a name that nothing has. Also returns that name.
     fn make_aside(&self) -> io::Result<(fs::File, String)> {
         for n in 0..1000u32 {
@@ -120,7 +146,7 @@ impl<S: Start> Folder<HostDisk<S>> for LogFolder<'_> {
 
     ghost is_lost = { λ _ _. ⊤ };
 
-    ghost leads = { λ folder. (folder.number, inl refl) };
+    ghost leads = { λ folder. (newest folder.calls.events, newest_leads folder.calls.events) };
 
     fn create_beside(&mut self) -> io::Result<HostDisk<S>> {
         self.last = self.last.checked_add(1).ok_or(io::ErrorKind::Other)?;
@@ -135,16 +161,12 @@ impl<S: Start> Folder<HostDisk<S>> for LogFolder<'_> {
     }
 
     fn put_in_place(&mut self) -> io::Result<Option<io::Error>> {
-        match fs::rename(self.rt, self.beside.as_str(), self.log.as_str()) {
-            Err(error) if error.raw_os_error() != Some(IO_ERROR) => return Ok(Some(error)),
-            renamed => {
-                self.next = Some(self.last);
-                renamed?;
-            }
+        let (renamed, is_refused) = self.rename();
+        if is_refused {
+            return Ok(renamed.err());
         }
-        self.folder.sync_all()?;
-        self.number = self.last;
-        self.next = None;
+        renamed?;
+        self.sync()?;
         self.node = self.last_node;
         Ok(None)
     }
@@ -293,12 +315,11 @@ fn open_folder<'a>(
         lock,
         log,
         beside,
-        number: 0,
         node,
-        next: None,
         last: 0,
         last_node: node,
         written: Cell::new(None),
+        calls: Traced::none(),
     };
     Ok((file, folder))
 }

@@ -1,4 +1,4 @@
-//! The calls that were made on a file, of which only clauses speak. Nothing of them is in memory.
+//! The calls that were made on a file or a folder, of which only clauses speak. Nothing of them is in memory.
 
 ghost use Rattle.std.specs.Prelude.{◌≡◌, List, [], ◌∷◌};
 ghost use Rattle.std.specs.Borrow.{ftrue};
@@ -8,7 +8,8 @@ ghost use Rattle.olr_host.specs.Tracing.{event_of};
 use std::io;
 use std::marker::{Model, PhantomData};
 
-/// A call of the system on a file, with its answer: of bytes the offset, these bytes, and how many of them were read or written.
+/// A call of the system on a file or a folder, with its answer: of bytes the offset, these bytes, and how many of them were read or
+/// written.
 #[derive(Clone, Copy)]
 pub enum Call<'a> {
     /// It was synced as it was opened, and has this number.
@@ -21,6 +22,9 @@ pub enum Call<'a> {
     /// To this length.
     Resized(usize, &'a io::Result<()>),
     Synced(&'a io::Result<()>),
+    /// The file of this number was given the log's name. Whether it is known that it has not got it.
+    Renamed(u64, bool, &'a io::Result<()>),
+    SyncedFolder(&'a io::Result<()>),
 }
 
 #[derive(Drop)]
