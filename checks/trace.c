@@ -6,7 +6,7 @@
 // With the variable TRACES, a folder, each process of olr_keep has a file of its own there, which begins with its process id.
 // A sync that is noted isn't made, which would take most of the time: the tests lose what isn't synced by these notes. With the
 // variable DROP_SYNCS it isn't noted either, and answers that it was made: to show that a test finds it. With SLOW_SYNCS one of
-// olr_keep takes so many milliseconds more, up to 999, before it is noted.
+// olr_keep takes so many milliseconds more, up to 999, before it is noted. With SHORT no bytes of a file are noted.
 typedef unsigned long size_t;
 typedef long ssize_t;
 typedef long off_t;
@@ -52,6 +52,7 @@ static void note(const char *kind, int file, long at, const void *bytes, size_t 
     char head[80];
     if (trace == -1) trace = open_trace();
     if (trace < 0) return;
+    if ((*kind == 'w' || *kind == 'f') && getenv("SHORT")) size = 0;
     long number = (syscall(GETPID) << 32) + file;
     size_t n = snprintf(head, sizeof head, "@EVENT@ %s %ld %ld %lu\n", kind, number, at, size);
     struct { const void *from; size_t size; } parts[] = {{head, n}, {bytes, size}};
