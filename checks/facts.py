@@ -20,7 +20,7 @@ from olr_keep_tools.carried import UNANSWERED  # noqa: E402
 # The most words of each page.
 LENGTHS = {
     "README.md": 1230,
-    "CHANGELOG.md": 2240,
+    "CHANGELOG.md": 2260,
     "CONTRIBUTING.md": 2000,
     "docs/ARCHITECTURE.md": 3100,
     "docs/CHOOSE.md": 1040,

@@ -16,11 +16,31 @@ class Handle(ctypes.Structure):
     _fields_ = [("at", ctypes.c_void_p), ("full", ctypes.c_bool)]
 
 
+# The flags of Linux for what x86-64-v2 has beyond x86-64. On a processor without them a call would end the process.
+V2 = ("cx16", "lahf_lm", "popcnt", "sse4_1", "sse4_2", "ssse3")
+
 _loaded: Dict[str, ctypes.CDLL] = {}
 
 
+def lacking(cpuinfo: str) -> List[str]:
+    """What a processor lacks of x86-64-v2, by the text of /proc/cpuinfo; nothing if that has no flags."""
+    flags = next((it.split() for it in cpuinfo.splitlines() if it.startswith("flags")), list(V2))
+    return [it for it in V2 if it not in flags]
+
+
+def check_processor(name: str = "/proc/cpuinfo") -> None:
+    """Raises OSError on a processor that the library isn't for, as far as that is known."""
+    try:
+        with open(name, encoding="utf-8", errors="replace") as file:
+            lost = lacking(file.read())
+    except OSError:
+        return
+    if lost:
+        raise OSError(f"the library needs a processor with x86-64-v2, and this one lacks {', '.join(lost)}")
+
+
 def load(name: LibraryName = None) -> ctypes.CDLL:
-    """The library, with the types of its functions. Raises OSError if it can't be loaded.
+    """The library, with the types of its functions. Raises OSError if it can't be loaded, or this processor can't execute it.
 
     It is the file of this name, else the one that the variable OLR_KEEP_LIBRARY names, else the one beside this file, else the
     one that the system's loader finds.
@@ -28,6 +48,7 @@ def load(name: LibraryName = None) -> ctypes.CDLL:
     beside = os.path.join(HERE, NAME)
     file = os.fspath(name or os.environ.get("OLR_KEEP_LIBRARY") or (beside if os.path.exists(beside) else NAME))
     if file not in _loaded:
+        check_processor()
         _loaded[file] = typed(ctypes.CDLL(file))
     return _loaded[file]
 

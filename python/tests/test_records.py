@@ -8,12 +8,29 @@ import tracemalloc
 import unittest
 from typing import List
 
+from olr_keep._library import V2, check_processor, lacking
 from olr_keep._records import is_one_record as is_record
 from olr_keep._replies import Explained
 from olr_keep_tools.records import Batch, Records, RecordsError, State, decimal, is_open_after, line_of, units, word_of
 from olr_keep_tools.rejected import advice
 from olr_keep_tools.replies import Head, NoReply, is_one_record, read_reply
 from olr_keep_tools.strings import reference_of
+
+
+class Processor(unittest.TestCase):
+    def test_older(self) -> None:
+        """A processor below x86-64-v2 is refused, which a call would end by a signal; one of which nothing is known is not."""
+        flags = "fpu sse sse2 cx16 lahf_lm popcnt sse4_1 sse4_2 ssse3"
+        for text, lost in ((f"processor : 0\nflags\t\t: {flags} avx\n", []), ("flags : fpu sse sse2 cx16\n", [*V2[1:]]), ("Features : fp\n", [])):
+            with tempfile.NamedTemporaryFile("w") as file:
+                file.write(text)
+                file.flush()
+                self.assertEqual(lacking(text), lost)
+                if lost:
+                    self.assertRaisesRegex(OSError, "lacks lahf_lm, popcnt", check_processor, file.name)
+                else:
+                    check_processor(file.name)
+        check_processor("/none")
 
 
 class Fields(unittest.TestCase):
