@@ -1,14 +1,16 @@
 """Follows the changes of a service, whatever ends meanwhile, and hands each event to a sink.
 
-    follow("/run/olr-keep/changes", sink)
+    follow(lambda sink: Reader("/run/olr-keep/changes", sink), sink)
 
 A sink has the identity and the position up to which it has taken events, from its last run on; `changes,POSITION,IDENTITY` goes on
-from there. An event is a change, or all that is published, where the changes since then are not known.
+from there. An event is a change, or all that is published, where the changes since then are not known. history.py follows
+tools/live in the same way.
 """
+import contextlib
 import select
 import socket
 import time
-from typing import Dict, Iterator, List, NamedTuple, Optional, Protocol, Union
+from typing import Callable, Dict, Iterator, List, NamedTuple, Optional, Protocol, Union
 
 from .command import say
 from .reasons import in_words
@@ -20,16 +22,19 @@ Json = Dict[str, object]
 
 
 class Changed(NamedTuple):
-    """A change of the answer of a path."""
+    """A change of the answer of a path, or in tools/live of its state. There several have a position, the round, by name."""
 
     identity: str
     position: int
     name: str
     answer: str
+    state: Optional[str] = None
+    is_last: bool = True
 
     def as_json(self) -> Json:
         """The event as an object of JSON."""
         what: Json = {"identity": self.identity, "position": self.position, "name": self.name}
+        what.update({"state": self.state} if self.state else {})
         kind, _, rest = self.answer.partition(",")
         if kind == "text":
             return {"event": "changed", **what, "string": rest}
@@ -38,7 +43,12 @@ class Changed(NamedTuple):
     @property
     def key(self) -> str:
         """What only this event has."""
-        return f"{self.identity}-{self.position}"
+        return f"{self.identity}-{self.position}-{self.name}"
+
+    @property
+    def after(self) -> str:
+        """Its name, if others of its position follow."""
+        return "" if self.is_last else self.name
 
 
 class Whole(NamedTuple):
@@ -57,17 +67,24 @@ class Whole(NamedTuple):
     @property
     def key(self) -> str:
         """What only this event has."""
-        return f"{self.identity}-{self.position}-whole"
+        return f"{self.identity}-{self.position}"
+
+    @property
+    def after(self) -> str:
+        """Nothing, since no other event of its position follows."""
+        return ""
 
 
 Event = Union[Changed, Whole]
 
 
 class Sink(Protocol):
-    """What takes events in their order. It stores what it took with `identity` and `position`, so that none is lost."""
+    """What takes events in their order. It stores what it took with `identity` and `position`, so that none is lost. Of a position
+    with several changes it has those up to the name in `after`; if this is empty, all."""
 
     identity: str
     position: int
+    after: str
 
     def take(self, event: Event) -> None:
         """Takes an event."""
@@ -83,16 +100,20 @@ class Broken(Exception):
 class Reader:
     """A connection to the changes of a service."""
 
-    def __init__(self, name: str, identity: str, position: int):
-        self.identity, self.position, self.text = identity, position, b""
+    def __init__(self, name: str, sink: Sink):
+        self.identity, self.position, self.text = sink.identity or FIRST, sink.position, b""
         self.waiting: List[str] = []
         self.socket = socket.socket(socket.AF_UNIX)
         try:
             self.socket.connect(name)
-            self.socket.sendall(f"changes,{position},{identity}\n".encode())
+            self.socket.sendall(f"changes,{self.position},{self.identity}\n".encode())
         except OSError as error:
             self.socket.close()
             raise Broken(f"{name}: {error.strerror}") from None
+
+    def close(self) -> None:
+        """Ends the connection."""
+        self.socket.close()
 
     def line(self) -> str:
         """The next line; it is waited for."""
@@ -129,7 +150,8 @@ class Reader:
                 yield self.whole(*map(int, rest.split(",")))
             elif word.isdecimal() and int(word) == self.position + 1:
                 self.position += 1
-                yield Changed(self.identity, self.position, *rest.split(",", 1))
+                name, _, answer = rest.partition(",")
+                yield Changed(self.identity, self.position, name, answer)
             else:
                 raise Broken(f"it says {line[:200]!r} after position {self.position}")
 
@@ -140,13 +162,22 @@ class Reader:
         return Whole(self.identity, position, {name: answer for name, _, answer in rows})
 
 
-def follow(name: str, sink: Sink) -> None:
+class Connection(Protocol):
+    """What gives events from the position of a sink on."""
+
+    def events(self) -> Iterator[Optional[Event]]:
+        """The events, and None where none follows at the moment."""
+
+    def close(self) -> None:
+        """Ends the connection."""
+
+
+def follow(connect: Callable[[Sink], Connection], sink: Sink) -> None:
     """Hands the events of a service to a sink, without an end."""
     said = ""
     while True:
         try:
-            reader = Reader(name, sink.identity or FIRST, sink.position)
-            with reader.socket:
+            with contextlib.closing(connect(sink)) as reader:
                 for event in reader.events():
                     said = ""
                     if event:

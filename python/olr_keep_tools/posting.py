@@ -23,8 +23,9 @@ class Snapshot:
 
     def __init__(self, file: str, every: float):
         self.file, self.every, self.changed = file, every, 0.0
-        self.identity, self.position = "", 0
+        self.identity, self.position, self.after = "", 0, ""
         self.answers: Dict[str, str] = {}
+        self.is_between = True  # whether all changes of the last position were taken
         if os.path.exists(file):
             self.read()
 
@@ -49,14 +50,16 @@ class Snapshot:
             self.answers.pop(event.name, None)
         else:
             self.answers[event.name] = event.answer
-        self.identity, self.position = event.identity, event.position
+        self.is_between = not event.after
+        if self.is_between:
+            self.identity, self.position = event.identity, event.position
         self.changed = self.changed or time.monotonic()
         if time.monotonic() - self.changed >= self.every:
             self.rest()
 
     def rest(self) -> None:
-        """Writes the file, if something has changed."""
-        if self.changed:
+        """Writes the file, if something has changed, and it has all of its position."""
+        if self.changed and self.is_between:
             found = Whole(self.identity, self.position, self.answers).as_json()
             with replacing(self.file) as file:
                 json.dump({key: value for key, value in found.items() if key != "event"}, file, indent=1)
@@ -155,7 +158,7 @@ class Poster:
         receiver.check()
         self.receiver, self.state, self.most_pause, self.refused, self.sleep = receiver, state, most_pause, refused, sleep
         self.connection: Optional[http.client.HTTPConnection] = None
-        self.identity, self.position = "", 0
+        self.identity, self.position, self.after = "", 0, ""
         if os.path.exists(state):
             self.read()
 
@@ -163,8 +166,8 @@ class Poster:
         """Reads the position of an earlier run."""
         try:
             with open(self.state, encoding="ascii") as file:
-                self.identity, position = file.read(200).split()
-            self.position = int(position)
+                self.identity, position, *names = file.read(200).split()
+            self.position, self.after = int(position), " ".join(names)
         except OSError as error:
             raise FileFailure(f"{self.state}: {error.strerror}") from None
         except ValueError:
@@ -182,7 +185,7 @@ class Poster:
                 say(f"position {event.position}: {said}; sends it again")
             self.sleep(pause)
             pause = min(2 * pause, self.most_pause)
-        self.identity, self.position = event.identity, event.position
+        self.identity, self.position, self.after = event.identity, event.position, event.after
         self.store()
 
     def post(self, event: Event) -> Answered:
@@ -227,7 +230,7 @@ class Poster:
         """Stores the position. If the machine loses power, an earlier one may be found, and events are sent again."""
         beside = f"{self.state}.part"
         with open(beside, "w", encoding="ascii") as file:
-            file.write(f"{self.identity} {self.position}\n")
+            file.write(f"{self.identity} {self.position} {self.after}".rstrip() + "\n")
         os.replace(beside, self.state)
 
     def rest(self) -> None:

@@ -5,6 +5,7 @@ import io
 import struct
 from typing import Any, Iterable, Optional, Sequence, Tuple
 
+from .command import STREAM, USAGE, Failure
 from .streets import degrees
 
 try:
@@ -22,6 +23,18 @@ ESCAPES = str.maketrans({"\\": "\\\\", "\t": "\\t", "\n": "\\n", "\r": "\\r"})  
 
 Place = Tuple[float, float]
 Course = Tuple[Place, ...]
+
+
+def check_database(name: str) -> None:
+    """Fails if there is no psycopg2, or for a connection string that can't be used."""
+    if psycopg2 is None:
+        raise Failure(STREAM, "Debian's package python3-psycopg2 is not installed for this Python")
+    try:
+        psycopg2.extensions.parse_dsn(name)
+    except UnicodeError:
+        raise Failure(USAGE, "the name of the database is not UTF-8") from None
+    except psycopg2.ProgrammingError as error:
+        raise Failure(USAGE, str(error).strip()) from None
 
 
 def coordinates(shape: Optional[bytes]) -> Optional[Course]:
