@@ -22,7 +22,7 @@ LENGTHS = {
     "README.md": 1230,
     "CHANGELOG.md": 2300,
     "CONTRIBUTING.md": 2000,
-    "docs/ARCHITECTURE.md": 3100,
+    "docs/ARCHITECTURE.md": 3120,
     "docs/CHOOSE.md": 1050,
     "docs/CLOSURES.md": 850,
     "docs/CLUSTER.md": 2500,
