@@ -31,6 +31,7 @@ WIDE = 50.0  # metres between the sections at which the shift is looked at, and 
 PIECE = 1000  # strings that are judged by one process
 ABOUT = 4.0  # metres: a road beside is about as near as ours
 CLEARLY = 10.0  # metres by which a course is nearer to our road where it can't be on another one
+PARTLY = 0.4  # the share of a line beside our road, near its ends, where it may be so
 GAP = 5.0  # metres between two parts of a course that don't join
 FEW = 0.2  # the share of the sections that have to be passed: else it is elsewhere
 Place = Tuple[float, float]
@@ -236,10 +237,11 @@ class One:
 
     def nearness(self, road: Beside) -> Optional[float]:
         """By how many metres in the mean the other course is nearer to our road than to another one, along this; None if it isn't
-        there. A line is driven as a whole: so it isn't on one of which it is far off somewhere."""
+        there. A line is driven as a whole: so it isn't on one of which it is far off, but perhaps near its ends."""
         passed = {it.section: it.left for it in self.chain}
         nearer = [abs(passed[k] - left) - abs(passed[k]) for k, left in road.left if k in passed]
-        if len(nearer) * self.step < min(BESIDE, 0.5 * self.pair.line.length) or road.is_one_line and max(nearer) > CLEARLY:
+        clearly_ours = sum(it > CLEARLY for it in nearer)
+        if len(nearer) * self.step < min(BESIDE, 0.5 * self.pair.line.length) or road.is_one_line and clearly_ours > PARTLY * len(nearer):
             return None
         return sum(nearer) / len(nearer)
 

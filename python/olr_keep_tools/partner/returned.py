@@ -85,7 +85,7 @@ def end_of(place: Degrees, ends: List[Degrees]) -> int:
 
 def trimmed(places: List[Degrees], positive: float, negative: float) -> List[Degrees]:
     """A course without so many metres at both ends."""
-    if positive <= 0 and negative <= 0:
+    if not places or positive <= 0 and negative <= 0:
         return places
     plane = Plane(places[0][1])
     line = Polyline(plane.course(places))
