@@ -31,7 +31,7 @@ LENGTHS = {
     "docs/LIMITS.md": 3900,
     "docs/LIVE.md": 2660,
     "docs/MAPS.md": 2800,
-    "docs/QUALITY.md": 1910,
+    "docs/QUALITY.md": 1900,
     "docs/SECURITY.md": 850,
     "docs/SERVICE.md": 3060,
     "docs/START.md": 1000,
