@@ -64,17 +64,17 @@ class Forked(Generic[Result]):
         return os.waitpid(self.process, 0)[1]
 
 
-def processes() -> int:
+def processes(most: int = PROCESSES) -> int:
     """How many children work at the same time."""
-    return min(PROCESSES, len(os.sched_getaffinity(0)))
+    return min(most, len(os.sched_getaffinity(0)))
 
 
-def in_order(works: Iterator[Callable[[], Result]], tick: Callable[[], None]) -> Generator[Result, None, None]:
-    """The results of functions, in their order. Each is called in a child process, while the results before are used; one whose
-    child was killed is called here."""
+def in_order(works: Iterator[Callable[[], Result]], tick: Callable[[], None], most: int = PROCESSES) -> Generator[Result, None, None]:
+    """The results of functions, in their order. Each is called in a child process, of which there are at most so many, while the
+    results before are used; one whose child was killed is called here."""
     working: Deque[Tuple[Callable[[], Result], Forked[Result]]] = deque()
     try:
-        working.extend((it, Forked(it)) for it in islice(works, processes()))
+        working.extend((it, Forked(it)) for it in islice(works, processes(most)))
         while working:
             work, forked = working.popleft()
             found = forked.result(tick)

@@ -13,7 +13,7 @@ import bisect
 import enum
 import functools
 from collections import Counter
-from typing import Any, Callable, Dict, Iterator, List, Mapping, NamedTuple, Optional, Sequence, Tuple
+from typing import Any, Callable, Dict, Iterator, List, Mapping, NamedTuple, Optional, Sequence, Tuple, TypeVar
 
 from ..courses import Plane, Polyline
 from ..forked import in_order
@@ -35,6 +35,7 @@ PARTLY = 0.4  # the share of a line beside our road, near its ends, where it may
 GAP = 5.0  # metres between two parts of a course that don't join
 FEW = 0.2  # the share of the sections that have to be passed: else it is elsewhere
 Place = Tuple[float, float]
+Found = TypeVar("Found")
 
 
 class Outcome(enum.Enum):
@@ -129,6 +130,15 @@ def tip(line: Polyline, other: Polyline, at: float, before: float, tolerance: fl
     return Tip(at - ours, False, max(0.0, before - ours))
 
 
+def by_pieces(work: Callable[[Sequence[str]], List[Found]], names: Sequence[str]) -> Iterator[List[Found]]:
+    """What a function makes of names, piece by piece: of several pieces each in a process of its own, as many as there are
+    processors."""
+    pieces = [names[k : k + PIECE] for k in range(0, len(names), PIECE)]
+    if len(pieces) < 2:
+        return map(work, pieces)
+    return in_order((functools.partial(work, it) for it in pieces), lambda: None, len(pieces))
+
+
 class Judge:
     """Judges all strings of a round."""
 
@@ -138,16 +148,18 @@ class Judge:
 
     def all(self) -> Iterator[Judged]:
         """What became of each string."""
-        for k, (name, it) in enumerate(self.returned.items()):
-            self.report(f"{k} of {len(self.returned)} courses are laid over ours")
-            course, _ = it.course()
-            if len(course) > 1:
-                self.shifts.add(Pair(self.ours[name], course, step=WIDE).seen(self.tolerance + 10.0))
-        names = list(self.ours)
-        works = [functools.partial(self.several, names[k : k + PIECE]) for k in range(0, len(names), PIECE)]
-        for found in in_order(iter(works), lambda: None) if len(works) > 1 else (it() for it in works):
-            yield from (Judged(self.ours[name], *rest) for name, *rest in found)
-            self.report(f"of {len(names)} strings {found[-1][0]} and those before it are judged")
+        for k, found in enumerate(by_pieces(self.seen, list(self.returned))):
+            self.report(f"{k * PIECE} of {len(self.returned)} courses are laid over ours")
+            for it in found:
+                self.shifts.add(it)
+        for judged in by_pieces(self.several, list(self.ours)):
+            yield from (Judged(self.ours[name], *rest) for name, *rest in judged)
+            self.report(f"of {len(self.ours)} strings {judged[-1][0]} and those before it are judged")
+
+    def seen(self, names: Sequence[str]) -> List[List[Seen]]:
+        """By how much some courses are to the left of ours."""
+        courses = ((it, self.returned[it].course()[0]) for it in names)
+        return [Pair(self.ours[it], course, step=WIDE).seen(self.tolerance + 10.0) for it, course in courses if len(course) > 1]
 
     def several(self, names: Sequence[str]) -> List[Tuple[Any, ...]]:
         """What became of some strings: their names in place of what is ours."""
