@@ -416,8 +416,6 @@ class Roads:
         course = self.expected()
         follower = Follower(course, self.network, self.tolerance)
         blocked = follower.blocked()
-        if blocked and course == self.given.course:
-            return Answer(Verdict.GONE, blocked)
         self.scale = self.course.length / (Polyline(self.plane.course(course)).length or 1.0)
         found = blocked or follower.follow(Wish(self.own_streets(), price=self.price, junctions=self.junctions()))
         answer = Answer(Verdict.GONE, found) if isinstance(found, Lost) else Judged(self, found).answer()
