@@ -79,9 +79,16 @@ fn sources<F: Read + Drop, O: FnOnce(&str) -> io::Result<F>, R: Read + Drop, E: 
         let _ = errors.write_all(b"olr-keep: --new and --compact-at need -l LOG\n");
         return Err(WRONG_ARGUMENTS);
     }
-    let Ok(file) = open_file(open_records, options.file) else {
-        let _ = errors.write_all(b"olr-keep: cannot open the command file\n");
-        return Err(NO_FILE);
+    let file = match open_file(open_records, options.file) {
+        Ok(file) => file,
+        Err(error) => {
+            let name = options.file.unwrap_or("");
+            let _ = writeln!(
+                errors,
+                "olr-keep: cannot open the command file {name}: {error}"
+            );
+            return Err(NO_FILE);
+        }
     };
     let Some(from) = compaction_length(options.compact_at) else {
         let _ = errors.write_all(

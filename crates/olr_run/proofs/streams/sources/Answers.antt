@@ -28,19 +28,19 @@ no_size (Some text) h = (text, refl, h)
 pub returns-then-lacks_log-clause-refused : goal.returns-then-lacks_log-clause-refused
 returns-then-lacks_log-clause-refused g c = Log_lacking (search rules) refl
 
-pub returns-in_default-clause-refused : goal.returns-in_default-clause-refused
-returns-in_default-clause-refused g c =
-    let n = name_of g.O.FnOnce g.F.Read.remaining c.args.open_records (options_of c.args.options.now).file c.in_default.field-0
-    c.in_default.ensures in
+pub returns-in-Err-clause-refused : goal.returns-in-Err-clause-refused
+returns-in-Err-clause-refused g c =
+    let n = name_of g.O.FnOnce g.F.Read.remaining c.args.open_records (options_of c.args.options.now).file c.in-Err.error
+    c.in-Err.ensures in
     Not_opened n.0 n.1 n.2 refl
 
-pub returns-in_default-compaction_length-clause-refused : goal.returns-in_default-compaction_length-clause-refused
-returns-in_default-compaction_length-clause-refused g c =
-    let n = no_size (options_of c.args.options.now).compact_at c.in_default-compaction_length.ensures in
+pub returns-in_default-clause-refused : goal.returns-in_default-clause-refused
+returns-in_default-clause-refused g c =
+    let n = no_size (options_of c.args.options.now).compact_at c.in_default.ensures in
     No_size n.0 n.1 n.2 refl
 
-pub returns-in-Err-clause-refused : goal.returns-in-Err-clause-refused
-returns-in-Err-clause-refused g c = No_memory c.report_fault.ensures
+pub returns-in-Err-both_sources-clause-refused : goal.returns-in-Err-both_sources-clause-refused
+returns-in-Err-both_sources-clause-refused g c = No_memory c.report_fault.ensures
 
 pub returns-in-Ok-both_sources-clause-left : goal.returns-in-Ok-both_sources-clause-left
 returns-in-Ok-both_sources-clause-left g c = (
