@@ -30,6 +30,11 @@ class Street:
         return Street(self.places, self.direction, self.road, self.frc)
 
 
+def same_streets(streets, others):
+    """The streets that are the same in another map."""
+    return {name: it for name, it in streets.items() if name in others and vars(others[name]) == vars(it)}
+
+
 def corner(place):
     """A place by which vertices are the same."""
     return round(place[0] * 100), round(place[1] * 100)
@@ -125,12 +130,12 @@ OWN, BESIDE, CROSSING, OTHER = "own", "beside", "crossing", "other"
 
 
 class World:
-    """A road of two to five streets with a path, one of its kind 3 to 30 m beside it, joined to it at none, one or both ends, and
+    """A road of three to six streets with a path, one of its kind 3 to 30 m beside it, joined to it at none, one or both ends, and
     streets that cross one or both."""
 
     def __init__(self, rnd):
         self.rnd, self.streets, self.last = rnd, {}, 0
-        count, size = rnd.randint(2, 5), rnd.randint(60, 200) / STEPS
+        count, size = rnd.randint(3, 6), rnd.randint(60, 200) / STEPS
         self.far, self.direction = rnd.uniform(3, 30) * rnd.choice((1, -1)), rnd.choice(("both", "both", "along"))
         bend, angle, places = rnd.choice((0, 0, 5e-4, 1e-3, 2e-3)), 0.0, [(0.0, 0.0)]
         for _ in range(count * STEPS):
@@ -185,12 +190,17 @@ class Editor:
         self.world, self.streets, self.rnd = world, world.streets, world.rnd
 
     def edit(self, count):
-        """So many edits, of which one at most is hard to understand; returns their names."""
-        hard = self.rnd.randrange(count)
+        """So many edits, of which one at most is hard to understand; returns their names, and the maps from the first one on."""
+        hard, maps = self.rnd.randrange(count), [self.map()]
         names = [self.rnd.choice(self.HARD if k == hard and self.rnd.random() < 0.7 else self.MILD) for k in range(count)]
         for it in names:
             getattr(self, it)()
-        return names
+            maps.append(self.map())
+        return names, maps
+
+    def map(self):
+        """The streets as they are now."""
+        return {name: it.copy() for name, it in self.streets.items()}
 
     def some(self, road):
         """Some street of a road, or none."""
@@ -377,9 +387,8 @@ class Trial:
     def __init__(self, seed):
         rnd = random.Random(seed)
         self.seed, self.world = seed, World(rnd)
-        self.before = {name: it.copy() for name, it in self.world.streets.items()}
-        self.edits = Editor(self.world).edit(rnd.randint(1, 3))
-        self.answer, self.lines, self.course = decided(self.before, self.world.path, self.world.streets, self.world.cuts)
+        self.edits, self.maps = Editor(self.world).edit(rnd.randint(1, 3))
+        self.answer, self.lines, self.course = decided(self.maps[0], self.world.path, self.world.streets, self.world.cuts)
         has_lines = isinstance(self.answer.found, Found)
         self.is_right = has_lines and metres_off(self.lines, self.world.streets, self.answer.found) <= 15
         self.is_silent = outcome(self.answer) in "GM"
