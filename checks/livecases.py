@@ -197,6 +197,48 @@ def two_roads(server):
     print("live: two roads near a course are listed, a new id on the same road is no other road")
 
 
+MULTI = "ST_GeomFromText('SRID=4326;MULTILINESTRING({})')"
+# Of each path: its streets or its course, where it is, and how its problem begins; all are 217 m long, but for the first one.
+TIES = {"twice": ("'{10,11}', null", ">10 >11", "two ways: two ways lead over its streets: from here on it is on street 10, and street 11 leads"),
+        "carriageways": ("'{21}', null", ">21", "two ways: two ways lead over its streets: from here on it is on street 21, and another part of it"),
+        "opposite": ("'{>22}', null", ">22", "two ways: "), "parts": ("'{20}', null", ">20", None), "ring": ("'{23}', null", ">23", "two ways: "),
+        "doubled": ("null, " + line(east(0, 500), east(217, 500)), ">30", "two roads: two roads follow its course: it is on street 30, and street 31"),
+        "rough": ("null, " + line(east(0, 600), east(100, 612), east(217, 600)), ">40", "off its course: it is 12 m off its drawn course")}
+
+
+def ties(server):
+    """Streets or a course that lead to two ways, or a course that is drawn badly: the path is where a rule says, and stays there. That is
+    listed until it is accepted, or the path is given anew."""
+    parts = {20: ("(6.1 49.62, 6.101 49.62), (6.101 49.62, 6.103 49.62)", "both"), 21: ("(6.1 49.63, 6.103 49.63), (6.1 49.6301, 6.103 49.6301)", "both"),
+             22: ("(6.1 49.64, 6.103 49.64), (6.103 49.6401, 6.1 49.6401)", "along"),
+             23: ("(6.1 49.65, 6.101 49.65), (6.101 49.65, 6.1 49.65)", "both")}
+    ways = {10: line(east(0, 300), east(100, 300), east(200, 300)), 11: line(east(100, 300), east(150, 350), east(200, 300), east(300, 300)),
+            31: line(east(0, 500), east(217, 500)), 30: line(east(0, 500), east(217, 500)), 40: line(east(0, 600), east(217, 600))}
+    with Case(server, "ties") as case:
+        case.save(*(f"{ROW}({number}, 3, 3, '{way}', {MULTI.format(shape)})" for number, (shape, way) in parts.items()),
+                  *(f"{ROW}({number}, 3, 3, 'both', {shape})" for number, shape in ways.items()))
+        case.save("insert into olr_keep.path (name, streets, course) values " + ", ".join(f"('{name}', {it[0]})" for name, it in TIES.items()))
+        rows = """select name, array_to_string(streets, ' '), (select array_agg(kind || ': ' || words) from olr_keep.problem where path = name),
+            state from olr_keep.string order by name"""
+        listed, texts = case.ask(rows), case.texts()
+        for name, streets, words, state in listed:
+            wanted = TIES[name]
+            if (streets, state, bool(words)) != (wanted[1], "as given", bool(wanted[2])) or words and not words[0].startswith(wanted[2]):
+                fail(f"ties: {name} is {state} over {streets}, and listed is {words}")
+        case.save("update streets set class = 4, geom = ST_Translate(geom, 0, 1e-6)")
+        case.save("update streets set class = 3, geom = ST_Translate(geom, 0, -1e-6)")
+        if case.ask(rows) != listed or case.texts() != texts:
+            fail(f"ties: after an edit and an undo {case.ask(rows)} is listed")
+        case.save("select olr_keep.accept(array_agg(name)) from olr_keep.path where name <> 'parts'")
+        case.save("update streets set class = 4, geom = ST_Translate(geom, 0, 1e-6)")
+        if case.ask("select count(*) from olr_keep.problem where path is not null") != [(0,)]:
+            fail(f"ties: what is accepted is listed: {case.ask(rows)}")
+        case.save(f"update olr_keep.path set course = {line(east(0, 600), east(100, 608), east(217, 600))} where name = 'rough'")
+        if case.ask("select words from olr_keep.problem where path is not null") != [("it is 8 m off its drawn course",)]:
+            fail(f"ties: what is given anew is not listed: {case.ask(rows)}")
+    print("live: streets that meet twice, carriageways, rings, doubled streets and courses that are drawn badly are listed until they are accepted")
+
+
 # ---- when a round is made
 
 
@@ -1293,7 +1335,7 @@ def prepared(server):
     print("live: an editor's transaction that is prepared is read within a second")
 
 
-CASES = (rights, parts, stopped, open_editor, locked_paths, service_road, drift, two_roads, one_save, held_cluster, limits,
+CASES = (rights, parts, stopped, open_editor, locked_paths, service_road, drift, two_roads, ties, one_save, held_cluster, limits,
          during_attempt, frozen, delayed, nation, accepted, identity, left_for_later, margin, draft, ambiguous, bad_paths, expressions, named, tables, numbers, upgrade, released, forwarded, listens)
 
 

@@ -594,8 +594,8 @@ create or replace function olr_keep.accept_shown(names text[]) returns text[] la
     with accepted as (
         update olr_keep.path set streets = case when path.streets is null then null else string.streets end,
             course = case when path.course is null then null else string.geom end
-        from olr_keep.string where string.name = path.name and path.name = any(names) and not lost and (found_elsewhere
-            or exists (select from olr_keep.problem where problem.path = string.name and kind in ('two roads', 'farther on', 'not on its street')))
+        from olr_keep.string where string.name = path.name and path.name = any(names) and not lost
+            and (found_elsewhere or exists (select from olr_keep.problem where problem.path = string.name and kind <> 'no string'))
         returning path.name, path.streets, path.course
     ), fixed as (
         update olr_keep.string set found_elsewhere = false, last_map = null, given_streets = string.streets, off_m = 0,
@@ -603,6 +603,9 @@ create or replace function olr_keep.accept_shown(names text[]) returns text[] la
             given = case when not exists (select from olr_keep.problem where path = string.name and kind = 'farther on') then geom end,
             definition = md5(concat(streets_given::text, '|', course_given::text))
         from accepted as it(name, streets_given, course_given) where string.name = it.name
+    ), mended as (
+        delete from olr_keep.problem using accepted
+        where path = name and kind in ('two roads', 'two ways', 'off its course') returning path
     )
     select coalesce(array_agg(name), '{}') from accepted
 $$;

@@ -292,8 +292,9 @@ class Ends(NamedTuple):
 
 class Wish(NamedTuple):
     """What a search for the lines of a course prefers: lines on these streets, and an end within `snap` metres of a node at the
-    node. `has_rivals` asks for a second road that follows. With a `price(number, low, high)`, in metres, the distance counts less
-    than this, and the start and the end are sought at `junctions` first, which are nodes, and then where the course has them."""
+    node. `has_rivals` asks for a second road that follows; of two equally near lines that with the lower number is taken then. With a
+    `price(number, low, high)`, in metres, the distance counts less than this, and the start and the end are sought at `junctions`
+    first, which are nodes, and then where the course has them."""
 
     preferred: FrozenSet[str] = frozenset()
     snap: float = SNAP
@@ -368,7 +369,7 @@ class Follower:
         if len(set(self.places)) < 2:
             return Lost("its course has no two different coordinates", self.places[0])
         found = self.search()
-        return self.with_rival(found) if wish.has_rivals and isinstance(found, Found) else found
+        return self.with_rival(found) if wish.has_rivals and isinstance(found, Found) and not found.rival else found
 
     def blocked(self) -> Optional[Lost]:
         """Why no lines lead from the start of the course to its end, whatever is wished; None if some do."""
@@ -537,7 +538,8 @@ class Follower:
                 best[label] = Best(cost, step, before)
                 waiting.add(cost, label)
             elif abs(cost - known.cost) <= SAME and step and known.step and step[0] != known.step[0]:
-                best[label] = known._replace(other=step[0])
+                is_first = step[0] is not None and known.step[0] is not None and step[0] < known.step[0]
+                best[label] = Best(known.cost, step, before, known.step[0]) if is_first else known._replace(other=step[0])
 
         for cost, label, step in self.from_start(ends):
             relax(cost, label, step, None)
@@ -568,7 +570,7 @@ class Follower:
             label = before
         steps.reverse()
         numbers = [it[0] for it in steps]
-        if tie and not self.wish.price:
+        if tie and not (self.wish.price or self.wish.has_rivals):
             place = self.lines[tie[0]].points[0]
             return Lost(f"two lines follow it equally near, of {self.name(tie[0])} and {self.name(tie[1])}", place)
         if len(set(numbers)) < len(numbers):
@@ -577,7 +579,9 @@ class Follower:
         length = sum(self.following[it] for it in numbers) - steps[0][1] - steps[-1][2]
         if abs(length - self.course.length) > max(SHARE * self.course.length, 2 * self.tolerance):
             return Lost("the lines that follow it have another length", self.plane.degrees(self.course.points[0]))
-        return Found(numbers, self.cut(numbers[0], steps[0][1]), self.cut(numbers[-1], steps[-1][2]))
+        taken, other = tie or (0, 0)
+        rival = Rival(self.name(taken), self.name(other), self.lines[taken].points[0]) if tie and self.wish.has_rivals else None
+        return Found(numbers, self.cut(numbers[0], steps[0][1]), self.cut(numbers[-1], steps[-1][2]), rival)
 
     def name(self, number: int) -> str:
         """What a message calls a line."""

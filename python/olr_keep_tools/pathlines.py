@@ -9,8 +9,9 @@ import struct
 from collections import defaultdict
 from typing import Any, Dict, FrozenSet, Iterable, Iterator, List, Mapping, NamedTuple, Optional, Sequence, Set, Tuple, Union
 
-from .courses import CELL, DRAWN, Box, Ends, Follower, Found, Lost, Network, Plane, Polyline, Wish, cells_along, cells_near, reach
-from .roads import WIDER, Given, LastMap, Roads, Verdict
+from .courses import (CELL, DRAWN, Box, Ends, Follower, Found, Lost, Network, Plane, Polyline, Rival, Wish, cells_along, cells_near,
+                      course_of, reach)
+from .roads import NEW_ID, WIDER, Given, LastMap, Roads, Verdict, farthest_apart
 from .geo import METRES
 from .routes import Waiting
 from .sql import Course, Place, coordinates, number_array, text_array
@@ -331,7 +332,9 @@ class Finder:
             if not self.streets[street]:
                 return Lost(f"street {street} has no line", None)
         by_street = {it: [self.rows[number] for number in self.streets[it]] for _, it in marked}
-        return Route(marked, by_street, last, tolerance).search()
+        route = Route(marked, by_street, last, tolerance)
+        found = route.search()
+        return found._replace(rival=route.other_way()) if isinstance(found, Found) and last is None else found
 
 
 def marked_street(text: str) -> Tuple[str, str]:
@@ -349,6 +352,7 @@ class PathSearch:
         self.known = known if known is not None and known.definition == wanted.definition else None
         self.followers: Dict[Course, Follower] = {}
         self.lost: List[Lost] = []
+        self.other_way: Optional[Rival] = None  # over the streets that the operator gave
 
     def run(self) -> Placement:
         """Where the path is."""
@@ -359,7 +363,7 @@ class PathSearch:
             return self.on_road(self.known, self.known.given)
         said = self.as_said()
         if isinstance(said, Found):
-            return Placement(State.SAID, said, off=0.0)
+            return Placement(State.SAID, said, off=0.0, remarks=tuple(self.doubts(said)))
         return Placement(State.LOST, None, said, self.lost_at())
 
     def lost_at(self) -> Tuple[Place, ...]:
@@ -380,7 +384,22 @@ class PathSearch:
         """The lines of the streets that the operator gave."""
         if not self.wanted.streets:
             return Lost("it has neither streets nor a course", None)
-        return self.finder.by_streets(self.wanted.streets, None, 0)
+        found = self.finder.by_streets(self.wanted.streets, None, 0)
+        if isinstance(found, Lost):
+            return found
+        self.other_way = found.rival
+        return found._replace(rival=None)
+
+    def doubts(self, found: Found) -> Iterator[Remark]:
+        """What an operator should know of the lines that were found first: until it is accepted, or the path is given anew."""
+        it, course = self.other_way, self.wanted.course
+        if it:
+            words = f"two ways lead over its streets: from here on it is on {it.taken}, and {it.other} leads there too"
+            yield Remark("two ways", words, it.place)
+        own = course_of([self.finder.rows[number] for number in found.lines], found.start, found.end)
+        off = farthest_apart(course, own) if course else 0.0
+        if off > NEW_ID:
+            yield Remark("off its course", f"it is {off:.0f} m off its drawn course", own[0])
 
     # ---- on the road where it was given
 
@@ -536,14 +555,16 @@ class Leg(NamedTuple):
 
 
 class Route:
-    """The search for a route over streets in their order: the shortest one that takes the lines of a street in theirs."""
+    """The search for a route over streets in their order: the shortest one that takes the lines of a street in theirs, and of equally
+    short ones that of the first parts."""
 
     def __init__(self, marked: Sequence[Tuple[str, str]], by_street: Mapping[str, List[Row]], last: Optional[LastEnds],
                  tolerance: float) -> None:
         self.marked, self.last, self.tolerance = marked, last, tolerance
         self.legs: List[Leg] = []
         for mark, street in marked:
-            rows = {it.number: it for it in by_street[street] if not mark or it.along == (mark == ">")}
+            ordered = sorted(by_street[street], key=lambda it: (it.part, it.k, not it.along))
+            rows = {it.number: it for it in ordered if not mark or it.along == (mark == ">")}
             leaving: Dict[int, List[Row]] = defaultdict(list)
             final: Dict[int, int] = defaultdict(int)
             for row in rows.values():
@@ -551,8 +572,11 @@ class Route:
             for row in by_street[street]:
                 final[row.part] = max(final[row.part], row.k)
             self.legs.append(Leg(mark, rows, leaving, final))
+        self.first, self.last_lines = self.outer(0, True), self.outer(len(marked) - 1, False)
         self.best: Dict[Mark, Tuple[Optional[Mark], Row, int]] = {}
         self.waiting: Waiting[Tuple[int, Row, Optional[Mark], int]] = Waiting()
+        self.route: List[Mark] = []
+        self.avoided: Dict[Mark, float] = {}  # what these cost more
 
     def is_first(self, leg: int, row: Row) -> bool:
         """Whether a line is the first of its part, in its direction."""
@@ -562,12 +586,23 @@ class Route:
         """Whether a line is the last of its part, in its direction."""
         return row.k == (self.legs[leg].final[row.part] if row.along else 0)
 
+    def outer(self, leg: int, is_start: bool) -> Set[int]:
+        """The lines with which a street begins, or ends, in each direction: of parts that follow each other the first, or the last."""
+        rows = self.legs[leg].rows.values()
+        firsts, lasts = ([it for it in rows if is_outer(leg, it)] for is_outer in (self.is_first, self.is_last))
+        beside: Dict[Tuple[int, bool], Set[int]] = defaultdict(set)
+        for it in lasts if is_start else firsts:
+            beside[it.end if is_start else it.start, it.along].add(it.part)
+        own = firsts if is_start else lasts
+        found = {it.number for it in own if not beside[it.start if is_start else it.end, it.along] - {it.part}}
+        return found or {it.number for it in own}
+
     def starts(self) -> Iterator[Tuple[float, Row, int]]:
         """The lines at which the route may begin: (cost, line, decimetres before the start)."""
         leg = self.legs[0]
         for row in leg.rows.values():
             if self.last is None:
-                if self.is_first(0, row):
+                if row.number in self.first:
                     yield 0 if leg.mark or row.along else AGAINST, row, 0
             elif self.last.start:
                 far, at, length = position(row, self.last.course[0])
@@ -581,7 +616,7 @@ class Route:
     def ending(self, row: Row) -> Optional[Tuple[float, int]]:
         """The cost at which the route may end on a line, and the decimetres after its end, or None."""
         if self.last is None:
-            return (0, 0) if self.is_last(len(self.legs) - 1, row) else None
+            return (0, 0) if row.number in self.last_lines else None
         if self.last.end:
             far, at, length = position(row, self.last.course[-1])
             if far > self.tolerance or at <= 0.05:
@@ -610,11 +645,15 @@ class Route:
             for it in self.legs[leg + 1].leaving.get(row.end, ()):
                 yield 0 if mark or it.along else AGAINST, leg + 1, it
 
+    def metres(self, mark: Mark, row: Row) -> float:
+        """What a line costs."""
+        return row.length / 10 + self.avoided.get(mark, 0.0)
+
     def search(self) -> Result:
         """The lines, or why there are none. What waits is a line of a leg, or with the leg after the last one the end."""
         furthest, ends = 0, self.last.course if self.last else (None, None)
         for cost, row, cut in self.starts():
-            self.waiting.add(cost + row.length / 10, (0, row, None, cut))
+            self.waiting.add(cost + self.metres((0, row.number), row), (0, row, None, cut))
         if not self.waiting:
             return Lost(f"its start is not on street {self.marked[0][1]}", ends[0])
         while self.waiting:
@@ -630,7 +669,7 @@ class Route:
                 self.waiting.add(cost + end[0], (leg + 1, row, label, end[1]))
             for more, after, it in self.following(leg, row):
                 if (after, it.number) not in self.best:
-                    self.waiting.add(cost + more + it.length / 10, (after, it, label, 0))
+                    self.waiting.add(cost + more + self.metres((after, it.number), it), (after, it, label, 0))
         if furthest < len(self.legs) - 1:
             a, b = self.marked[furthest][1], self.marked[furthest + 1][1]
             return Lost(f"street {a} does not lead to street {b}", None)
@@ -638,13 +677,32 @@ class Route:
 
     def found(self, label: Optional[Mark], after: int) -> Result:
         """The lines up to a label, without those that are cut off whole."""
-        rows, before = [], 0
+        rows, before, route = [], 0, []
         while label is not None:
+            route.append(label)
             label, row, before = self.best[label]
             rows.append(row)
         rows.reverse()
+        self.route = route[::-1]
         if len({it.number for it in rows}) < len(rows):
             return Lost("it leads over a line twice", rows[0].points[0])
         if len(rows) == 1 and before + after >= rows[0].length:
             return Lost("nothing of its street is left", rows[0].points[0])
         return Found([it.number for it in rows], before, after)
+
+    def other_way(self) -> Optional[Rival]:
+        """Another route than the one that was found, if there is one that is against as few streets, and where it begins."""
+        route, against = self.route, self.against()
+        self.avoided = dict.fromkeys(route, AGAINST / (2 * len(route)))
+        self.best, self.waiting = {}, Waiting()
+        found = self.search()
+        k = next((k for k, (one, other) in enumerate(zip(route, self.route)) if one != other), None)
+        if k is None or isinstance(found, Lost) or self.against() > against:
+            return None
+        taken, other = (f"street {self.marked[it[k][0]][1]}" for it in (route, self.route))
+        place = self.legs[route[k][0]].rows[route[k][1]].points[0]
+        return Rival(taken, other if other != taken else "another part of it", place)
+
+    def against(self) -> int:
+        """How many streets the route is on against their geometry, where their direction isn't given."""
+        return len({leg for leg, number in self.route if not (self.legs[leg].mark or self.legs[leg].rows[number].along)})

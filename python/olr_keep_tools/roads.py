@@ -442,7 +442,8 @@ class Roads:
             return None
         if not all(self.network.lines[it].street in self.given.streets for it in found.lines):
             return None
-        return Answer(Verdict.THERE, found, Judged(self, found).off())
+        judged = Judged(self, found)
+        return Answer(Verdict.THERE, found, judged.off(), None, judged.is_beside())
 
     def own_streets(self) -> FrozenSet[str]:
         """The streets of the path on the last map."""

@@ -49,6 +49,7 @@ class Placed(NamedTuple):
     off: Optional[float] = None  # metres between the course that was given and this one
     remarks: Tuple[Remark, ...] = ()
     has_rival: bool = False
+    is_first: bool = False  # whether it was found as operators give it, and is given there from now on
 
 
 Finders = Tuple[Finder, Optional[Finder]]  # of the map as it is, and as it was before the round
@@ -356,8 +357,8 @@ class Placing:
         offsets = (ends[0] + self.cuts[0], ends[1] + self.cuts[1]) if lines else (0, 0)
         off = None if placement.off is None else round(placement.off, 1)
         return Placed(placement.state, lines, streets, *ends, *offsets, nodes, course, self.wanted.definition, given,
-                      given_streets, text, at_junctions, placement.why, placement.lost_at,
-                      placement.found and placement.found.rival, off, placement.remarks, placement.has_rival)
+                      given_streets, text, at_junctions, placement.why, placement.lost_at, placement.found and placement.found.rival,
+                      off, placement.remarks, placement.has_rival, known is None or known.given is None)
 
 
 ROW = ("name, lines, streets, start_offset, end_offset, start_cut, end_cut, start_node, end_node, definition, lost, "
@@ -395,6 +396,9 @@ def write_rows(cursor: Any, rows: Sequence[Sequence[object]]) -> None:
             excluded.given_streets, excluded.last_map, excluded.lost_at, excluded.at_junctions, excluded.off_m)""", rows)
 
 
+FIRST = "two ways", "off its course"  # problems of paths as they are found first, until they are accepted or given anew
+
+
 class Cause(NamedTuple):
     """Which round wrote a problem first, or None, and who made the edits of it."""
 
@@ -407,8 +411,10 @@ def write_path_problems(cursor: Any, paths: PathsUpdate, names: Set[str], cause:
     that were not looked at, only the first changes. A problem that is still there keeps its time and its cause."""
     shifts = write_shifts(cursor, [name for name, it in paths.found.items() if it.state is State.ELSEWHERE])
     cursor.execute("""delete from olr_keep.problem where path = any(%s::text[]) and (kind <> 'two roads' or path <> all(%s::text[]))
-        or path = any(%s::text[]) and kind = 'no string' returning path, kind, since::text, round, users::text""",
-                   (text_array({*paths.found, *paths.gone}), text_array(with_rivals_as_before(paths)), text_array(names)))
+            and (kind <> all(%s::text[]) or path <> all(%s::text[])) or path = any(%s::text[]) and kind = 'no string'
+        returning path, kind, since::text, round, users::text""",
+                   (text_array({*paths.found, *paths.gone}), text_array(with_rivals_as_before(paths)), text_array(FIRST),
+                    text_array(name for name, it in paths.found.items() if not it.is_first), text_array(names)))
     known = {it[:2]: it[2:] for it in cursor.fetchall()}
     new = "now", cause.round, text_array(sorted(cause.users))
     rows = [(kind, name, words, place, *shifts.get(name, (None, None)), *known.get((name, kind), new))
