@@ -130,7 +130,7 @@ def tip(line: Polyline, other: Polyline, at: float, before: float, tolerance: fl
     return Tip(at - ours, False, max(0.0, before - ours))
 
 
-def by_pieces(work: Callable[[Sequence[str]], List[Found]], names: Sequence[str]) -> Iterator[List[Found]]:
+def by_pieces(work: Callable[[Sequence[str]], Found], names: Sequence[str]) -> Iterator[Found]:
     """What a function makes of names, piece by piece: of several pieces each in a process of its own, as many as there are
     processors."""
     pieces = [names[k : k + PIECE] for k in range(0, len(names), PIECE)]
@@ -150,16 +150,19 @@ class Judge:
         """What became of each string."""
         for k, found in enumerate(by_pieces(self.seen, list(self.returned))):
             self.report(f"{k * PIECE} of {len(self.returned)} courses are laid over ours")
-            for it in found:
-                self.shifts.add(it)
+            self.shifts.merge(found)
         for judged in by_pieces(self.several, list(self.ours)):
             yield from (Judged(self.ours[name], *rest) for name, *rest in judged)
             self.report(f"of {len(self.ours)} strings {judged[-1][0]} and those before it are judged")
 
-    def seen(self, names: Sequence[str]) -> List[List[Seen]]:
-        """By how much some courses are to the left of ours."""
-        courses = ((it, self.returned[it].course()[0]) for it in names)
-        return [Pair(self.ours[it], course, step=WIDE).seen(self.tolerance + 10.0) for it, course in courses if len(course) > 1]
+    def seen(self, names: Sequence[str]) -> Shifts:
+        """By how much some courses are shifted."""
+        shifts = Shifts()
+        for name in names:
+            course, _ = self.returned[name].course()
+            if len(course) > 1:
+                shifts.add(Pair(self.ours[name], course, step=WIDE).seen(self.tolerance + 10.0))
+        return shifts
 
     def several(self, names: Sequence[str]) -> List[Tuple[Any, ...]]:
         """What became of some strings: their names in place of what is ours."""

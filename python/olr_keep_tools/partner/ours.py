@@ -72,8 +72,10 @@ class Ours(NamedTuple):
 
 def place_of(given: Any) -> Degrees:
     """A coordinate of JSON."""
-    lon, lat = given
-    return float(lon), float(lat)
+    lon, lat = map(float, given)
+    if not (abs(lon) <= 180 and abs(lat) <= 90):
+        raise ValueError(f"{lon},{lat} is no longitude and latitude")
+    return lon, lat
 
 
 def ours_of(it: Json) -> Ours:
@@ -85,6 +87,10 @@ def ours_of(it: Json) -> Ours:
     course = tuple(map(place_of, it["course"]))
     if len(course) < 2 or len(marks) < 2:
         raise ValueError("a course or its points are missing")
+    length = Polyline(Plane(course[0][1]).course(course)).length
+    stops = [0.0, *(one.at for one in marks[1:]), float(it["begin_m"]), float(it["end_m"])]
+    if not all(-1 <= at <= length + 1 for at in stops) or abs(marks[-1].at - length) > 1:
+        raise ValueError(f"its course is {length:.0f} m long, and its points are elsewhere")
     return Ours(str(it["name"]), str(it["string"]), int(it["frc"]), int(it["fow"]), course, float(it["begin_m"]), float(it["end_m"]),
                 marks, beside, it["fields"])
 
@@ -97,7 +103,7 @@ def read_ours(folder: str) -> Dict[str, Ours]:
             found = [ours_of(json.loads(line.rstrip(",\n"))) for line in text if line.startswith("{")]
     except OSError as error:
         raise FileFailure(f"{file}: {error.strerror}: is {folder} the folder that export made?") from None
-    except (ValueError, KeyError, TypeError, RecursionError) as error:
+    except (ValueError, KeyError, TypeError, OverflowError, RecursionError) as error:
         raise FileFailure(f"{file} was not written by this tool: {error}") from None
     if not found:
         raise FileFailure(f"{file} was not written by this tool: it has no string")

@@ -105,7 +105,7 @@ def metres_of(given: Any, where: str) -> Optional[float]:
         return None
     try:
         found = float(given)
-    except (TypeError, ValueError):
+    except (TypeError, ValueError, OverflowError):
         found = math.nan
     if isinstance(given, bool) or not math.isfinite(found):
         raise FileFailure(f"{where}: an offset is no number of metres: {given!r:.40}")
@@ -122,7 +122,7 @@ def places_of(given: Any, where: str) -> List[Degrees]:
                 raise ValueError
             if not found or found[-1] != place:
                 found.append(place)
-    except (TypeError, ValueError, LookupError):
+    except (TypeError, ValueError, OverflowError, LookupError):
         raise FileFailure(f"{where}: a coordinate isn't two numbers") from None
     return found
 
@@ -145,9 +145,25 @@ def features_of(text: str, file: str) -> List[Any]:
     return found
 
 
+def as_sent(features: Iterable[Any], file: str) -> Iterator[Any]:
+    """Features as a partner sends them. Of those that tools/decode prints, which have the set of rules, the points are left out, and the
+    courses have no offsets any more."""
+    rules = set()
+    for it in features:
+        properties = it.get("properties") if isinstance(it, dict) else None
+        own = properties if isinstance(properties, dict) and "rules" in properties else {}
+        if own.get("kind") == "decoded":
+            rules.add(str(own["rules"]))
+            it = {**it, "properties": {**own, "positive_m": 0, "negative_m": 0}}
+        if own.get("kind") != "point":
+            yield it
+    if len(rules) > 1:
+        raise FileFailure(f"{file}: it has the answers of {len(rules)} sets of rules: decode with one, by --rules")
+
+
 def of_geojson(text: str, file: str) -> Iterator[Row]:
     """The rows of GeoJSON. The name is empty where there is none."""
-    for k, it in enumerate(features_of(text, file), 1):
+    for k, it in enumerate(as_sent(features_of(text, file), file), 1):
         where = f"{file}: feature {k}"
         if not isinstance(it, dict) or it.get("type") != "Feature":
             raise FileFailure(f"{where}: it is no GeoJSON feature")
@@ -249,17 +265,20 @@ def with_reading(found: Dict[str, Returned], ours: Mapping[str, Ours], file: str
 
 
 def gathered(rows: Iterable[Row], ours: Mapping[str, Ours], file: str) -> Dict[str, Returned]:
-    """What came back by name: several rows of a name are its parts. What has no name of the round is said."""
+    """What came back by name: several rows of a name are its parts. A string is a name too. What has no name of the round is said."""
     found: Dict[str, Returned] = {}
     nameless = unknown = 0
-    for name, parts, positive, negative in rows:
-        if not name or name not in ours:
-            nameless, unknown = nameless + (not name), unknown + bool(name)
-            continue
-        before = found.get(name, Returned([]))
-        found[name] = Returned([*before.parts, *(it for it in parts if len(it) > 1)],
-                               positive if before.positive is None else before.positive,
-                               before.negative if negative is None else negative)
+    named: Dict[str, List[str]] = defaultdict(list)
+    for it in ours.values():
+        named[it.string].append(it.name)
+    for given, parts, positive, negative in rows:
+        names = [given] if given in ours else named.get(given, [])
+        nameless, unknown = nameless + (not given), unknown + bool(given and not names)
+        for name in names:
+            before = found.get(name, Returned([]))
+            found[name] = Returned([*before.parts, *(it for it in parts if len(it) > 1)],
+                                   positive if before.positive is None else before.positive,
+                                   before.negative if negative is None else negative)
     for count, words in ((nameless, "without a name"), (unknown, "with a name that is none of this round")):
         if count:
             say(f"{file}: {count} rows {words} are left out")

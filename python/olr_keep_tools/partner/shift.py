@@ -4,7 +4,7 @@ from __future__ import annotations
 import math
 import statistics
 from collections import defaultdict
-from typing import Dict, Iterator, List, NamedTuple, Tuple
+from typing import Dict, Iterable, Iterator, List, NamedTuple, Tuple
 
 from ..geo import METRES, Degrees, scale
 
@@ -34,7 +34,7 @@ class Shifts:
         self.courses: List[Dict[Tuple[int, int], int]] = [defaultdict(int) for _ in CELLS]
         self.found: Dict[Tuple[int, int], Vector] = {}
 
-    def add(self, seen: List[Seen]) -> None:
+    def add(self, seen: Iterable[Seen]) -> None:
         """Adds what was seen along one course."""
         signed = [(it.place, *sector_of(it.normal), it.left) for it in seen]
         for level, size in enumerate(CELLS):
@@ -47,6 +47,15 @@ class Shifts:
                     kept.append(sign * left)
             for cell in passed:
                 self.courses[level][cell] += 1
+
+    def merge(self, after: Shifts) -> None:
+        """Adds what another one has, as if that had been added here."""
+        for level, cells in enumerate(after.left):
+            for cell, sectors in cells.items():
+                for kept, more in zip(self.left[level].setdefault(cell, [[] for _ in range(SECTORS)]), sectors):
+                    kept += more[: ENOUGH - len(kept)]
+            for cell, count in after.courses[level].items():
+                self.courses[level][cell] += count
 
     def at(self, place: Degrees) -> Vector:
         """The shift at a place."""
