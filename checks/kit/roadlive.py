@@ -3,8 +3,8 @@ import collections
 import math
 import random
 
-from livecases import ROW, Case, line
-from roadmaps import OWN, Editor, Trial, World, course_of, degrees, lines_of, lines_over, same_streets
+from .livecases import ROW, Case, line
+from .roadmaps import OWN, Editor, Trial, World, course_of, degrees, lines_of, lines_over, same_streets
 
 OPTIONS = "--most", "100%", "--most-changed", "100%", "--most-elsewhere", "100%", "--most-at-once", "1000000"
 STATES = {"as given": "G", "moved": "M", "elsewhere": "E", "lost": "L", "refused": "L"}

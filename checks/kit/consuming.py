@@ -9,8 +9,8 @@ import sqlite3
 import threading
 import time
 
-from serving import LIMIT, SERVED, Failed, connected, run
-from whole import text_of
+from .serving import LIMIT, SERVED, Failed, connected, run
+from .whole import text_of
 
 try:
     import psycopg2

@@ -15,9 +15,9 @@ import threading
 import time
 from typing import NamedTuple
 
-sys.path.insert(0, f"{os.path.dirname(os.path.abspath(__file__))}/../python")
-from disk import Disk, events  # noqa: E402
-from whole import PROGRAM, TOP, run  # noqa: E402
+sys.path.insert(0, f"{os.path.dirname(os.path.abspath(__file__))}/../../python")
+from .disk import Disk, events  # noqa: E402
+from .whole import PROGRAM, TOP, run  # noqa: E402
 from olr_keep_tools.replies import read_reply  # noqa: E402
 
 PYTHON = "/usr/bin/python3" if os.access("/usr/bin/python3", os.X_OK) else sys.executable

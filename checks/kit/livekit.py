@@ -13,7 +13,7 @@ import time
 
 import psycopg2
 
-from whole import PROGRAM, TOP, run
+from .whole import PROGRAM, TOP, run
 
 BINS = sorted(glob.glob("/usr/lib/postgresql/*/bin"), key=lambda it: int(it.split("/")[4]))
 LIMIT = 300  # seconds for one round, which takes a moment unless the machine is busy

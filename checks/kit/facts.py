@@ -12,7 +12,7 @@ import sys
 from concurrent.futures import ThreadPoolExecutor
 from typing import Dict, Iterator, List, NamedTuple, Set, Tuple
 
-from whole import TOP, text_of
+from .whole import TOP, text_of
 
 sys.path.insert(0, f"{TOP}/python")
 from olr_keep_tools.carried import UNANSWERED  # noqa: E402

@@ -11,7 +11,7 @@ import sys
 import tempfile
 from typing import NamedTuple
 
-TOP = os.path.dirname(os.path.dirname(os.path.realpath(__file__)))
+TOP = os.path.dirname(os.path.dirname(os.path.dirname(os.path.realpath(__file__))))
 # What .gitignore lists, and the folder of git, which is a file in a worktree.
 LEFT_OUT = {"out", "__pycache__", ".git"}
 sys.path.insert(0, f"{TOP}/python")

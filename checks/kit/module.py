@@ -1,6 +1,6 @@
 """Tests the Python module as it is installed: calls and replies, threads, asyncio, memory, and what is no record.
 
-    PYTHONPATH=FOLDER python3 checks/module.py
+    PYTHONPATH=FOLDER python3 checks/kit/module.py
 
 FOLDER has the module. checks/library runs it.
 """
@@ -15,7 +15,7 @@ from fractions import Fraction
 import olr_keep
 from olr_keep import AsyncKeep, Keep, Rejected
 
-TOP = os.path.dirname(os.path.dirname(os.path.abspath(__file__)))
+TOP = os.path.dirname(os.path.dirname(os.path.dirname(os.path.abspath(__file__))))
 wrong = []
 
 

@@ -1,6 +1,6 @@
 """Whether the functions of the tools, of Python, of the build and of the checks have the shapes that they shall have.
 
-    checks/shapes.py FILE..
+    checks/kit/shapes.py FILE..
 
 A function has at most 40 lines and seven parameters, besides its object; one assignment sets at most five fields of an object;
 no result is None, a text or a number.

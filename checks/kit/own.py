@@ -1,7 +1,7 @@
 """The lines of a path that are its own at the points of its string."""
 import sys
 
-from whole import TOP
+from .whole import TOP
 
 sys.path.insert(0, f"{TOP}/python")
 from olr_keep_tools.geo import angle_between, distance  # noqa: E402

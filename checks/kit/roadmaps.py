@@ -4,7 +4,7 @@ import math
 import random
 import sys
 
-from whole import TOP
+from .whole import TOP
 
 sys.path.insert(0, f"{TOP}/python")
 from olr_keep_tools.courses import Found, Ground, Network, Polyline, course_of  # noqa: E402

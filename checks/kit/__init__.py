@@ -1,0 +1,1 @@
+"""What several checks share, and the cases of some."""
