@@ -1,5 +1,6 @@
-"""Small maps with roads beside each other, edits of them, and what is right afterwards, for checks/roads."""
+"""Small maps with roads beside each other, edits of them, and what is right afterwards, for checks/roads, checks/swap and checks/edits."""
 import collections
+import itertools
 import math
 import random
 import sys
@@ -110,6 +111,67 @@ def edited(streets, text, far):
         else:
             del found[edit[1:]]
     return found
+
+
+# ---- what editors do
+
+FAR = 3, 6, 12, 18, 30  # metres to the road beside
+# The path is over streets 1 and 2, the road beside is street 9; others meet them at the ends and between.
+MAP = "1 0:100:200; 2 200:350:500; 3 500:650; 4 -150:0; 9 0@d:250@d:500@d; 5 0:0@-80; 6 500:500@-80; 7 200:200@-80"
+# Each line: what an editor did, the edits, and what the path is then, with the other road at each distance: G as given, M moved,
+# E found elsewhere, L lost. A word for all five, if it is the same.
+TABLE = """
+split, the first part keeps the id | 2 200:350; 8 350:500 | G
+split, the second part keeps the id | 2 350:500; 8 200:350 | G
+split of the first street | 1 100:200; 8 0:100 | G
+merge of the first street with the one before | -4; 1 -150:0:100:200 | G
+merge of the one before with the first street | -1; 4 -150:0:100:200 | G
+merge of the last street with the one after | -3; 2 200:350:500:650 | G
+merge of both streets | -2; 1 0:100:200:350:500 | G
+the road beside is split | 9 0@d:250@d; 8 250@d:500@d | G
+reverse | 1 200:100:0 | G
+reverse of all | 1 200:100:0; 2 500:350:200; 9 500@d:250@d:0@d | G
+redraw by a metre | 1 0:100@-1:200 | G
+redraw by 4 m | 1 0:100@-4:200 | M
+redraw by a metre, with another id | -1; 8 0:100@-1:200 | G
+redraw by 4 m, with another id | -1; 8 0:100@-4:200 | M
+redraw by 9 m, with another id | -1; 8 0:50@-9:150@-9:200 | E
+shift by 6 m | 1 0@-6:100@-6:200@-6; 2 200@-6:350@-6:500@-6 | M
+shift by 6 m, with other ids | -1; -2; 11 0@-6:100@-6:200@-6; 12 200@-6:350@-6:500@-6 | E
+shift of both roads by 6 m | 1 0@-6:100@-6:200@-6; 2 200@-6:350@-6:500@-6; 9 0@d-6:250@d-6:500@d-6 | M
+shift of both roads by 6 m, with other ids | -1; -2; -9; 11 0@-6:200@-6; 12 200@-6:500@-6; 19 0@d-6:500@d-6 | M
+a district is moved by 6 m, with other ids | -1; -2; -3; -4; -5; -6; -7; -9; 11 0@6:200@6; 12 200@6:500@6; 13 500@6:650@6; 14 -150@6:0@6; 15 0@6:0@-74; 16 500@6:500@-74; 17 200@6:200@-74; 19 0@d+6:500@d+6 | M
+a junction is moved along the path | 1 0:100:206; 2 206:350:500; 7 206:200@-80 | G
+a junction is moved off the path | 1 0:100:200@-5; 2 200@-5:350:500; 7 200@-5:200@-80 | M
+the junction at its end is moved along the road | 2 200:350:506; 3 506:650; 6 506:500@-80 | M
+the junction at its start is moved to the side | 1 0@-7:100:200; 4 -150:0@-7; 5 0@-7:0@-80 | M
+copy and paste | 8 0:100:200 | G
+delete, and again with its id | 1 0:100:200 | G
+delete, and again with another id | -1; 8 0:100:200 | G
+other ids for all | -1; -2; -9; 11 0:100:200; 12 200:350:500; 19 0@d:250@d:500@d | G
+other ids for all, the other road is gone | -1; -2; -9; 11 0:100:200; 12 200:350:500 | EGGGG
+other ids for all, the road is gone | -1; -2; -9; 19 0@d:250@d:500@d | EEEEL
+delete | -1; -2 | EEEEL
+delete of one street | -1 | EEEEL
+the road beside is deleted | -9 | G
+a crossing street is deleted | -6 | G
+a side road | 8 100:100@-50 | G
+the street is longer | -3; 2 200:350:500:560 | G
+another road is drawn beside | 8 0@-d:250@-d:500@-d | G
+delete, and one of its kind is drawn on the other side | -1; -2; 8 0@-10:250@-10:500@-10 | E
+delete, and one of its kind is drawn farther | -1; -2; 8 0@d+6:250@d+6:500@d+6 | EEEEL
+ids swapped | 1<>9 | G
+ids swapped, of a part | 2<>9 | G
+its ids given to the road beside | -1; -2; -9; 1 0@d:250@d:500@d | EEEEL
+its id given to the road beside, and that is moved | -1; -2; -9; 1 0@d+2:250@d+2:500@d+2 | EEELL
+"""
+
+
+def rows():
+    """The lines of the table: what was done, the edits, and the five outcomes."""
+    for line in TABLE.strip().splitlines():
+        what, edits, wanted = line.split(" | ")
+        yield what, edits, wanted if len(wanted) > 1 else wanted * len(FAR)
 
 
 # ---- random maps
@@ -394,5 +456,55 @@ class Trial:
         self.is_silent = outcome(self.answer) in "GM"
         self.is_wrong = self.is_silent and (not self.is_right or is_of_another_length(self.lines, self.course, self.answer))
 
+    @property
+    def case(self):
+        """The map with the path, and the map afterwards, for `Places`."""
+        return self.maps[0], self.world.path, self.world.streets, self.world.cuts
+
     def __str__(self):
         return f"seed {self.seed}: {', '.join(self.edits)}; {self.world.far:.1f} m beside: {self.answer.verdict.value}, {self.answer.off:.1f} m off"
+
+
+# ---- many small maps as one, in records
+
+
+class Places:
+    """Small maps, each in a place of its own, as records of one map, before and after: `(streets, the path's streets, streets
+    afterwards, cuts)` of each. A line has a number of its street, or, with `new_numbers`, afterwards another one."""
+
+    def __init__(self, cases, new_numbers=False):
+        self.old, self.new, self.roads, self.first = [], [], {}, 400_000_000 if new_numbers else 0
+        paths = []
+        for place, (before, path, after, cuts) in enumerate(cases, 1):
+            nodes, lines = {}, lines_of(before)
+            numbers = dict(zip(lines, self.add(self.old, place, before, nodes)))
+            over = ",".join(str(numbers[it]) for it in lines_over(lines, before, path))
+            paths.append(f"path,p{place - 1},{cuts[0]},{cuts[1]},{over}")
+            numbered = self.add(self.new, place, after, nodes, self.first)
+            self.roads.update((number, after[it.street].road) for number, it in zip(numbered, lines_of(after).values()))
+        self.old += paths
+
+    @staticmethod
+    def add(records, place, streets, nodes, first=0):
+        """Adds the records of a small map, and returns the numbers of its lines."""
+        counts, numbers, rows, lon, lat = collections.Counter(), [], [], 0.05 * (place % 40) - 1.1, 0.02 * (place // 40) - 0.1
+        for it in lines_of(streets).values():
+            counts[it.street] += 1
+            numbers.append(first + 10_000 * place + 100 * int(it.street) + counts[it.street])
+            ends = [first + nodes.setdefault(at, 10_000 * place + len(nodes) + 1) for at in (it.points[0], it.points[-1])]
+            rows += [f"node,{end},{at[0] + lon:.7f},{at[1] + lat:.7f}" for end, at in zip(ends, (it.points[0], it.points[-1]))]
+            flat = [(x * EAST, y * NORTH) for x, y in it.points]
+            at = [round(10 * far) for far in itertools.accumulate(map(math.dist, flat, flat[1:]))]
+            bends = [f",{far},{x + lon:.7f},{y + lat:.7f}" for low, far, (x, y) in zip([0, *at], at[:-1], it.points[1:]) if low < far < it.length]
+            rows.append(f"line,{numbers[-1]},{ends[0]},{ends[1]},{streets[it.street].frc},3,{it.length}{''.join(bends)}")
+        records += dict.fromkeys(rows)
+        return numbers
+
+    def off(self, state, number):
+        """How many metres a path is on other roads than its own on a map; infinitely many if it has no lines there."""
+        path = state.paths.get(f"p{number}")
+        if path is None or not all(it in state.lines for it in path.lines):
+            return math.inf
+        cuts = collections.Counter({path.lines[0]: path.positive})
+        cuts[path.lines[-1]] += path.negative
+        return sum(state.lines[it].length - cuts[it] for it in path.lines if self.roads.get(it) != OWN) / 10
