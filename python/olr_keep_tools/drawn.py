@@ -3,7 +3,7 @@ Coordinates are whole units of records.
 """
 from typing import Dict, List, NamedTuple, Sequence, Tuple
 
-from .geo import Degrees, between
+from .geo import Degrees, between, degrees
 from .records import Path, State
 
 LIMIT = 150000  # decimetres by which an end of a path is extended at most
@@ -38,6 +38,17 @@ def place_along(course: Course, at: float) -> Degrees:
         if at <= b[0]:
             return between(a[1:], b[1:], (at - a[0]) / (b[0] - a[0]))
     return course[-1][1:]
+
+
+def shape_of(state: State, path: Path) -> List[Degrees]:
+    """The coordinates of a path between its offsets, in degrees; of the first connected lines if they don't join."""
+    found = courses(state, path.lines)
+    if not found:
+        return []
+    length = found[0][-1][0]
+    begin = min(path.positive, length)
+    places = part(found[0], begin, max(begin, length - path.negative))
+    return [degrees(it) for k, it in enumerate(places) if k == 0 or it != places[k - 1]]
 
 
 class Cut(NamedTuple):

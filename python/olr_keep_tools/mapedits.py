@@ -1,7 +1,7 @@
 """The edits that lead from one map to another, with the lines that follow the course of those that are removed.
 
-    lost = {}
-    for record in edits(old, new, Limits(tolerance=5.0, length=0.001, dropped=0.05), lost):
+    named = Named({}, {})
+    for record in edits(old, new, Limits(tolerance=5.0, length=0.001, dropped=0.05), named):
         print(record)
 """
 import bisect
@@ -12,7 +12,8 @@ from typing import Callable, Deque, Dict, Iterable, Iterator, List, NamedTuple, 
 from .command import Failure
 from .geo import METRES, Degrees, between, degrees, distance
 from .records import UNITS, Line, Margin, Path, Place, State, decimal
-from .twomaps import TwoMaps
+from .roads import Verdict
+from .twomaps import TwoMaps, concerned
 
 REFUSED = 4
 ROUTES = 8  # the number of routes to one node, of one length, that a search follows
@@ -195,26 +196,36 @@ def new_lines(matcher: Matcher, path: Path, dropped: Set[int]) -> Tuple[Lines, L
     return (lines, lost) if len(set(lines)) == len(lines) else (path.lines, lost or path.lines)
 
 
-def repaths(old: State, new: State, dropped: Set[int], limits: Limits, lost: Dict[str, Lines]) -> Iterator[str]:
-    """The records that give paths their new lines; `lost` gets the names of the other paths, with their unmatched lines: also of
-    those for which only lines of another road beside theirs are found."""
-    concerned = {name: path for name, path in old.paths.items() if not dropped.isdisjoint(path.lines)}
-    if not concerned:
+class Named(NamedTuple):
+    """Paths that need a person: those without lines in the new map, each with its old lines, and those that may be on another road
+    than theirs, each with why."""
+
+    lost: Dict[str, Lines]
+    doubts: Dict[str, str]
+
+
+def repaths(old: State, new: State, dropped: Set[int], limits: Limits, named: Named) -> Iterator[str]:
+    """The records that give paths their new lines. Looked at are the paths over removed lines, and those near lines that are not
+    as they were."""
+    names = {name for name, path in old.paths.items() if not dropped.isdisjoint(path.lines)} | set(concerned(old, new))
+    paths = {name: path for name, path in old.paths.items() if name in names}
+    if not paths:
         return
-    matcher, maps = Matcher(old, new, limits), TwoMaps(old, new, concerned.values())
-    for name, path in concerned.items():
+    matcher, maps = Matcher(old, new, limits), TwoMaps(old, new, paths.values())
+    for name, path in paths.items():
         lines, without = new_lines(matcher, path, dropped)
-        if not without and maps.on_its_road(path, path._replace(lines=lines)).doubt:
-            without = tuple(it for it in path.lines if it in dropped)
-        if without:
-            lost[name] = without
-        elif lines != path.lines:
-            yield ",".join(map(str, ["repath", name, path.positive, path.negative, *lines]))
+        on = maps.on_its_road(path, path._replace(lines=lines))
+        if without or on.answer and on.answer.verdict is Verdict.GONE and not dropped.isdisjoint(path.lines):
+            named.lost[name] = without or tuple(it for it in path.lines if it in dropped)
+            continue
+        if on.answer and on.answer.verdict is not Verdict.THERE:
+            named.doubts[name] = on.answer.words()
+        if on.path != path:
+            yield ",".join(map(str, ["repath", name, on.path.positive, on.path.negative, *on.path.lines]))
 
 
-def edits(old: State, new: State, limits: Limits, lost: Dict[str, Lines]) -> Iterator[str]:
-    """The edits in order; `lost` gets the names of the paths without lines in the new map, with their old lines. Raises
-    MapRefused if they would remove too many lines."""
+def edits(old: State, new: State, limits: Limits, named: Named) -> Iterator[str]:
+    """The edits in order; `named` gets the paths that need a person. Raises MapRefused if they would remove too many lines."""
     dropped = {it for it in old.lines if old.lines.text[it] != new.lines.text.get(it) and not is_kept(old, new, it)}
     if not new.lines:
         raise MapRefused("it has no line")
@@ -231,7 +242,7 @@ def edits(old: State, new: State, limits: Limits, lost: Dict[str, Lines]) -> Ite
             yield f"line,{it},{line.start},{line.end},{line_fields(line)}"
         elif new.lines.text[it] != old.lines.text[it]:
             yield f"set-line,{it},{line_fields(new.lines[it])}"
-    yield from repaths(old, new, dropped, limits, lost)
+    yield from repaths(old, new, dropped, limits, named)
     yield from (f"drop-node,{it}" for it in old.nodes if it not in new.nodes)
     if new.margin not in (Margin(), old.margin):
         yield new.margin.record()

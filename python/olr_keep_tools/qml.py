@@ -66,7 +66,8 @@ def by_state() -> str:
 
 def by_verdict() -> str:
     """A renderer of paths by what becomes of them on the next map, the worst in red."""
-    kinds = (("lost", RED), ("other road", AMBER), ("without a string before", INK), ("same road", BLUE), ("same string", GREY))
+    kinds = (("lost", RED), ("other road", AMBER), ("two roads", VIOLET), ("farther off", SKY), ("without a string before", INK),
+             ("same road", BLUE), ("same string", GREY))
     rows = "".join(f'<category render="true" value="{it}" symbol="{k}" label="{it}"/>' for k, (it, _) in enumerate(kinds))
     symbols = "".join(line(k, colour, 1.2) for k, (_, colour) in enumerate(kinds))
     return (f'<renderer-v2 type="categorizedSymbol" attr="verdict" symbollevels="0"><categories>{rows}</categories>'

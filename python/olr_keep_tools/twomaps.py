@@ -1,15 +1,16 @@
 """Whether the paths of one map are on the same roads on another one, as `roads` decides it.
 
     maps = TwoMaps(old, new, old.paths.values())
-    answer = maps.judged(old.paths["a"], new.paths["a"])
+    answer = maps.judged(old.paths["a"], new.paths["a"]).answer
     print(answer.verdict, answer.off)
 
 The number of a line takes the place of a street's id.
 """
 from __future__ import annotations
 
+import functools
 import itertools
-from typing import Dict, Iterable, Iterator, List, Mapping, NamedTuple, Optional, Sequence, Set
+from typing import Dict, Iterable, Iterator, List, Mapping, NamedTuple, Optional, Sequence, Set, Tuple
 
 from .courses import Found, Ground, Network, cells_near, course_of
 from .drawn import courses
@@ -19,6 +20,7 @@ from .records import Path, State
 from .roads import WIDER, Answer, Given, LastMap, Roads, Verdict
 
 FAR = 20.0  # metres within which a path is found again
+CERTAIN = Verdict.THERE, Verdict.AGAIN  # what is said of a path on its own road
 LONGEST = 100_000.0  # metres between two points of a course; beyond, one of them is wrong
 
 
@@ -87,12 +89,40 @@ def is_unchanged(old: State, new: State, number: int) -> bool:
     return all(old.nodes.text[it] == new.nodes.text.get(it) for it in old.ends(number))
 
 
+def changed_cells(old: State, new: State) -> Set[Cell]:
+    """The cells of the lines that are not on both maps alike."""
+    found: Set[Cell] = set()
+    for state, other in ((old, new), (new, old)):
+        lines = Nearby(state, set())
+        for number in state.lines:
+            if not is_unchanged(state, other, number):
+                points = lines.ground(number).points
+                found.update(*(cells_along(a, b) for a, b in zip(points, points[1:])))
+    return found
+
+
+def concerned(old: State, new: State) -> Iterator[str]:
+    """The paths of the old map near lines that are not on the new map as they were, of those on connected lines."""
+    cells = changed_cells(old, new) if old.paths else set()
+    for name, path in old.paths.items():
+        if are_connected(old, path.lines):
+            course = [degrees(at[1:]) for at in courses(old, path.lines)[0]]
+            if not is_far_off(course) and not cells.isdisjoint(cells_near(tuple(course), FAR)):
+                yield name
+
+
+def is_far_off(course: Sequence[Degrees]) -> bool:
+    """Whether two points of a course are very far apart, so that one of them is wrong."""
+    return any(distance(a, b) > LONGEST for a, b in zip(course, course[1:]))
+
+
 class OnRoad(NamedTuple):
-    """A path on a map; why it may be on another road beside its own, if it may; and whether it is certain that it isn't."""
+    """A path on a map; what became of its road, if that can be decided; and whether its start and its end are at the junctions where
+    they were."""
 
     path: Path
-    doubt: str
-    is_there: bool
+    answer: Optional[Answer] = None
+    junctions: Tuple[bool, bool] = (False, False)
 
 
 class TwoMaps:
@@ -104,6 +134,13 @@ class TwoMaps:
         cells = set().union(*map(cells_around, shapes))
         self.near_old, self.near_new = Nearby(old, cells), Nearby(new, cells)
 
+    @functools.cached_property
+    def back(self) -> "TwoMaps":
+        """The same two, the other way round."""
+        found = TwoMaps(self.new, self.old, ())
+        found.near_old, found.near_new = self.near_new, self.near_old
+        return found
+
     def roads(self, path: Path) -> Optional[Roads]:
         """The decision for a path of the old map, or None if it isn't on connected lines, nothing of it is left, or two points of
         its course are very far apart, which a wrong coordinate brings about."""
@@ -114,33 +151,50 @@ class TwoMaps:
             return None
         own = [numbered(self.near_old, it) for it in lines]
         course = course_of(own, positive, negative)
-        if any(distance(a, b) > LONGEST for a, b in zip(course, course[1:])):
+        if is_far_off(course):
             return None
         old, new = ({it: numbered(nearby, it) for cell in cells_near(course, WIDER) for it in nearby.lines.get(cell, ())}
                     for nearby in (self.near_old, self.near_new))
         last = LastMap({**old, **dict(zip(lines, own))}, lines, (positive, negative))
         return Roads(Given(course, not positive, not negative), last, new, Network(new), FAR, "line")
 
-    def judged(self, path: Path, now: Path) -> Optional[Answer]:
-        """Whether a path of the new map is on the road of one of the old map; None if that can't be decided."""
+    def judged(self, path: Path, now: Path) -> OnRoad:
+        """Whether a path of the new map is on the road of one of the old map."""
         roads = self.roads(path) if are_connected(self.new, now.lines) else None
         if roads is None:
-            return None
+            return OnRoad(now)
         positive, negative, lines = without_cut(self.new, now)
         roads.near = {**{it: numbered(self.near_new, it) for it in lines}, **roads.near}
-        return roads.judge(Found(list(lines), positive, negative))
+        return OnRoad(now, roads.judge(Found(list(lines), positive, negative)), at_junctions(roads, Path(positive, negative, lines)))
+
+    def judged_both_ways(self, path: Path, now: Path) -> OnRoad:
+        """The same; but it is there, and at a junction, also if the one of the old map is, by the road of that of the new one."""
+        found = self.judged(path, now)
+        if found.answer is None or found.answer.verdict is Verdict.THERE and all(found.junctions):
+            return found
+        back = self.back.judged(now, path)
+        is_there = back.answer is not None and back.answer.verdict is Verdict.THERE
+        junctions = found.junctions[0] or back.junctions[0], found.junctions[1] or back.junctions[1]
+        return OnRoad(now, back.answer if is_there else found.answer, junctions)
 
     def on_its_road(self, path: Path, now: Path) -> OnRoad:
-        """A path that was carried to some lines: on these unless its road is gone there, or on the lines of this, if they are known."""
-        answer = self.judged(path, now)
-        if answer is None or answer.verdict is not Verdict.GONE:
-            return OnRoad(now, "", answer is not None and answer.verdict is Verdict.THERE)
+        """A path that was carried to some lines: on these if they are its road, else on the lines of this, if they are known."""
+        found = self.judged(path, now)
+        if found.answer is None or found.answer.verdict in CERTAIN:
+            return found
         roads = self.roads(path)
-        again = roads.decide() if roads else answer
-        if again.verdict in (Verdict.THERE, Verdict.AGAIN) and isinstance(again.found, Found):
-            found = again.found
-            return OnRoad(Path(found.start, found.end, tuple(found.lines)), "", again.verdict is Verdict.THERE)
-        return OnRoad(now, answer.words(), False)
+        again = roads.decide() if roads else found.answer
+        if roads and isinstance(again.found, Found) and again.verdict in CERTAIN:
+            on = Path(again.found.start, again.found.end, tuple(again.found.lines))
+            return OnRoad(on, again, at_junctions(roads, on))
+        return found
+
+
+def at_junctions(roads: Roads, now: Path) -> Tuple[bool, bool]:
+    """Whether the start and the end of a path are at the junctions where they were."""
+    start, end = roads.junctions()
+    return (not now.positive and roads.near[now.lines[0]].start in start,
+            not now.negative and roads.near[now.lines[-1]].end in end)
 
 
 def numbered(nearby: Nearby, number: int) -> Ground:

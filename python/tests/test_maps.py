@@ -4,11 +4,11 @@ import os
 import random
 import tempfile
 import unittest
-from typing import Dict, List, Tuple
+from typing import Dict, List, Sequence, Tuple
 
 from olr_keep_tools.geo import METRES, distance
 from olr_keep_tools.mapchecks import decoding_error, findings
-from olr_keep_tools.mapedits import Limits, Lines, MapRefused, edits
+from olr_keep_tools.mapedits import Limits, MapRefused, Named, edits
 from olr_keep_tools.osm import Extract, LeftOut, OsmError, Places, Road, Way, read_osm
 from olr_keep_tools.osmrecords import Numbers, driven, measure_of, number_lines, parts_of, records, splits
 from olr_keep_tools.receiver import RoadMap, bearing, project, shape_length
@@ -126,28 +126,48 @@ class Edits(unittest.TestCase):
     OLD = ("node,1,6,49", "node,2,6.002,49", "node,3,6.002,49.001", "line,1,1,2,3,3,1458", "line,2,2,3,3,3,1112",
            "path,a,5,0,1,2", "path,b,0,0,2")
 
-    def edits(self, *new: str, dropped: float = 1.0) -> Tuple[List[str], Dict[str, Lines]]:
-        """The edits to a new map, and the paths without lines there."""
-        lost: Dict[str, Lines] = {}
-        old, after = State(), State()
-        old.read_dump(self.OLD)
+    def edits(self, *new: str, dropped: float = 1.0, old: Sequence[str] = OLD) -> Tuple[List[str], Named]:
+        """The edits to a new map, and the paths that need a person."""
+        named, before, after = Named({}, {}), State(), State()
+        before.read_dump(old)
         after.read_dump(new)
-        return list(edits(old, after, Limits(5.0, 0.001, dropped), lost)), lost
+        return list(edits(before, after, Limits(5.0, 0.001, dropped), named)), named
 
     def test_split(self) -> None:
         halves = ["line,5,1,7,3,3,729", "line,6,7,2,3,3,729"]
         new = (*self.OLD[:3], "node,7,6.001,49", *halves, "line,2,2,3,4,3,1112")
         wanted = ["drop-line,1", "node,7,6.001,49", "set-line,2,4,3,1112", *halves, "repath,a,5,0,5,6,2"]
-        found, lost = self.edits(*new)
-        self.assertEqual((sorted(found), found[0], found[-1], lost), (sorted(wanted), wanted[0], wanted[-1], {}))
+        found, named = self.edits(*new)
+        self.assertEqual((sorted(found), found[0], found[-1], named), (sorted(wanted), wanted[0], wanted[-1], Named({}, {})))
 
     def test_lost(self) -> None:
-        found, lost = self.edits("node,1,6,49.5", "node,2,6.002,49", "node,3,6.002,49.001", "line,2,2,3,3,3,1112")
-        self.assertEqual((found, lost), (["drop-line,1", "move,1,6,49.5"], {"a": (1,)}))
-        self.assertEqual(self.edits(*self.OLD), ([], {}))
+        found, named = self.edits("node,1,6,49.5", "node,2,6.002,49", "node,3,6.002,49.001", "line,2,2,3,3,3,1112")
+        self.assertEqual((found, named), (["drop-line,1", "move,1,6,49.5"], Named({"a": (1,)}, {})))
+        self.assertEqual(self.edits(*self.OLD), ([], Named({}, {})))
+
+    def test_lines_of_another_road(self) -> None:
+        # Two roads 5 m beside each other, with a path on the first; no line is removed.
+        def roads(first: float, second: float, one: int = 1, two: int = 2) -> List[str]:
+            lats = [f"{49 + it / 111_195:.7f}" for it in (first, first, second, second)]
+            nodes = [f"node,{k},{lon},{lat}" for k, lon, lat in zip((2 * one - 1, 2 * one, 2 * two - 1, 2 * two), (6, 6.003) * 2, lats)]
+            return [*nodes, *(f"line,{it},{2 * it - 1},{2 * it},3,3,2188" for it in (one, two))]
+
+        old = (*roads(0, 5), "path,a,0,0,1")
+        # Their numbers are swapped, each with its nodes: the path gets the line of its road.
+        found, named = self.edits(*roads(0, 5, 2, 1), old=old)
+        self.assertEqual((found[-1], named), ("repath,a,0,0,2", Named({}, {})))
+        # Its line has become the one beside, and that has moved on: nobody can say which is which.
+        found, named = self.edits(*roads(5, 10), old=old)
+        self.assertNotIn("repath", "".join(found))
+        self.assertEqual(named, Named({}, {}))
+        # It is where the road beside was, which is gone; its own is too far off.
+        _, named = self.edits(*roads(5, 200), old=old)
+        self.assertEqual(list(named.doubts), ["a"])
+        _, named = self.edits(*roads(60, 65), old=old)
+        self.assertEqual(named.doubts, {"a": "its road is 60 m off"})
 
     def test_margin(self) -> None:
-        self.assertEqual(self.edits("margin,50,1", *self.OLD), (["margin,50,1"], {}))
+        self.assertEqual(self.edits("margin,50,1", *self.OLD), (["margin,50,1"], Named({}, {})))
 
     def test_refused(self) -> None:
         for new in (("node,1,6,49",), ("node,2,6.002,49", "node,3,6.002,49.001", "line,2,2,3,3,3,1112")):

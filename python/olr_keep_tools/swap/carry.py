@@ -15,12 +15,12 @@ import math
 from typing import Callable, Dict, Iterator, List, Mapping, NamedTuple, Optional, Sequence, Set, Tuple, Union
 
 from ..courses import DRAWN, Ends, Found, Wish, follow
-from ..drawn import Junctions
+from ..drawn import Junctions, shape_of
 from ..geo import Degrees, degrees, distance
 from ..mapedits import Course, Limits, Lines, Matcher
 from ..receiver import Cell, cell_of
 from ..records import Path, Place, State
-from ..roads import Verdict
+from ..roads import Answer
 from ..twomaps import FAR, Nearby, TwoMaps, cells_around, is_unchanged, without_cut
 
 REPORTED = 1000  # paths between two reports
@@ -40,14 +40,14 @@ class How(enum.Enum):
 
 
 class Carried(NamedTuple):
-    """A path on the new map, and by how many metres each of its ends may be elsewhere along the road. `doubt` is why it may be on
-    another road beside its own, and `is_there` whether it is certain that it isn't."""
+    """A path on the new map, and by how many metres each of its ends may be elsewhere along the road. `road` is what became of its
+    road, where that was asked and can be decided; `is_between` is whether both ends are at the junctions where they were."""
 
     path: Path
     how: How
     off: Tuple[float, float] = (0.0, 0.0)
-    doubt: str = ""
-    is_there: bool = False
+    road: Optional[Answer] = None
+    is_between: bool = False
 
 
 class Gone(NamedTuple):
@@ -173,7 +173,8 @@ class Carrier:
         return Junctions(self.old)
 
     def carried(self, paths: Mapping[str, Path], report: Report) -> Dict[str, Result]:
-        """Each path on the new map, or why it has no lines there. Only those that their lines don't carry are found again."""
+        """Each path on the new map, or why it has no lines there. Only those that their lines don't carry are found again, and one
+        that the records of the new map have themselves is where they have it."""
         results: Dict[str, Result] = {}
         sought: Dict[str, List[Old]] = {}
         for count, (name, path) in enumerate(paths.items()):
@@ -186,18 +187,36 @@ class Carrier:
         report(f"{len(sought)} of {len(paths)} paths are found again")
         nearby = Nearby(self.new, set().union(*map(cells_around, courses)))
         results.update((name, self.again(forms, nearby)) for name, forms in sought.items())
+        results.update((name, self.given(name, results[name])) for name in paths if name in self.new.paths)
         return self.on_their_roads(paths, results, report)
 
     def on_their_roads(self, paths: Mapping[str, Path], results: Dict[str, Result], report: Report) -> Dict[str, Result]:
-        """The same, with the lines of a path's own road if it was carried to another one beside it, as far as it is known."""
+        """The same, each with what became of its road, and with the lines of this if it was carried to another one."""
         moved_ones = {name: it for name, it in results.items() if isinstance(it, Carried) and not (
             it.path.lines == paths[name].lines and all(map(self.is_unchanged, it.path.lines)))}
         maps = TwoMaps(self.old, self.new, (paths[name] for name in moved_ones))
         for count, (name, it) in enumerate(moved_ones.items()):
             if count % REPORTED == 0:
                 report(f"{count} of {len(moved_ones)} paths are compared with the roads beside them")
-            results[name] = on_its_road(maps, paths[name], it)
+            results[name] = self.on_its_road(maps, paths[name], it)
         return results
+
+    def on_its_road(self, maps: TwoMaps, path: Path, found: Carried) -> Carried:
+        """A path that was carried, on the lines of its own road, if these are known. One that was given stays where it is, and is
+        judged both ways: on the way back as on the way there."""
+        now = (maps.judged_both_ways if found.how is How.GIVEN else maps.on_its_road)(path, found.path)
+        if now.path != found.path:
+            cut = without_cut(self.old, path)
+            found = self.located(self.form(cut, [], []), Found(list(now.path.lines), now.path.positive, now.path.negative))
+        start, end = (0.0 if is_there else off for is_there, off in zip(now.junctions, found.off))
+        return found._replace(off=(start, end), road=now.answer, is_between=all(now.junctions))
+
+    def given(self, name: str, carried: Result) -> Carried:
+        """A path that the new map has itself: its ends are compared with those to which it would be carried."""
+        now = shape_of(self.new, self.new.paths[name])
+        was = shape_of(self.new, carried.path) if isinstance(carried, Carried) else shape_of(self.old, self.old.paths[name])
+        start, end = (distance(was[k], now[k]) if was and now else 0.0 for k in (0, -1))
+        return Carried(self.new.paths[name], How.GIVEN, (start, end))
 
     def apart(self, path: Path) -> Optional[Result]:
         """A path that was on no connected lines, on those that follow each of them; None if it was on connected ones."""
@@ -338,18 +357,6 @@ class Carrier:
             at += state.lines[number].length
             found.append((float(at), state.ends(number)[1]))
         return found
-
-
-def on_its_road(maps: TwoMaps, path: Path, found: Carried) -> Carried:
-    """A path that was carried, on the lines of its own road, or with a doubt if these can't be distinguished from others."""
-    if found.how is How.GIVEN:
-        answer = maps.judged(path, found.path)
-        is_doubtful = answer is not None and answer.verdict is Verdict.GONE
-        return found._replace(doubt=answer.words() if answer and is_doubtful else "", is_there=not is_doubtful)
-    now = maps.on_its_road(path, found.path)
-    if now.path != found.path:
-        return Carried(now.path, How.FOUND, is_there=now.is_there)
-    return found._replace(doubt=now.doubt, is_there=now.is_there)
 
 
 def is_inside(anchors: Anchors, at: float) -> bool:

@@ -10,11 +10,14 @@ conflict if one of them is.
 import enum
 import functools
 import itertools
+import math
 from typing import Dict, Iterable, Iterator, List, NamedTuple, Set, Tuple
 
+from ..courses import Lost
 from ..mapedits import Limits, Lines, line_fields, place_fields
 from ..records import Path, State
-from ..twomaps import TwoMaps
+from ..roads import Verdict
+from ..twomaps import CERTAIN, TwoMaps
 from .carry import Carrier
 
 ORDER = ("drop-line", "node", "move", "set-line", "line", "drop-node")
@@ -51,6 +54,47 @@ def has_ends(one: State, other: State, number: int) -> bool:
     return number in one.lines and number in other.lines and one.ends(number) == other.ends(number)
 
 
+class Now(NamedTuple):
+    """The lines of the new map that follow another one, none if there are none, and by how many metres they are off. It is certain
+    that they are the same road unless another one may be it, or they are farther off, or cut otherwise, than lines are matched."""
+
+    lines: Lines
+    off: float = 0.0
+    is_certain: bool = True
+
+
+class Followed:
+    """Finds the lines of the new map that follow some lines of another one: those of the same road, whatever their numbers."""
+
+    def __init__(self, old: State, new: State, limits: Limits, numbers: Iterable[int]):
+        self.by_course = Carrier(old, new, limits)
+        self.maps = TwoMaps(old, new, (Path(0, 0, (it,)) for it in numbers))
+        self.known: Dict[int, Now] = {}
+
+    def now(self, number: int) -> Now:
+        """The lines that follow this one."""
+        if number not in self.known:
+            found = self.by_course.line(number)
+            self.known[number] = self.matched(number, found) if found else self.paired(number)
+        return self.known[number]
+
+    def matched(self, number: int, found: Lines) -> Now:
+        """These lines, which follow this one by their course, unless its road is gone."""
+        road = self.maps.on_its_road(Path(0, 0, (number,)), Path(0, 0, found))
+        if road.answer is None:
+            return Now(found)
+        lines = () if road.answer.verdict is Verdict.GONE else road.path.lines
+        return Now(lines, road.answer.off, road.answer.verdict in CERTAIN)
+
+    def paired(self, number: int) -> Now:
+        """The lines of this one's road, where none follows it by its course."""
+        roads = self.maps.roads(Path(0, 0, (number,)))
+        answer = roads.decide() if roads else None
+        if answer is None or answer.verdict is Verdict.GONE or isinstance(answer.found, Lost):
+            return Now(())
+        return Now(tuple(answer.found.lines), answer.off, False)
+
+
 class Hand:
     """Finds the manual edits, and judges each on the new map."""
 
@@ -60,14 +104,22 @@ class Hand:
         self.retained: Set[int] = set()
 
     @functools.cached_property
-    def of_base(self) -> Carrier:
-        """Finds the lines of the new map that follow those of the vendor's map before."""
-        return Carrier(self.base, self.new, self.limits)
+    def of_base(self) -> Followed:
+        """Finds the lines of the new map that follow those of the vendor's map before, where these were edited."""
+        edited = (it for it in self.base.lines if self.base.lines.text[it] != self.old.lines.text.get(it))
+        return Followed(self.base, self.new, self.limits, edited)
 
     @functools.cached_property
-    def of_old(self) -> Carrier:
-        """Finds the lines of the new map that follow those of the map as it is."""
-        return Carrier(self.old, self.new, self.limits)
+    def of_old(self) -> Followed:
+        """Finds the lines of the new map that follow those that were added."""
+        added = (it for it in self.old.lines if not has_ends(self.base, self.old, it))
+        return Followed(self.old, self.new, self.limits, added)
+
+    @functools.cached_property
+    def of_removed(self) -> Dict[int, float]:
+        """The lines of the new map that follow one that was removed by hand, and by how many metres they are off it."""
+        found = (self.of_base.now(it) for it in self.base.lines if not has_ends(self.base, self.old, it))
+        return {line: it.off for it in sorted(found, key=lambda it: -it.off) for line in it.lines}
 
     def edits(self) -> List[Edit]:
         """The manual edits and what becomes of each."""
@@ -93,25 +145,21 @@ class Hand:
         """The classes and forms of lines of the new map."""
         return {self.new.lines[it][2:4] for it in numbers}
 
-    @functools.cached_property
-    def beside(self) -> TwoMaps:
-        """The map as it is and the new one, near the lines that were added."""
-        return TwoMaps(self.old, self.new, (Path(0, 0, (it,)) for it in self.old.lines if not has_ends(self.base, self.old, it)))
-
-    def there(self, number: int) -> Lines:
-        """The lines of the new map that follow one that was added, unless they are of another road beside it."""
-        found = self.of_old.line(number)
-        is_other = found and self.beside.on_its_road(Path(0, 0, (number,)), Path(0, 0, found)).doubt
-        return () if is_other else found
+    def there(self, number: int) -> Now:
+        """The lines of the new map that follow one that was added, unless they rather follow one that was removed."""
+        found = self.of_old.now(number)
+        nearest = min((self.of_removed.get(it, math.inf) for it in found.lines), default=math.inf)
+        is_other = nearest < found.off or nearest == found.off and not found.is_certain
+        return Now(()) if is_other else found
 
     def added(self, number: int) -> Edit:
         """A line that was added."""
-        what, line, now = f"line {number}", self.old.lines[number], self.there(number)
+        what, line, (now, _, is_certain) = f"line {number}", self.old.lines[number], self.there(number)
         record = f"line,{number},{self.old.lines.text[number]}"
         ends = self.old.ends(number)
         if now:
             self.retained.update(now)
-            fate = Fate.ALREADY if self.kinds(now) == {line[2:4]} else Fate.CONFLICT
+            fate = Fate.ALREADY if is_certain and self.kinds(now) == {line[2:4]} else Fate.CONFLICT
             return Edit(what, fate, record, self.shown(now), (), ends)
         nodes = [self.node(it) for it in ends]
         if not all(nodes):
@@ -122,20 +170,20 @@ class Hand:
 
     def dropped(self, number: int) -> Edit:
         """A line that was removed. If the new map has lines that replaced it by hand, it is removed there too."""
-        what, record, now = f"line {number}", f"drop-line,{number}", self.of_base.line(number)
+        what, record, (now, _, is_certain) = f"line {number}", f"drop-line,{number}", self.of_base.now(number)
         nodes = self.base.ends(number)
+        if not now and number in self.new.lines and self.new.ends(number) == tuple(map(self.node, nodes)):
+            now, is_certain = (number,), False
         if not now or self.retained.intersection(now):
-            is_other = not now and number in self.new.lines and self.new.ends(number) == tuple(map(self.node, nodes))
-            fate = Fate.CONFLICT if is_other else Fate.ALREADY
-            return Edit(what, fate, record, self.shown((number,) if is_other else now), (), nodes)
-        fate = Fate.SURVIVES if self.kinds(now) == {self.base.lines[number][2:4]} else Fate.CONFLICT
+            return Edit(what, Fate.ALREADY, record, self.shown(now), (), nodes)
+        fate = Fate.SURVIVES if is_certain and self.kinds(now) == {self.base.lines[number][2:4]} else Fate.CONFLICT
         return Edit(what, fate, record, self.shown(now), tuple(f"drop-line,{it}" for it in now), nodes)
 
     def changed(self, number: int) -> Edit:
         """A line that has other fields. Its class and form are changed on all lines that follow it now; its length and its
         shape only where they are as they were."""
-        was, line, now = self.base.lines[number], self.old.lines[number], self.of_base.line(number)
-        edit = Edit(f"line {number}", Fate.CONFLICT, f"set-line,{number},{line_fields(line)}", self.shown(now or (number,)))
+        was, line, (now, _, is_certain) = self.base.lines[number], self.old.lines[number], self.of_base.now(number)
+        edit = Edit(f"line {number}", Fate.CONFLICT, f"set-line,{number},{line_fields(line)}", self.shown(now))
         tails = {self.new.lines[it][2:] for it in now}
         if was[4:] == line[4:]:
             fields = {it: self.new.lines[it]._replace(frc=line.frc, fow=line.fow) for it in now}
@@ -143,17 +191,17 @@ class Hand:
         else:
             fields = {it: line._replace(start=self.new.lines[it].start, end=self.new.lines[it].end) for it in now}
             is_done, is_there = tails == {line[2:]}, tails == {was[2:]} and len(now) == 1
-        if is_done:
+        if is_done and is_certain:
             return edit._replace(fate=Fate.ALREADY)
         records = tuple(f"set-line,{it},{line_fields(new)}" for it, new in fields.items())
-        return edit._replace(fate=Fate.SURVIVES, records=records) if is_there else edit
+        return edit._replace(fate=Fate.SURVIVES, records=records) if is_there and is_certain else edit
 
     # ---- nodes
 
     def node(self, number: int) -> int:
         """The node on the new map of one of the map as it is, or the number that an added one gets; 0 if there is none."""
         if number in self.base.nodes:
-            return next(iter(self.of_base.matcher.same_nodes(number)), 0)
+            return next(iter(self.of_base.by_course.matcher.same_nodes(number)), 0)
         return self.free(number)
 
     def free(self, number: int) -> int:
@@ -171,7 +219,7 @@ class Hand:
         now = self.node(number)
         record = f"move,{number},{place_fields(place)}"
         if not now:
-            near = next(iter(self.of_old.matcher.same_nodes(number)), 0)
+            near = next(iter(self.of_old.by_course.matcher.same_nodes(number)), 0)
             fate = Fate.ALREADY if near and self.new.nodes[near] == place else Fate.CONFLICT
             return Edit(f"node {number}", fate, record, f"node {near}" if near else "nothing")
         there = self.new.nodes[now]

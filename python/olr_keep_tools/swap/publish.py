@@ -1,6 +1,6 @@
 """The files of tools/swap --write: the new log, the reply that consumers have to take, and the way back."""
 import os
-from typing import Iterable, Iterator
+from typing import Iterable, Iterator, Mapping
 
 from ..command import USAGE, Failure
 from ..files import FileFailure, beside
@@ -38,13 +38,13 @@ def refuse_existing(folder: str) -> None:
         raise Failure(USAGE, f"{above} is no folder")
 
 
-def write_folder(folder: str, old: State, new: State, report: Iterable[str]) -> None:
+def write_folder(folder: str, old: State, new: State, reports: Mapping[str, Iterable[str]]) -> None:
     """Makes the folder with all its files, or nothing: they are written in another one beside it, which is then renamed."""
     try:
         with beside(folder.rstrip("/")) as part:
             os.mkdir(part)
             files = (("log.csv", dump(new)), ("reply.txt", reply(old, new)), ("back.csv", dump(old)),
-                     ("back-reply.txt", reply(new, old)), ("report.txt", report))
+                     ("back-reply.txt", reply(new, old)), *reports.items())
             for name, lines in files:
                 write(os.path.join(part, name), lines)
             refuse_existing(folder)

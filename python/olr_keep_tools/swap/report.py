@@ -9,6 +9,10 @@ from .manual import Edit, Fate
 from .verdicts import Kind, Verdict
 
 ORDER = {kind: k for k, kind in enumerate(Kind)}
+LOOKED_AT = tuple(it.value for it in (Kind.LOST, Kind.OTHER_ROAD, Kind.TWO_ROADS, Kind.FARTHER))  # by a person
+OFF = Kind.OTHER_ROAD, Kind.TWO_ROADS, Kind.FARTHER, Kind.SAME_ROAD
+RARE = Kind.TWO_ROADS, Kind.FARTHER  # which are counted only if there are some
+ROADS = {Kind.OTHER_ROAD: "other", Kind.TWO_ROADS: "two", Kind.FARTHER: "same", Kind.SAME_ROAD: "same", Kind.SAME_STRING: "same"}
 
 
 def worst_first(verdicts: Iterable[Verdict]) -> List[Verdict]:
@@ -21,8 +25,9 @@ def sentence(verdict: Verdict) -> str:
     parts = [verdict.why] if verdict.why else []
     if verdict.place:
         parts.append("at {:.7f},{:.7f}".format(*verdict.place))
-    if verdict.kind in (Kind.OTHER_ROAD, Kind.SAME_ROAD):
-        parts.append(f"{verdict.far:.1f} m off" + (f", over {verdict.length:.0f} m" if verdict.length else ""))
+    if verdict.kind in OFF:
+        far = f", by more than {verdict.allowed:g} m over {verdict.length:.0f} m" if verdict.length else ""
+        parts.append(f"{verdict.far:.1f} m off{far}")
         ends = zip(("start", "end"), verdict.ends)
         parts += [f"its {side} {off:.1f} m off along the road" for side, off in ends if off >= 0.05]
     if verdict.kind == Kind.WITHOUT or verdict.kind == Kind.LOST and verdict.answers[1] != "dropped":
@@ -34,7 +39,8 @@ def sentence(verdict: Verdict) -> str:
 def text(verdicts: Sequence[Verdict], manual: Sequence[Edit]) -> Iterator[str]:
     """The lines of the report."""
     counts, ambiguous = Counter(it.kind for it in verdicts), sum(bool(it.ambiguous) for it in verdicts)
-    yield f"paths {len(verdicts)}: {', '.join(f'{it.value} {counts[it]}' for it in Kind)}; newly ambiguous {ambiguous}"
+    kinds = ", ".join(f"{it.value} {counts[it]}" for it in Kind if counts[it] or it not in RARE)
+    yield f"paths {len(verdicts)}: {kinds}; newly ambiguous {ambiguous}"
     if manual:
         fates = Counter(it.fate for it in manual)
         yield f"manual edits {len(manual)}: {', '.join(f'{it.value} {fates[it]}' for it in Fate)}"
@@ -51,7 +57,7 @@ def fields(verdict: Verdict) -> Feature:
     old, new = verdict.answers
     return {"path": verdict.name, "verdict": verdict.kind.value, "old": old, "new": new, "how": verdict.how,
             "off_m": round(verdict.far, 1), "over_m": round(verdict.length), "start_off_m": round(verdict.ends[0], 1),
-            "end_off_m": round(verdict.ends[1], 1), "newly_ambiguous": list(verdict.ambiguous), "why": verdict.why,
+            "end_off_m": round(verdict.ends[1], 1), "newly_ambiguous": list(verdict.ambiguous), "why": verdict.why, "says": sentence(verdict),
             "place": rounded(verdict.place) if verdict.place else None}
 
 
@@ -74,7 +80,6 @@ def write_strings(file: IO[str], verdicts: Iterable[Verdict]) -> None:
     """The table for partners: the name, the two strings, and whether that is the same road."""
     table = csv.writer(file, lineterminator="\n")
     table.writerow(("name", "old", "new", "road"))
-    roads = {Kind.SAME_ROAD: "same", Kind.SAME_STRING: "same", Kind.OTHER_ROAD: "other", Kind.LOST: "", Kind.WITHOUT: ""}
     for it in sorted(verdicts, key=lambda it: it.name):
         strings = (answer[5:] if answer.startswith("text,") else "" for answer in it.answers)
-        table.writerow((it.name, *strings, roads[it.kind]))
+        table.writerow((it.name, *strings, ROADS.get(it.kind, "")))

@@ -1,12 +1,13 @@
-"""What becomes of each path on the next map: its string, and whether that is the same road."""
+"""What becomes of each path on the next map: its string, and whether that is the same road, as `roads` decides it."""
 import enum
 import math
-from typing import Dict, Iterator, List, Mapping, NamedTuple, Optional, Sequence, Tuple
+from typing import Dict, Iterator, Mapping, NamedTuple, Sequence, Tuple
 
+from .. import roads
 from ..courses import Plane, Polyline, Strip
-from ..drawn import Course, courses, part
-from ..geo import Degrees, degrees
-from ..records import Path, State
+from ..drawn import shape_of
+from ..geo import Degrees
+from ..records import State
 from ..strings import TextError, read_reference
 from .carry import Carried, Gone, How, Report, Result
 
@@ -23,6 +24,8 @@ class Kind(enum.Enum):
 
     LOST = "lost"
     OTHER_ROAD = "other road"
+    TWO_ROADS = "two roads"
+    FARTHER = "farther off"
     WITHOUT = "without a string before"
     SAME_ROAD = "same road"
     SAME_STRING = "same string"
@@ -30,8 +33,8 @@ class Kind(enum.Enum):
 
 class Verdict(NamedTuple):
     """What becomes of a path: `answers` are the old and the new one, `far` is how many metres its course is off at most,
-    `length` how many metres of its course are off by more than the tolerance, and `ends` by how many metres its ends are
-    elsewhere along the road. `ambiguous` has what its string may be taken for now, and not before. `course` is the old one
+    `length` how many metres of its course are off by more than `allowed`, the tolerance, and `ends` by how many metres its ends
+    are elsewhere along the road. `ambiguous` has what its string may be taken for now, and not before. `course` is the old one
     where it is lost."""
 
     name: str
@@ -40,6 +43,7 @@ class Verdict(NamedTuple):
     how: str = ""
     far: float = 0.0
     length: float = 0.0
+    allowed: float = 0.0
     ends: Tuple[float, float] = (0.0, 0.0)
     ambiguous: Tuple[str, ...] = ()
     why: str = ""
@@ -61,17 +65,6 @@ def ambiguities(lines: Sequence[str]) -> Dict[str, Tuple[str, ...]]:
         name, _, rest = line.partition(",")
         found[name] = (*found.get(name, ()), rest)
     return found
-
-
-def shape_of(state: State, path: Path) -> List[Degrees]:
-    """The coordinates of a path between its offsets; of the first connected lines if they don't join."""
-    found = courses(state, path.lines)
-    if not found:
-        return []
-    length = found[0][-1][0]
-    begin = min(path.positive, length)
-    places: Course = [(0.0, *it) for it in part(found[0], begin, max(begin, length - path.negative))]
-    return [degrees(it[1:]) for k, it in enumerate(places) if k == 0 or it[1:] != places[k - 1][1:]]
 
 
 class Apart(NamedTuple):
@@ -157,28 +150,42 @@ class Judge:
         course = shape_of(self.new.state, self.new.state.paths[verdict.name])
         more = () if self.old.ambiguous.get(verdict.name) else self.new.ambiguous.get(verdict.name, ())
         verdict = compared(verdict._replace(ends=found.off, ambiguous=more), course, self.tolerance)
-        if found.doubt:
-            return verdict._replace(kind=Kind.OTHER_ROAD, why=found.doubt)
-        is_back = found.how is How.GIVEN and found.is_there and verdict.answers[0] == verdict.answers[1]
-        return verdict._replace(kind=Kind.SAME_STRING) if is_back else verdict
+        return verdict if found.road is None else by_road(verdict, found, found.road)
+
+
+# What is said of a path by what became of its road.
+BY_ROAD = {roads.Verdict.GONE: Kind.OTHER_ROAD, roads.Verdict.TWO: Kind.TWO_ROADS, roads.Verdict.AGAIN: Kind.FARTHER,
+           roads.Verdict.FAR: Kind.FARTHER}
+
+
+def by_road(verdict: Verdict, found: Carried, road: roads.Answer) -> Verdict:
+    """A verdict by metres as it is by the path's road. Where that is there, a path that the new map has itself, with ends within
+    the tolerance, is on the same road however far it was moved; any other one is farther off if it is by more than the tolerance."""
+    kind = BY_ROAD.get(road.verdict)
+    if kind in (Kind.OTHER_ROAD, Kind.TWO_ROADS):
+        return verdict._replace(kind=kind, why=road.words(), place=road.place or ())
+    if kind is None and verdict.kind is not Kind.OTHER_ROAD:
+        return verdict
+    if kind is None and found.how is How.GIVEN and fits(verdict, verdict.allowed):
+        return verdict._replace(kind=same(verdict))
+    anew = ["its road was drawn anew"] if road.verdict is roads.Verdict.AGAIN else []
+    return verdict._replace(kind=Kind.FARTHER, why=", ".join([*anew, *(["same junctions"] if found.is_between else [])]))
+
+
+def same(verdict: Verdict) -> Kind:
+    """The kind of a path on the same road."""
+    return Kind.SAME_STRING if verdict.answers[0] == verdict.answers[1] else Kind.SAME_ROAD
+
+
+def fits(verdict: Verdict, metres: float = 0.0) -> bool:
+    """Whether the ends of a path are off by no more than the intervals of its offsets, or than these metres."""
+    was, now = (intervals(it.split(",")) for it in verdict.answers)
+    return all(off <= max(metres, *pair) + SLACK for off, *pair in zip(verdict.ends, was, now))
 
 
 def compared(verdict: Verdict, course: Sequence[Degrees], tolerance: float) -> Verdict:
     """The verdict on a path with a string before and now, whose course was that of the verdict and is this one."""
     there, back = apart(verdict.course, course, tolerance), apart(course, verdict.course, tolerance)
-    was, now = (intervals(it.split(",")) for it in verdict.answers)
-    fits = all(off <= max(pair) + SLACK for off, *pair in zip(verdict.ends, was, now))
-    kind = Kind.OTHER_ROAD
-    if fits and max(there.far, back.far) <= tolerance:
-        kind = Kind.SAME_STRING if verdict.answers[0] == verdict.answers[1] else Kind.SAME_ROAD
-    return verdict._replace(kind=kind, far=max(there.far, back.far), length=max(there.length, back.length), course=course)
-
-
-def given(old: State, new: State, name: str) -> Optional[Carried]:
-    """A path that the records of the new map have themselves: its ends are compared with those of the old one."""
-    if name not in new.paths:
-        return None
-    was, now = shape_of(old, old.paths[name]), shape_of(new, new.paths[name])
-    plane = Plane(was[0][1] if was else 0.0)
-    ends = [math.dist(plane.flat(was[k]), plane.flat(now[k])) for k in (0, -1)] if was and now else [0.0, 0.0]
-    return Carried(new.paths[name], How.GIVEN, (ends[0], ends[1]))
+    far, length = max(there.far, back.far), max(there.length, back.length)
+    kind = same(verdict) if fits(verdict) and far <= tolerance else Kind.OTHER_ROAD
+    return verdict._replace(kind=kind, far=far, length=length, allowed=tolerance, course=course)
