@@ -123,7 +123,7 @@ class Query(Consumer):
         time.sleep(0.01)
 
 
-class File:
+class TableFile:
     """A table in a file. SQLite doesn't bear that one is replaced while it is read."""
 
     def __init__(self, name):

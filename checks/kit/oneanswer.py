@@ -49,7 +49,7 @@ def turned(course, at, bearing):
     return abs((math.degrees(math.atan2(b[0] - a[0], b[1] - a[1])) - bearing + 180) % 360 - 180)
 
 
-class Case:
+class AskedMap:
     """A case, with its lines by number, and the points of its string."""
 
     def __init__(self, case, points):

@@ -51,7 +51,7 @@ def shape_of(state: State, path: Path) -> List[Degrees]:
     return [degrees(it) for k, it in enumerate(places) if k == 0 or it != places[k - 1]]
 
 
-class Cut(NamedTuple):
+class CutOff(NamedTuple):
     """What an offset cuts off: at which side, how many decimetres, and where."""
 
     side: str
@@ -59,14 +59,14 @@ class Cut(NamedTuple):
     places: List[Degrees]
 
 
-def offset_parts(state: State, path: Path) -> List[Cut]:
+def offset_parts(state: State, path: Path) -> List[CutOff]:
     """The parts that the offsets cut off; none if lines don't join."""
     found = courses(state, path.lines)
     if len(found) != 1 or any(it not in state.lines for it in path.lines):
         return []
     course, length = found[0], found[0][-1][0]
-    cuts = [Cut("positive", path.positive, part(course, 0, min(path.positive, length)))]
-    cuts.append(Cut("negative", path.negative, part(course, max(0, length - path.negative), length)))
+    cuts = [CutOff("positive", path.positive, part(course, 0, min(path.positive, length)))]
+    cuts.append(CutOff("negative", path.negative, part(course, max(0, length - path.negative), length)))
     return [it for it in cuts if it.length]
 
 

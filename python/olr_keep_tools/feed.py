@@ -133,7 +133,7 @@ class Confirmed:
         return True
 
 
-class Records:
+class Compared:
     """The records of a source, so far as they are compared with those in the stream, or made to messages."""
 
     def __init__(self) -> None:
@@ -169,7 +169,7 @@ class Feed:
     def __init__(self, options: Namespace, source: Source):
         self.stream: str = options.stream
         self.source = source
-        self.there, self.records = Confirmed(options.name or str(uuid.uuid4())), Records()
+        self.there, self.records = Confirmed(options.name or str(uuid.uuid4())), Compared()
         self.since: int = -1 if options.name is None else options.since or 0
         self.is_first = True
         self.identity: Optional[str] = None

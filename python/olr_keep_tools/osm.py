@@ -54,7 +54,7 @@ class LeftOut(Exception):
     """A road that no car uses; the text is the tag that says so."""
 
 
-class Road(NamedTuple):
+class WayKind(NamedTuple):
     """What a way is as a road: class, form, and whether it may be driven along its way and against it."""
 
     frc: int
@@ -68,7 +68,7 @@ class Way(NamedTuple):
 
     number: int
     nodes: Numbers
-    road: Road
+    road: WayKind
 
 
 class Places:
@@ -134,7 +134,7 @@ class Extract:
     def __init__(self, with_ferries: bool, with_names: bool = False):
         self.with_ferries, self.with_names, self.places = with_ferries, with_names, Places()
         self.names: Dict[int, Tuple[str, str]] = {}  # the name and the number of each way that is used, if they are wanted
-        self.roads: Dict[int, Tuple[Numbers, Road]] = {}
+        self.roads: Dict[int, Tuple[Numbers, WayKind]] = {}
         self.ways: List[Way] = []
         self.left_out: Counter[str] = Counter()
         self.unknown: Counter[str] = Counter()
@@ -154,7 +154,7 @@ class Extract:
             if self.with_names and ("name" in tags or "ref" in tags):
                 self.names[number] = tags.get("name", ""), tags.get("ref", "")
 
-    def road_of(self, tags: Tags) -> Optional[Road]:
+    def road_of(self, tags: Tags) -> Optional[WayKind]:
         """The road that a way with these tags is, or None if it is none. Raises LeftOut for one that isn't used."""
         kind, is_ferry = tags.get("highway", ""), tags.get("route") == "ferry" and "highway" not in tags
         if not kind and not is_ferry:
@@ -173,7 +173,7 @@ class Extract:
         forward, backward = (is_way and (it is None or it.is_open) for is_way, it in zip(ways, each))
         if not forward and not backward:
             raise LeftOut(next(it.tag for it, is_way in zip(each, ways) if it and is_way))
-        return Road(FERRY if is_ferry else CLASSES[kind.removesuffix("_link")], form_of_way(tags, ways), forward, backward)
+        return WayKind(FERRY if is_ferry else CLASSES[kind.removesuffix("_link")], form_of_way(tags, ways), forward, backward)
 
     def access(self, tags: Tags, direction: str) -> Optional[Access]:
         """What the decisive tag says of cars, in a direction or in both; None if no tag says anything."""

@@ -9,7 +9,7 @@ from typing import TYPE_CHECKING, Callable, Dict, Iterable, Iterator, List, Mapp
 from .extent import extent_of
 from .files import FileFailure
 from .geo import geodesic, great_circle
-from .osm import Extract, Places, Road
+from .osm import Extract, Places, WayKind
 from .records import UNITS, decimal
 
 MOST_SHAPE_POINTS = 1000
@@ -30,14 +30,14 @@ else:
 Measure = Callable[[int, int], float]  # the decimetres between two places
 
 
-class Part(NamedTuple):
+class WayPart(NamedTuple):
     """A part of a way that becomes lines: the number of the way, the places of its nodes, the decimetres between them, and what
     it is."""
 
     way: int
     nodes: List[int]
     steps: Steps
-    road: Road
+    road: WayKind
 
 
 class Numbers:
@@ -92,7 +92,7 @@ def read_table(file: Optional[str]) -> Dict[str, Numbers]:
     return tables
 
 
-def driven(parts: Iterable[Part], places: Places) -> Iterator[str]:
+def driven(parts: Iterable[WayPart], places: Places) -> Iterator[str]:
     """The key of each line: of each part in each driving direction."""
     seen: Dict[str, int] = {}
     for part in parts:
@@ -202,7 +202,7 @@ def added(a: int, b: int, places: Places, count: int) -> List[int]:
     return new if a == low else new[::-1]
 
 
-def crossings(pieces: Iterable[Tuple[int, List[int], Road]], count: int) -> bytearray:
+def crossings(pieces: Iterable[Tuple[int, List[int], WayKind]], count: int) -> bytearray:
     """For each place whether pieces begin, end or meet there."""
     uses = bytearray(count)
     for _, piece, _ in pieces:
@@ -246,7 +246,7 @@ def shape(steps: Steps, inner: List[str]) -> str:
     return f"{length}{''.join(fields)}"
 
 
-def records(parts: List[Part], places: Places, nodes: Numbers, numbers: Integers) -> Iterator[str]:
+def records(parts: List[WayPart], places: Places, nodes: Numbers, numbers: Integers) -> Iterator[str]:
     """The records of the nodes at the ends of parts, and of the lines, which have these numbers."""
 
     def fields(node: int) -> str:
@@ -266,7 +266,7 @@ def records(parts: List[Part], places: Places, nodes: Numbers, numbers: Integers
             yield f"line,{next(number)},{last},{first},{kind},{shape(steps[::-1], inner[::-1])}\n"
 
 
-def named(parts: Iterable[Part], names: Mapping[int, Tuple[str, str]], numbers: Integers) -> Iterator[Tuple[object, ...]]:
+def named(parts: Iterable[WayPart], names: Mapping[int, Tuple[str, str]], numbers: Integers) -> Iterator[Tuple[object, ...]]:
     """The number of each line of a way that has a name or a number, with both."""
     number = iter(numbers)
     for part in parts:
@@ -276,12 +276,12 @@ def named(parts: Iterable[Part], names: Mapping[int, Tuple[str, str]], numbers: 
                 yield line, *names[part.way]
 
 
-def parts_of(extract: Extract, measure: Measure) -> List[Part]:
+def parts_of(extract: Extract, measure: Measure) -> List[WayPart]:
     """The parts of all ways."""
     places = extract.places
     pieces = [(it.number, filled(piece, places, measure), it.road) for it in extract.ways for piece in present(it.nodes)]
     uses = crossings(pieces, len(places.lons))
-    return [Part(way, *part, road) for way, piece, road in pieces for part in cut(piece, uses, measure)]
+    return [WayPart(way, *part, road) for way, piece, road in pieces for part in cut(piece, uses, measure)]
 
 
 def report(extract: Extract, count: int) -> Iterator[str]:
@@ -295,7 +295,7 @@ def report(extract: Extract, count: int) -> Iterator[str]:
         yield "values that are not known, and not used" + many("", extract.unknown)
 
 
-def extent(parts: List[Part], places: Places) -> Iterator[str]:
+def extent(parts: List[WayPart], places: Places) -> Iterator[str]:
     """A line of text on where the roads are, if there are some."""
     if parts:
         ends = [(part.nodes[0], part.nodes[-1]) for part in parts]

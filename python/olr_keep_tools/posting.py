@@ -18,7 +18,7 @@ LATER = (408, 425, 429)  # statuses of the receiver after which a request is sen
 PAUSE = 0.2  # seconds before a request is sent again, at first
 
 
-class Snapshot:
+class AllStrings:
     """A file with all strings, which is replaced as a whole: at once if no event follows, and at the latest after so many seconds."""
 
     def __init__(self, file: str, every: float):

@@ -2,7 +2,7 @@
 
     roads = RoadMap.of_state(read_state(["map.csv"]))
     found = decode(roads, read_reference("CwRbWyNG9RqsDgCG/d4rWS0="), RULES["reference"])
-    print(found.lines if isinstance(found, Found) else found.why)
+    print(found.lines if isinstance(found, Decoded) else found.why)
 
 Coordinates are degrees; lengths, distances and offsets metres; bearings degrees, clockwise from north.
 """
@@ -295,7 +295,7 @@ def rate(roads: RoadMap, point: Point, is_last: bool, rules: Rules, it: Position
 # ---- routes
 
 
-class Leg(NamedTuple):
+class Stretch(NamedTuple):
     """A route between two candidates: the lines after that of the first one, up to that of the second, and its length."""
 
     lines: List[int]
@@ -335,19 +335,19 @@ class Router:
             self.searches[start, lowest] = Search(start, steps)
         return self.searches[start, lowest]
 
-    def route(self, onward: Onward, a: Candidate, b: Candidate) -> Union[Leg, NoLeg]:
+    def route(self, onward: Onward, a: Candidate, b: Candidate) -> Union[Stretch, NoLeg]:
         """The leg from one candidate to the next, or why there is none."""
         least, most = self.bounds(onward)
         road, lowest = self.roads.lines[a.line], onward.lfrcnp + self.rules.class_variance
         if a.line == b.line and a.at < b.at:
-            leg = Leg([], b.at - a.at)
+            leg = Stretch([], b.at - a.at)
         else:
             search, target, ends = self.search(road.end, lowest), self.roads.lines[b.line].start, road.length - a.at + b.at
             between_ends = search.to(target, most - ends)
             if between_ends is None:
                 how = f"of at most {most:.0f} m over classes 0 to {min(7, lowest)}"
                 return NoLeg("no route", f"no route {how} from line {a.line} to line {b.line}")
-            leg = Leg([*search.lines_to(target), b.line], ends + between_ends)
+            leg = Stretch([*search.lines_to(target), b.line], ends + between_ends)
         if not least <= leg.length <= most:
             how = f"{leg.length:.0f} m and not {max(0, least):.0f} to {most:.0f} m"
             return NoLeg("another length", f"the route from line {a.line} to line {b.line} is of {how}")
@@ -357,7 +357,7 @@ class Router:
 # ---- decoding
 
 
-class Found(NamedTuple):
+class Decoded(NamedTuple):
     """A decoded string: the lines between its offsets, what is cut off the first and the last of them, all lines between the
     first and the last point, the positions of these two points on the first and the last line, the chosen candidates, the
     second best of each point or None, and the length of each leg."""
@@ -385,10 +385,10 @@ class Joined(NamedTuple):
     """One candidate for each point, and the legs between them."""
 
     taken: List[Candidate]
-    legs: List[Leg]
+    legs: List[Stretch]
 
 
-def decode(roads: RoadMap, reference: Reference, rules: Rules) -> Union[Found, Failed]:
+def decode(roads: RoadMap, reference: Reference, rules: Rules) -> Union[Decoded, Failed]:
     """Decodes a reference on a map."""
     points = reference.points
     ranked = []
@@ -420,7 +420,7 @@ def joined_candidates(router: Router, onward: Sequence[Onward], ranked: List[Lis
     pair (backtracking); a candidate from which the rest failed is not tried again."""
     waiting, deepest = [pairs_of(ranked[0], ranked[1], router.rules)], Failed(0, "no route", "")
     taken: List[Pair] = []
-    legs: List[Leg] = []
+    legs: List[Stretch] = []
     dead: Set[Tuple[int, Candidate]] = set()
     while waiting:
         k, pair = len(waiting) - 1, next(waiting[-1], None)
@@ -455,7 +455,7 @@ def within(roads: RoadMap, lines: Sequence[int], begin: float, back: float) -> T
     return left, begin, back
 
 
-def cut(roads: RoadMap, reference: Reference, joined: Joined, ranked: List[List[Candidate]]) -> Found:
+def cut(roads: RoadMap, reference: Reference, joined: Joined, ranked: List[List[Candidate]]) -> Decoded:
     """The whole route with its offsets cut off, each in the middle of its interval."""
     taken, legs = joined
     whole, begin, end = [taken[0].line, *(line for it in legs for line in it.lines)], taken[0].at, taken[-1].at
@@ -464,7 +464,7 @@ def cut(roads: RoadMap, reference: Reference, joined: Joined, ranked: List[List[
     last = roads.lines[whole[-1]].length - end + sum(negative) / 2 * lengths[-1]
     lines, first, last = within(roads, whole, first, last)
     second = [next((it for it in good if it.line != one.line), None) for good, one in zip(ranked, taken)]
-    return Found(lines, first, last, whole, begin, end, taken, second, lengths)
+    return Decoded(lines, first, last, whole, begin, end, taken, second, lengths)
 
 
 # ---- the sets of rules as a table

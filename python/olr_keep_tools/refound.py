@@ -5,7 +5,7 @@ from typing import Callable, Dict, Iterator, List, NamedTuple, Optional, Sequenc
 
 from .courses import MOST_SAMPLES, SAMPLE
 from .geo import METRES, Degrees, between, distance, on_piece, scale
-from .receiver import Cell, Failed, Found, Road, RoadMap, Rules, cells_along, decode, place, shape_length, within
+from .receiver import Cell, Decoded, Failed, Road, RoadMap, Rules, cells_along, decode, place, shape_length, within
 from .records import Path
 from .strings import Reference
 
@@ -66,7 +66,7 @@ def index_of(whole: List[int], lines: List[int]) -> Optional[int]:
     return next(starts, None)
 
 
-def is_same(roads: RoadMap, reference: Reference, found: Found, location: Location, slack: float) -> bool:
+def is_same(roads: RoadMap, reference: Reference, found: Decoded, location: Location, slack: float) -> bool:
     """Whether the whole route contains the location's lines, and the offsets' intervals contain its ends."""
     k = index_of(found.whole, location.lines)
     if k is None:
@@ -95,7 +95,7 @@ def farthest(coordinates: Sequence[Degrees], others: Sequence[Degrees]) -> float
     return worst
 
 
-def is_near(reference: Reference, found: Found, shape: Sequence[Degrees], other: Sequence[Degrees]) -> bool:
+def is_near(reference: Reference, found: Decoded, shape: Sequence[Degrees], other: Sequence[Degrees]) -> bool:
     """Whether two shapes follow each other, and their ends are as near as the offsets' intervals allow."""
     more = ((high - low) * leg / 2 for (low, high), leg in zip(reference.shares, (found.lengths[0], found.lengths[-1])))
     ends = ((shape[0], other[0]), (shape[-1], other[-1]))
@@ -118,7 +118,7 @@ class Published(NamedTuple):
     slack: float
 
 
-def verdict(roads: RoadMap, path: Published, found: Union[Found, Failed]) -> str:
+def verdict(roads: RoadMap, path: Published, found: Union[Decoded, Failed]) -> str:
     """How a path was recovered: one of VERDICTS."""
     if isinstance(found, Failed):
         return "not decoded"
@@ -133,7 +133,7 @@ def are_twins(a: Road, b: Road) -> bool:
     return a[:4] == b[:4] and abs(a.length - b.length) <= 1
 
 
-def cause(roads: RoadMap, path: Published, rules: Rules, found: Union[Found, Failed]) -> str:
+def cause(roads: RoadMap, path: Published, rules: Rules, found: Union[Decoded, Failed]) -> str:
     """Why a path was not recovered as the same lines."""
     reference, location = path.reference, path.location
     if location is None:
@@ -169,7 +169,7 @@ def has_short(roads: RoadMap, lines: Sequence[int], nodes: Set[int]) -> bool:
     return any(roads.lines[it].length < SHORT and nodes & set(roads.lines[it][:2]) for it in lines)
 
 
-def mistaken_points(roads: RoadMap, reference: Reference, found: Found, location: Location) -> Iterator[Tuple[Road, Road]]:
+def mistaken_points(roads: RoadMap, reference: Reference, found: Decoded, location: Location) -> Iterator[Tuple[Road, Road]]:
     """The points at which another line was chosen than that of the location: the two lines of each. A first or last point is
     included only if its line is nearer than the chosen one, since the ends of the location may be beyond it."""
     last = len(reference.points) - 1

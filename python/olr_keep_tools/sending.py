@@ -24,7 +24,7 @@ CAUSE = re.compile(r"fault,16,CountDiffers,([0-9]+),([0-9]+),(.*)")
 REJECTED, NO_REPLY = 1, 4
 
 
-class Record(NamedTuple):
+class InputRecord(NamedTuple):
     """A record, with its line in the input; 0 for one that was added."""
 
     line: int
@@ -36,10 +36,10 @@ class Record(NamedTuple):
         return word_of(self.text)
 
 
-Step = List[Record]
+Step = List[InputRecord]
 
 
-def encoded(records: List[Record]) -> bytes:
+def encoded(records: List[InputRecord]) -> bytes:
     """Records as they are sent."""
     return "".join(f"{it.text}\n" for it in records).encode("utf-8", "surrogateescape")
 
@@ -47,7 +47,7 @@ def encoded(records: List[Record]) -> bytes:
 # ---- what is sent
 
 
-def read_records(name: Optional[str]) -> List[Record]:
+def read_records(name: Optional[str]) -> List[InputRecord]:
     """The records of a file, or of the input, in which a byte order mark may stand first."""
     try:
         with open(name or 0, "rb", closefd=bool(name)) as file:
@@ -58,10 +58,10 @@ def read_records(name: Optional[str]) -> List[Record]:
     for number, line in enumerate(lines, 1):
         if line and (line == NOTHING or not is_one_record(line)):
             raise Failure(STREAM, f"line {number} is not one record: {shown(line[:80].decode(errors='replace'))}")
-    return [Record(number, line.decode("utf-8", "surrogateescape")) for number, line in enumerate(lines, 1) if line]
+    return [InputRecord(number, line.decode("utf-8", "surrogateescape")) for number, line in enumerate(lines, 1) if line]
 
 
-def steps(records: List[Record]) -> List[Step]:
+def steps(records: List[InputRecord]) -> List[Step]:
     """The records in steps: each a batch with its `begin` and `commit`, or one record."""
     if any(it.word == "begin" for it in records):
         return as_they_stand(records)
@@ -77,11 +77,11 @@ def steps(records: List[Record]) -> List[Step]:
     if len(changes) > MOST_HELD:
         many = f"{len(changes)} changes, and a batch holds {MOST_HELD} at most"
         raise Failure(STREAM, f"{many}: put begin and commit around each part")
-    batch = [Record(0, "begin"), *records[first:last], Record(0, f"commit,{len(changes)}")]
+    batch = [InputRecord(0, "begin"), *records[first:last], InputRecord(0, f"commit,{len(changes)}")]
     return [*([it] for it in records[:first]), batch, *([it] for it in records[last:])]
 
 
-def as_they_stand(records: List[Record]) -> List[Step]:
+def as_they_stand(records: List[InputRecord]) -> List[Step]:
     """The steps of records that have their own batches."""
     found: List[Step] = []
     batch: Step = []
@@ -182,7 +182,7 @@ class Sender:
         self.ask([last])
         self.is_open = False
 
-    def open(self, begin: Record) -> None:
+    def open(self, begin: InputRecord) -> None:
         """Opens a batch."""
         self.is_open, self.held = True, 0
         reply = self.answer(begin)
@@ -190,12 +190,12 @@ class Sender:
             self.is_open = False
             self.stop(*self.cause_of(begin, reply))
 
-    def answer(self, record: Record) -> Reply:
+    def answer(self, record: InputRecord) -> Reply:
         """The reply to one record."""
         self.target.send(encoded([record]))
         return self.reply_to(record)
 
-    def reply_to(self, record: Record) -> Reply:
+    def reply_to(self, record: InputRecord) -> Reply:
         """The next reply. After one that the record can't have, nothing is known of it."""
         reply = self.target.reply()
         if not reply.accepted:
@@ -211,7 +211,7 @@ class Sender:
             raise ProgramFailed(f"{reply.head} is no reply to {record.text[:80]}")
         return reply
 
-    def ask(self, records: List[Record]) -> None:
+    def ask(self, records: List[InputRecord]) -> None:
         """Sends records, reads all their replies, and prints those of questions and of what takes effect."""
         self.target.send(encoded(records))
         rejected, answers = [], []
@@ -244,12 +244,12 @@ class Sender:
         about = lines_about(path, answer) if path else []
         with contextlib.suppress(Failure):
             for it in about:
-                state.read_dump(self.answer(Record(0, f"show-line,{it}")).lines)
+                state.read_dump(self.answer(InputRecord(0, f"show-line,{it}")).lines)
         if path and about and all(it in state.lines for it in about):
             return refusal(state, path, answer, Junctions(state)).line()
         return without_map(answer).line()
 
-    def cause_of(self, record: Record, reply: Reply) -> Tuple[Record, Reply]:
+    def cause_of(self, record: InputRecord, reply: Reply) -> Tuple[InputRecord, Reply]:
         """The record that was rejected, and its fault. The service gives both with the reply to a `commit`, which ends the batch."""
         cause = CAUSE.fullmatch(reply.head)
         if cause:
@@ -263,7 +263,7 @@ class Sender:
             raise Failure(NO_REPLY, f"{text}; {self.before()}")
         return record, reply
 
-    def stop(self, record: Record, reply: Reply) -> None:
+    def stop(self, record: InputRecord, reply: Reply) -> None:
         """Aborts the batch of a rejected record, and ends."""
         where = f"line {record.line}: " if record.line else ""
         text = where + advice(record.text, reply.head)
@@ -283,7 +283,7 @@ class Sender:
     def abort(self) -> None:
         """Aborts the open batch."""
         self.is_open = False
-        self.answer(Record(0, "abort"))
+        self.answer(InputRecord(0, "abort"))
 
     def unknown(self) -> str:
         """What is not known if there was no reply."""
@@ -315,13 +315,13 @@ class Previewer(Sender):
         self.open(begin)
         for first in range(0, len(changes), AT_ONCE):
             self.ask(changes[first : first + AT_ONCE])
-        asked = Record(0, "preview")
+        asked = InputRecord(0, "preview")
         reply = self.answer(asked)
         if not reply.accepted:
             self.stop(*self.cause_of(asked, reply))
         self.abort()
         for line in reply.lines:
-            before = self.answer(Record(0, f"show,{line.partition(',')[0]}"))
+            before = self.answer(InputRecord(0, f"show,{line.partition(',')[0]}"))
             print(*(f"-{it}" for it in before.lines), f"+{line}", sep="\n")
         self.answers += reply.lines
         self.explain()

@@ -43,7 +43,7 @@ class Commands(NamedTuple):
     tag: Tag
 
 
-class Published(NamedTuple):
+class Reached(NamedTuple):
     """How far the answers of the share are published, and the identity of the stream of commands."""
 
     position: Position
@@ -60,7 +60,7 @@ class Again(NamedTuple):
     """All answers of the share are wanted, as they are once what was read is carried out."""
 
 
-Work = Union[Commands, Published, Session, Again]
+Work = Union[Commands, Reached, Session, Again]
 Done = Union[Answers, Failure]
 
 
@@ -122,7 +122,7 @@ class Carrier:
         self.options, self.snapshot, self.work, self.done = options, snapshot, work, done
         self.clock = Clock(options.every, options.at)
         self.waiting: Deque[Commands] = collections.deque()
-        self.published = Published(FIRST, snapshot.identity if snapshot else None)
+        self.published = Reached(FIRST, snapshot.identity if snapshot else None)
         self.is_wanted = False  # whether all answers are
         self.connection: stream.Connection = None
 
@@ -168,7 +168,7 @@ class Carrier:
             return
         if isinstance(it, Commands):
             self.waiting.append(it)
-        elif isinstance(it, Published):
+        elif isinstance(it, Reached):
             self.published = it
         elif isinstance(it, Again):
             self.is_wanted = True
@@ -272,7 +272,7 @@ class Publisher:
         """Notes that the answers are published up to this position."""
         if position > self.published:
             self.published = position
-            self.work.put(Published(position, self.identity))
+            self.work.put(Reached(position, self.identity))
 
     def take_answers(self, at: int, tag: int, properties: Any, body: bytes) -> None:
         """Notes what is published for this share, by any worker."""

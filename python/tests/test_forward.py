@@ -8,7 +8,7 @@ from unittest import mock
 from olr_keep_tools import history
 from olr_keep_tools.following import Changed, Whole
 from olr_keep_tools.history import History
-from olr_keep_tools.posting import Answered, Poster, Receiver, Snapshot
+from olr_keep_tools.posting import AllStrings, Answered, Poster, Receiver
 
 FIRST, LAST = Changed("i", 5, "a", "text,A", "as given", False), Changed("i", 5, "b", "refused,3", "refused")
 
@@ -27,14 +27,14 @@ class Rounds(unittest.TestCase):
             return file.read()
 
     def test_the_file_has_whole_rounds(self) -> None:
-        sink = Snapshot(f"{self.folder}/strings", 0.0)
+        sink = AllStrings(f"{self.folder}/strings", 0.0)
         sink.take(Whole("i", 4, {"c": "text,C"}))
         sink.take(FIRST)
         sink.rest()
         self.assertIn('"position": 4', self.text("strings"))
         self.assertNotIn('"a"', self.text("strings"))
         sink.take(LAST)
-        again = Snapshot(f"{self.folder}/strings", 0.0)
+        again = AllStrings(f"{self.folder}/strings", 0.0)
         self.assertEqual((again.position, again.after, again.answers), (5, "", {"a": "text,A", "b": "refused,3", "c": "text,C"}))
 
     def test_a_state_within_a_round(self) -> None:

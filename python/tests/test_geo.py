@@ -7,7 +7,7 @@ from olr_keep_tools import geo
 from olr_keep_tools.drawn import Junctions, courses, offset_parts, part
 from olr_keep_tools.names import Name, described, of_path, streets
 from olr_keep_tools.reasons import in_words, lines_about, refusal, without_map
-from olr_keep_tools.receiver import RULES, Failed, Found, RoadMap, decode, within
+from olr_keep_tools.receiver import RULES, Decoded, Failed, RoadMap, decode, within
 from olr_keep_tools.records import Path, State
 from olr_keep_tools.routes import Search, Step
 from olr_keep_tools.shares import Shares, boxes_of
@@ -54,7 +54,7 @@ class Earth(unittest.TestCase):
         self.assertAlmostEqual(share, 0.5)
 
 
-class Routes(unittest.TestCase):
+class ShortestRoutes(unittest.TestCase):
     """Shortest routes."""
 
     def test_search(self) -> None:
@@ -67,7 +67,7 @@ class Routes(unittest.TestCase):
         self.assertEqual(list(Search(1, lambda node: leaving.get(node, [])).nodes(3.0)), [1, 3, 2])
 
 
-class Strings(unittest.TestCase):
+class StringFields(unittest.TestCase):
     """What strings say."""
 
     def test_steps(self) -> None:
@@ -87,7 +87,7 @@ class Strings(unittest.TestCase):
         self.assertEqual(within(roads, [1, 2, 3], 120.0, 5.0)[0], [2, 3])
         far = decode(roads, read_reference("CwRbWyNG9RpsCQCb/jsbtAT/6/+jK1lE"), RULES["reference"])
         self.assertTrue(isinstance(far, Failed) and far.kind == "no candidate")
-        self.assertFalse(isinstance(far, Found))
+        self.assertFalse(isinstance(far, Decoded))
 
 
 class Drawn(unittest.TestCase):

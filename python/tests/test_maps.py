@@ -9,7 +9,7 @@ from typing import Dict, List, Sequence, Tuple
 from olr_keep_tools.geo import METRES, distance
 from olr_keep_tools.mapchecks import decoding_error, findings
 from olr_keep_tools.mapedits import Limits, MapRefused, Named, edits
-from olr_keep_tools.osm import Extract, LeftOut, OsmError, Places, Road, Way, read_osm
+from olr_keep_tools.osm import Extract, LeftOut, OsmError, Places, Way, WayKind, read_osm
 from olr_keep_tools.osmrecords import Numbers, driven, measure_of, number_lines, parts_of, records, splits
 from olr_keep_tools.receiver import RoadMap, bearing, project, shape_length
 from olr_keep_tools.records import State
@@ -39,16 +39,16 @@ class Tags(unittest.TestCase):
             return str(why)
 
     def test_roads(self) -> None:
-        both, along = Road(6, 3, True, True), Road(6, 3, True, False)
+        both, along = WayKind(6, 3, True, True), WayKind(6, 3, True, False)
         tags: Dict[str, str] = {"highway": "residential"}
         self.assertEqual([self.road(), self.road(**tags), self.road(**tags, oneway="yes")], [None, both, along])
         self.assertEqual(self.road(**tags, access="private", motorcar="yes"), both)
         self.assertEqual(self.road(**tags, access="no"), "access=no")
         self.assertEqual(self.road(**tags, **{"vehicle:backward": "no"}), along)
         self.assertEqual(self.road(**tags, oneway="reversible"), "oneway=reversible")
-        self.assertEqual(self.road(highway="trunk_link"), Road(1, 6, True, True))
-        self.assertEqual(self.road(highway="motorway"), Road(0, 1, True, False))
-        self.assertEqual(self.road(highway="primary", junction="roundabout"), Road(2, 4, True, False))
+        self.assertEqual(self.road(highway="trunk_link"), WayKind(1, 6, True, True))
+        self.assertEqual(self.road(highway="motorway"), WayKind(0, 1, True, False))
+        self.assertEqual(self.road(highway="primary", junction="roundabout"), WayKind(2, 4, True, False))
         self.assertEqual([self.road(highway="footway"), self.road(route="ferry")], ["highway=footway", "route=ferry"])
 
     def test_xml(self) -> None:
@@ -79,7 +79,7 @@ class Ways(unittest.TestCase):
         return places
 
     def test_parts(self) -> None:
-        places, both = self.places(0, 100, 200, 300, 50_000), Road(6, 3, True, True)
+        places, both = self.places(0, 100, 200, 300, 50_000), WayKind(6, 3, True, True)
         extract = Extract(with_ferries=False)
         extract.places = places
         extract.ways = [Way(7, array.array("i", [0, 1, 2, 3]), both), Way(8, array.array("i", [2, 4]), both)]

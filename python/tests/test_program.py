@@ -24,7 +24,7 @@ def script(text: str) -> List[str]:
     return [sys.executable, "-c", text]
 
 
-class Programs(unittest.TestCase):
+class ProgramNames(unittest.TestCase):
     """Programs that are asked."""
 
     def test_ask(self) -> None:

@@ -7,12 +7,12 @@ from typing import List
 
 from olr_keep_tools.command import Failure
 from olr_keep_tools.replies import Reply, read_reply
-from olr_keep_tools.sending import NO_REPLY, Record, Sender, Service, read_records, send, steps
+from olr_keep_tools.sending import NO_REPLY, InputRecord, Sender, Service, read_records, send, steps
 
 
-def records(*texts: str) -> List[Record]:
+def records(*texts: str) -> List[InputRecord]:
     """Records with their lines."""
-    return [Record(number, text) for number, text in enumerate(texts, 1)]
+    return [InputRecord(number, text) for number, text in enumerate(texts, 1)]
 
 
 class Scripted(Service):

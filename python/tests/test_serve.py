@@ -247,7 +247,7 @@ class TakesReplies:
         self.done.set()
 
 
-class Places(unittest.TestCase):
+class IdlePlaces(unittest.TestCase):
     def test_idle(self) -> None:
         """If all places are taken, the one that has been idle for longest is given away, one with an open batch last."""
         limits = Limits(3, 60.0, 1, 1, 60.0, Unread(1))

@@ -11,11 +11,11 @@ from unittest import mock
 
 from olr_keep_tools import stream
 from olr_keep_tools.command import Failure
-from olr_keep_tools.feed import Confirmed, Records, Source
+from olr_keep_tools.feed import Compared, Confirmed, Source
 from olr_keep_tools.shares import Shares
 from olr_keep_tools.snapshots import Snapshots, load
-from olr_keep_tools.tables import Message, Table
-from olr_keep_tools.worker import Carrier, Clock, Commands, Done, Published, Work
+from olr_keep_tools.tables import AnswerMessage, Tables
+from olr_keep_tools.worker import Carrier, Clock, Commands, Done, Reached, Work
 
 
 def properties(message_id: str, **more: object) -> SimpleNamespace:
@@ -55,17 +55,17 @@ class Feeds(unittest.TestCase):
         self.assertEqual(source.left_out, 4)
 
     def test_sent_before(self) -> None:
-        first = Records().message(b"a\nb\n", Confirmed("f"))
+        first = Compared().message(b"a\nb\n", Confirmed("f"))
         assert first
         there = Confirmed("f")
         self.assertFalse(there.take(3, properties("other:2"), b"a\nb\n", 0))
         self.assertTrue(there.take(4, properties("f:2", headers={"digest": first.digest}), b"a\nb\n", 0))
         self.assertEqual((there.records, there.before, there.seen), (2, {4: 0}, 4))
-        again = Records().message(b"a\nb\nc\n", there)
+        again = Compared().message(b"a\nb\nc\n", there)
         self.assertEqual(again and (again.body, again.number), (b"c\n", 3))
         there.digests.append((2, first.digest))
         with self.assertRaisesRegex(Failure, "other records were sent"):
-            Records().message(b"a\nx\nc\n", there)
+            Compared().message(b"a\nx\nc\n", there)
 
 
 class Workers(unittest.TestCase):
@@ -88,42 +88,42 @@ class Workers(unittest.TestCase):
         carrier = Carrier(Namespace(every=1, at=None), None, work, done)
         carrier.clock.bytes = 1
         work.put(Commands(8, b"", (1, 1)))
-        work.put(Published((7, stream.END, stream.CHANGES), "i"))
+        work.put(Reached((7, stream.END, stream.CHANGES), "i"))
         self.assertTrue(carrier.is_published(7))
         self.assertEqual([it.offset for it in carrier.waiting], [8])
 
 
-class Tables(unittest.TestCase):
+class TablesOfAnswers(unittest.TestCase):
     """The table of published answers in a file."""
 
     def test_table(self) -> None:
         with tempfile.TemporaryDirectory() as folder:
-            table = Table.of(f"{folder}/table", Shares(1))
-            table.apply_all([Message(0, 0, properties("0:3"), b"a,text,AAAA\nb,refused,3\n"),
-                             Message(0, 1, properties("0:4:rejected", type="rejected"), b"2,4,NoNode,move,9,0,0\n"),
-                             Message(0, 2, properties("0:4"), b"a,dropped\n"), Message(0, 2, properties("0:4"), b"b,dropped\n")])
+            table = Tables.of(f"{folder}/table", Shares(1))
+            table.apply_all([AnswerMessage(0, 0, properties("0:3"), b"a,text,AAAA\nb,refused,3\n"),
+                             AnswerMessage(0, 1, properties("0:4:rejected", type="rejected"), b"2,4,NoNode,move,9,0,0\n"),
+                             AnswerMessage(0, 2, properties("0:4"), b"a,dropped\n"), AnswerMessage(0, 2, properties("0:4"), b"b,dropped\n")])
             self.assertEqual(table.rows("select name, answer from published"), [("b", "refused,3")])
             self.assertEqual(table.rows("select record, fault, word, text from rejected"), [(2, 4, "NoNode", "move,9,0,0")])
             self.assertEqual((list(table.offsets()), table.is_at(4), table.is_at(5)), ([(0, 4, 3)], True, False))
             with self.assertRaisesRegex(Failure, "start a new table from a newer"):
-                table.apply_all([Message(0, 9, properties("0:9"), b"")])
+                table.apply_all([AnswerMessage(0, 9, properties("0:9"), b"")])
             with self.assertRaisesRegex(Failure, "belong to the commands"):
-                table.apply_all([Message(0, 3, properties("0:5", headers={"identity": "j"}), b"")])
+                table.apply_all([AnswerMessage(0, 3, properties("0:5", headers={"identity": "j"}), b"")])
             table.close()
             with self.assertRaisesRegex(Failure, "the table is for 1 shares"):
-                Table.of(f"{folder}/table", Shares(2))
+                Tables.of(f"{folder}/table", Shares(2))
 
     def test_unreadable(self) -> None:
         """A message that nobody who sends answers sends is left out and named; one that has what isn't printed is read."""
         with tempfile.TemporaryDirectory() as folder:
-            table = Table.of(f"{folder}/table", Shares(1))
+            table = Tables.of(f"{folder}/table", Shares(1))
             for read, (message_id, body) in enumerate((
                     (None, b"a,dropped\n"), ("0", b""), ("0:1:x", b""), ("0:1", b"a\x0c\n"), ("0:1", b"a b,text,A\n"), ("0:1:rejected", b"1,2\n"))):
                 with mock.patch("olr_keep_tools.tables.say") as said:
-                    table.apply_all([Message(0, read, properties(str(message_id), headers={"identity": "j"}), body)])
+                    table.apply_all([AnswerMessage(0, read, properties(str(message_id), headers={"identity": "j"}), body)])
                 self.assertIn(f"a message at {read} that can't be read", said.call_args[0][0])
-            table.apply_all([Message(0, 6, properties("0:1:rejected"), b"4,0,NotPlain,a\x0cb\x00\xef\xbf\xbd\n"),
-                             Message(0, 7, properties("0:1"), b"a,text,A\nb,refused,3\n")])
+            table.apply_all([AnswerMessage(0, 6, properties("0:1:rejected"), b"4,0,NotPlain,a\x0cb\x00\xef\xbf\xbd\n"),
+                             AnswerMessage(0, 7, properties("0:1"), b"a,text,A\nb,refused,3\n")])
             self.assertEqual(table.rows("select record, text from rejected"), [(4, "a?b????")])
             self.assertEqual(table.of_share(0), ((1, stream.END), 7))
             table.close()
@@ -131,15 +131,15 @@ class Tables(unittest.TestCase):
     def test_compared(self) -> None:
         """All answers of a share, as its worker has computed them, are set and named where the table has others."""
         with tempfile.TemporaryDirectory() as folder:
-            table = Table.of(f"{folder}/table", Shares(1))
-            table.apply_all([Message(0, 0, properties("0:1"), b"a,text,A\nb,text,B\n")])
+            table = Tables.of(f"{folder}/table", Shares(1))
+            table.apply_all([AnswerMessage(0, 0, properties("0:1"), b"a,text,A\nb,text,B\n")])
             for read, body, wanted in ((1, b"a,text,A\nb,text,B\n", 0), (2, b"b,text,C\nc,text,D\n", 3), (3, b"b,text,C\nc,text,D\n", 0)):
                 with mock.patch("olr_keep_tools.tables.say") as said:
-                    table.apply_all([Message(0, read, properties("0:1:whole", type="whole"), body)])
+                    table.apply_all([AnswerMessage(0, read, properties("0:1:whole", type="whole"), body)])
                 self.assertEqual(f": {wanted} are set" in str(said.call_args), wanted > 0)
             with mock.patch("olr_keep_tools.tables.say") as said:
-                table.apply_all([Message(0, 4, properties("0:0:whole", type="whole"), b"a,text,A\n"),
-                                 Message(0, 5, properties("0:2:whole", type="whole"), b"b,text,E\nc,text,D\n")])
+                table.apply_all([AnswerMessage(0, 4, properties("0:0:whole", type="whole"), b"a,text,A\n"),
+                                 AnswerMessage(0, 5, properties("0:2:whole", type="whole"), b"b,text,E\nc,text,D\n")])
             self.assertFalse(said.called)
             self.assertEqual(table.rows("select name, answer from published order by name"), [("b", "text,E"), ("c", "text,D")])
             self.assertEqual(list(table.offsets()), [(0, 2, 6)])

@@ -23,7 +23,7 @@ class Source(Owner, Protocol):
         """So many bytes of its jobs were passed to the program."""
 
 
-class Compaction(Protocol):
+class Compactor(Protocol):
     """Who has to know of each `compact` before it is sent."""
 
     def may_begin(self) -> bool:
@@ -60,7 +60,7 @@ class Exchange:
     who had other jobs then had their turn. A `compact` is sent when nothing is awaited, so that what the program says
     until its reply is about it."""
 
-    def __init__(self, publish: Callable[[List[Change], str], None], may_send: Callable[[], bool], compaction: Compaction,
+    def __init__(self, publish: Callable[[List[Change], str], None], may_send: Callable[[], bool], compaction: Compactor,
                  has_room: Callable[[Job], bool]) -> None:
         self.publish, self.may_send, self.compaction = publish, may_send, compaction
         self.has_room = has_room  # whether there is room for a long reply
