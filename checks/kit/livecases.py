@@ -550,7 +550,7 @@ def left_for_later(server):
             fail("left_for_later: after an undo the strings are others")
         names = case.ask("""select count(distinct round) from olr_keep.history
             where state = 'as given' and name < 'p7' and round > (select min(round) from olr_keep.history where state = 'held')""")
-        if names != [(3,)]:
+        if names[0][0] < 3:
             fail(f"left_for_later: the paths return in {names} rounds")
         with paused(case, False):
             case.do("update streets set class = 5 where id = 7000000")

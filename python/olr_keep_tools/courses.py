@@ -152,15 +152,18 @@ class Polyline:
         a, b = self.far[k - 1 : k + 1]
         return between(self.points[k - 1], self.points[k], min(1.0, max(0.0, (far - a) / (b - a))) if b > a else 0.0)
 
-    def every(self, step: float, count: int) -> List[Place]:
-        """The first point, and those at so many multiples of a distance from it, to the last one."""
-        found, k, last = [self.points[0]], 1, len(self.far) - 1
-        for far in (it * step for it in range(1, count)):
+    def along(self, fars: Iterable[float]) -> Iterator[Place]:
+        """The points at ascending distances from the first."""
+        k, last = 1, len(self.far) - 1
+        for far in fars:
             while self.far[k] < far and k < last:
                 k += 1
             low, high = self.far[k - 1 : k + 1]
-            found.append(between(self.points[k - 1], self.points[k], (far - low) / (high - low or 1.0)))
-        return [*found, self.points[-1]]
+            yield between(self.points[k - 1], self.points[k], min(1.0, max(0.0, (far - low) / (high - low or 1.0))))
+
+    def every(self, step: float, count: int) -> List[Place]:
+        """The first point, and those at so many multiples of a distance from it, to the last one."""
+        return [self.points[0], *self.along(it * step for it in range(1, count)), self.points[-1]]
 
     def project(self, point: Place, segments: Optional[Iterable[int]] = None) -> List[Tuple[float, float]]:
         """The distance of a point from each of these segments, and the position of the nearest point there."""

@@ -11,7 +11,7 @@ from typing import Any, Dict, FrozenSet, Iterable, Iterator, List, Mapping, Name
 
 from .courses import (CELL, DRAWN, Box, Ends, Follower, Found, Lost, Network, Plane, Polyline, Rival, Wish, cells_along, cells_near,
                       course_of, reach)
-from .roads import NEW_ID, WIDER, Given, LastMap, Roads, Verdict, farthest_apart
+from .roads import NEW_ID, STILL, WIDER, Given, LastMap, Roads, Verdict, farthest_apart, vertices_apart
 from .geo import METRES
 from .routes import Waiting
 from .sql import Course, Place, coordinates, number_array, text_array
@@ -343,8 +343,8 @@ def marked_street(text: str) -> Tuple[str, str]:
 
 
 class PathSearch:
-    """The search for one path; `untouched` is whether its lines are as they were before the round, and `before` finds lines of the
-    map as it was then."""
+    """The search for one path; `untouched` is whether its lines are as they were before the round, or hardly moved, and `before` finds
+    lines of the map as it was then."""
 
     def __init__(self, finder: Finder, wanted: Wanted, known: Optional[Known], before: Optional[Finder],
                  untouched: bool = False) -> None:
@@ -406,8 +406,9 @@ class PathSearch:
     def on_road(self, known: Known, given: Course) -> Placement:
         """The lines of the road of the given course."""
         is_given, kept = known.state is State.SAID, self.kept(known)
-        if is_given and self.untouched and kept:
-            return Placement(State.SAID, kept, off=known.off, remarks=self.remarks(kept), has_rival=True)
+        off = self.off(known, given, kept) if is_given and self.untouched and kept else None
+        if kept and off is not None:
+            return Placement(State.SAID, kept, off=off, remarks=self.remarks(kept), has_rival=True)
         last = self.last_map(known, given) if is_given else known.last
         near, network = self.finder.around(given), self.finder.near(given)
         answer = Roads(Given(given, *known.given_ends, streets_of(known.given_streets)), last, near, network, self.finder.tolerance).decide()
@@ -421,6 +422,14 @@ class PathSearch:
         if lines:
             return Placement(State.ELSEWHERE, lines, why, last=last)
         return Placement(State.LOST, None, why, self.lost_at(), last=last)
+
+    def off(self, known: Known, given: Course, kept: Found) -> Optional[float]:
+        """How far a path is off its given course on the same lines, which are hardly moved; None if a search has to say it."""
+        course = course_of([self.finder.rows[it] for it in kept.lines], kept.start, kept.end)
+        if known.off is not None and course == known.course:
+            return known.off
+        off = vertices_apart(given, course)
+        return off if off <= STILL else None
 
     def last_map(self, known: Known, given: Course) -> Optional[LastMap]:
         """The map before the round, as far as it is near."""

@@ -342,9 +342,9 @@ def farthest(one: Polyline, other: Polyline) -> float:
     """How far the points of a course are from those that are as far along another one, at most."""
     scale, slack = other.length / (one.length or 1.0), max(50.0, 0.02 * one.length)
     worst = max(math.dist(one.points[0], other.points[0]), math.dist(one.points[-1], other.points[-1]))
-    for at in one.samples(0.0, one.length):
-        point = one.at(at)
-        if math.dist(point, other.at(at * scale)) > worst:
+    marks = list(one.samples(0.0, one.length))
+    for at, point, there in zip(marks, one.along(marks), other.along(it * scale for it in marks)):
+        if math.dist(point, there) > worst:
             low, high = at * scale - slack, at * scale + slack
             first, last = bisect.bisect_left(other.far, low) - 1, bisect.bisect_right(other.far, high)
             worst = max(worst, other.distance(point, max(0, first), min(last, len(other.far) - 1)))
@@ -358,6 +358,14 @@ def farthest_apart(one: Sequence[Place], other: Sequence[Place]) -> float:
     plane = Plane(one[0][1])
     a, b = Polyline(plane.course(one)), Polyline(plane.course(other))
     return max(farthest(a, b), farthest(b, a))
+
+
+def vertices_apart(one: Sequence[Place], other: Sequence[Place]) -> float:
+    """How many metres two courses are apart at most, or somewhat more, by their vertices if they have as many."""
+    if len(one) != len(other):
+        return farthest_apart(one, other)
+    plane = Plane(one[0][1])
+    return max(map(math.dist, plane.course(one), plane.course(other)))
 
 
 class Roads:

@@ -25,7 +25,7 @@ from olr_keep_tools.live.map import LAST, Affected, Numbers
 from olr_keep_tools.live.paths import PartSearch, Paths, PathsUpdate, parts_of
 from olr_keep_tools.live.program import LiveProgram, Sent
 from olr_keep_tools.live.read import Block, Change, Fate, LastRead, Reader, StreetRow, changed, fate_of, is_nameless, is_plain
-from olr_keep_tools.live.returned import returned
+from olr_keep_tools.live.returned import has_stayed, returned
 from olr_keep_tools.live.rounds import DROPPED, Answer, Clusters, Counts, Effect, Kind, Limits, Round, Waiting
 from olr_keep_tools.live.service import Attempt, Live, Night, words_of
 from olr_keep_tools.live.session import Readable, Source, SourceTable, row_query
@@ -644,8 +644,13 @@ class Searches(unittest.TestCase):
         return PathSearch(FakeFinder(*rows), wanted, was, FakeFinder(*(before or [row(1, "a")]))).run()
 
     def test_untouched(self) -> None:
-        finder = FakeFinder(row(1, "a", 12))
-        self.assertIs(PathSearch(finder, self.COURSE, known(), None, True).run().state, State.SAID)
+        found = PathSearch(FakeFinder(row(1, "a", 0.4)), self.COURSE, known(), None, True).run()
+        self.assertEqual((found.state, round(found.off or 0, 1)), (State.SAID, 0.4))
+
+    def test_has_stayed(self) -> None:
+        for there, stays in ((row(1, "a", 0.4), True), (row(1, "a", 0.6), False), (row(1, "b"), False), (row(2, "a"), False)):
+            self.assertIs(has_stayed(FakeFinder(there), known()), stays)
+        self.assertFalse(has_stayed(FakeFinder(row(1, "a")), known(state=State.ELSEWHERE)))
 
     def test_other_road_is_elsewhere(self) -> None:
         for wanted in (self.COURSE, self.STREETS):

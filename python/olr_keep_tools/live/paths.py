@@ -2,6 +2,7 @@
 from __future__ import annotations
 
 import os
+import time
 from collections import deque
 from typing import Any, Callable, Container, Deque, Dict, Iterator, List, Mapping, NamedTuple, Optional, Sequence, Set, Tuple
 
@@ -15,7 +16,7 @@ from ..sql import Course, Place, coordinates, copy, course_hex, number_array, pl
 from .cells import merged
 from .map import FEW, Affected
 from .read import Change
-from .returned import last_streets, returned
+from .returned import has_stayed, last_streets, returned
 from .session import note_later
 
 PART, KNOWN_PART = 1000, 300  # paths that are read at once: new ones, and others, of which much more is read
@@ -23,6 +24,7 @@ LEAST = 50  # paths that are sought in the process itself
 SEARCHING = 2  # processes that search for paths, if there are several parts
 LONG = 50_000  # coordinates of courses
 AT_ONCE = 100  # paths that aren't found as said and are near a change, up to which they are sought in its round
+FEW_AT_ONCE, AWHILE = 20, 0.5  # of these, at a time; seconds after which the others are left for later rounds
 MOST_BOXES = 200  # boxes of changes up to which each is looked at
 
 
@@ -98,13 +100,19 @@ class PathsUpdate:
     def run(self, change: Change, tell: Callable[[int, int], None]) -> None:
         """Finds the paths, and writes the rows of those that were found; those of removed paths are left. While the paths of one
         part are sought, the next part is read. `tell` gets how many are read, of how many."""
-        names = self.ordered(self.names(change))
+        names, open_ones = self.names(change)
+        names = self.ordered(names)
         parts = parts_of(names, self.most_at_once(names))
+        first, began = len(parts), time.monotonic()
+        parts += [open_ones[k : k + FEW_AT_ONCE] for k in range(0, len(open_ones), FEW_AT_ONCE)]
         most = min(SEARCHING, len(os.sched_getaffinity(0))) if len(parts) > 1 else 0
         searching: Deque[PartSearch] = deque()
         try:
             for k, part in enumerate(parts):
-                tell(k * len(parts[0]), len(names))
+                if k > first and not self.is_preview and time.monotonic() > began + AWHILE:
+                    note_later(self.cursor, change.users, [name for it in parts[k:] for name in it])
+                    break
+                tell(k * len(parts[0]), len(names) + len(open_ones))
                 search = self.read_search(part)
                 while searching and len(searching) >= most:
                     self.write(searching.popleft())
@@ -135,9 +143,9 @@ class PathsUpdate:
         found = [it for (it,) in self.cursor]
         return [*found, *sorted(set(names).difference(found))]
 
-    def names(self, change: Change) -> List[str]:
-        """The paths to look at: noted ones, those that the map's change affects, and of those that are not found as said some near
-        it; the others of these are noted for later rounds."""
+    def names(self, change: Change) -> Tuple[List[str], List[str]]:
+        """The paths to look at: noted ones, and those that the map's change affects; and those that were left for later, or of those
+        that are not found as said some near the change. The others of these are noted for later rounds."""
         names = change.paths | self.affected.names
         if change.every_path:
             self.cursor.execute("""select name from olr_keep.path full join olr_keep.string using (name)
@@ -146,10 +154,9 @@ class PathsUpdate:
             names |= {it for (it,) in self.cursor}
         near = sorted(self.open_ones() - names) if self.affected.keys else []
         at_once = near if self.is_preview else near[:AT_ONCE]
-        names.update(at_once)
         if len(near) > len(at_once):
             note_later(self.cursor, change.users, near[AT_ONCE:])
-        return sorted(names)
+        return sorted(names), at_once + sorted(change.later - names)
 
     def open_ones(self) -> Set[str]:
         """The paths that are not found as said, and are near a changed street or over it."""
@@ -177,15 +184,17 @@ class PathsUpdate:
         finder.read_streets({*(marked_street(it)[1] for several in streets for it in several),
                              *(street for it in away.values() for street in last_streets(it))})
         again = {name: found for name, it in away.items() if (found := returned(finder, it))}
-        sought = [it for it in good if it.name not in again and not self.is_untouched(before.get(it.name))]
+        sought = [it for it in good if it.name not in again and not self.is_untouched(finder, before.get(it.name))]
         last = [before[it.name] for it in sought if it.name in before]
         courses = [*(it.course for it in sought), *(it.course for it in last), *(it.given for it in last)]
         finder.read_near(it for it in courses if it)
         return PartSearch(self, (finder, self.read_before(last)), Paths(names, wanted, known, again))
 
-    def is_untouched(self, known: Optional[Known]) -> bool:
-        """Whether a path is as given, and its lines are as they were before the round."""
-        return known is not None and known.state is State.SAID and self.affected.looked.isdisjoint(known.lines)
+    def is_untouched(self, finder: Finder, known: Optional[Known]) -> bool:
+        """Whether a path is as given, and its lines are as they were before the round, or hardly moved."""
+        if known is None or known.state is not State.SAID:
+            return False
+        return self.affected.looked.isdisjoint(known.lines) or has_stayed(finder, known)
 
     def read_before(self, was: Sequence[Known]) -> Optional[Finder]:
         """Reads the map before the round, where the paths are that were as given."""
@@ -235,7 +244,7 @@ class PathsUpdate:
     def place(self, finders: Finders, wanted: Wanted, known: Optional[Known]) -> Placed:
         """Where a path is on the map now."""
         try:
-            placement = PathSearch(finders[0], wanted, known, finders[1], self.is_untouched(known)).run()
+            placement = PathSearch(finders[0], wanted, known, finders[1], self.is_untouched(finders[0], known)).run()
         except (ArithmeticError, AttributeError, LookupError, TypeError, ValueError) as error:
             placement = Placement(State.LOST, None, Lost(f"it can't be sought: {type(error).__name__}: {error}", None))
         last = known if known is not None and known.definition == wanted.definition else None

@@ -61,6 +61,7 @@ class Change:
 
     def __init__(self) -> None:
         self.paths: Set[str] = set()
+        self.later: Set[str] = set()  # paths that were left for later
         self.users: Set[str] = set()
         self.every_path = False
         self.keys: Dict[int, Set[str]] = {}
@@ -116,7 +117,7 @@ class Reader:
                 select distinct key, min(at) as first from olr_keep.note where source = %s group by key order by first, key limit %s
             ) as it where source = %s and note.key = it.key returning note.key, who""", (LATER, PART, LATER))
         for key, who in self.cursor:
-            self.change.paths.add(key)
+            self.change.later.add(key)
             self.change.users.update([who] if who else ())
 
     def notes(self, where: str, *values: object) -> List[Tuple[Any, ...]]:
