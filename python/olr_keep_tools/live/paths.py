@@ -144,15 +144,17 @@ class PathsUpdate:
         return [*found, *sorted(set(names).difference(found))]
 
     def names(self, change: Change) -> Tuple[List[str], List[str]]:
-        """The paths to look at: noted ones, and those that the map's change affects; and those that were left for later, or of those
-        that are not found as said some near the change. The others of these are noted for later rounds."""
+        """The paths to look at: noted ones, and those that the map's change affects, but for lost ones; and those that were left for
+        later, or of those that are not found as said some near the change. The others of these are noted for later rounds."""
         names = change.paths | self.affected.names
+        self.cursor.execute("select name from olr_keep.string where lost and name = any(%s::text[])", (text_array(names - change.paths),))
+        names -= (lost := {name for (name,) in self.cursor})
         if change.every_path:
             self.cursor.execute("""select name from olr_keep.path full join olr_keep.string using (name)
                 where path.name is null or string.name is null
                     or definition <> md5(concat(path.streets::text, '|', course::text))""")
             names |= {it for (it,) in self.cursor}
-        near = sorted(self.open_ones() - names) if self.affected.keys else []
+        near = sorted((self.open_ones() | lost if self.affected.keys else lost) - names)
         at_once = near if self.is_preview else near[:AT_ONCE]
         if len(near) > len(at_once):
             note_later(self.cursor, change.users, near[AT_ONCE:])
