@@ -168,14 +168,14 @@ class TwoMaps:
         return OnRoad(now, roads.judge(Found(list(lines), positive, negative)), at_junctions(roads, Path(positive, negative, lines)))
 
     def judged_both_ways(self, path: Path, now: Path) -> OnRoad:
-        """The same; but it is there, and at a junction, also if the one of the old map is, by the road of that of the new one."""
+        """The same, or what is said of the path of the old map by the road of the one of the new map, if that is better; and each end
+        is at its junction if either says so."""
         found = self.judged(path, now)
         if found.answer is None or found.answer.verdict is Verdict.THERE and all(found.junctions):
             return found
         back = self.back.judged(now, path)
-        is_there = back.answer is not None and back.answer.verdict is Verdict.THERE
-        junctions = found.junctions[0] or back.junctions[0], found.junctions[1] or back.junctions[1]
-        return OnRoad(now, back.answer if is_there else found.answer, junctions)
+        best = min(filter(None, (found.answer, back.answer)), key=lambda it: list(Verdict).index(it.verdict))
+        return OnRoad(now, best, (found.junctions[0] or back.junctions[0], found.junctions[1] or back.junctions[1]))
 
     def on_its_road(self, path: Path, now: Path) -> OnRoad:
         """A path that was carried to some lines: on these if they are its road, else on the lines of this, if they are known."""
