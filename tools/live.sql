@@ -43,6 +43,49 @@ begin
         alter table olr_keep.string rename said_course to given;
         alter table olr_keep.string drop said_roads, add last_map jsonb, add given_streets text[] not null default '{}';
         update olr_keep.string set given = geom, given_streets = streets where given is null;
+        -- Paths that may have been on another road without a word: more than 5 m off their drawn course, or with a first string that
+        -- has other ends, as far as offsets don't explain it, or another length.
+        create function pg_temp.read_string(text) returns table (ends geometry[], cuts float8[], metres float8, legs int) language sql as $f$
+            with given as (
+                select b, (octet_length(b) - 16) / 7 + 1 as legs, (octet_length(b) - 16) % 7 > 0 and get_byte(b, octet_length(b) - 1
+                    - (octet_length(b) - 16) % 7) & 64 > 0 as has_start, (octet_length(b) - 16) % 7 as offsets from decode($1, 'base64') as it(b)
+            ), leg as (
+                select k, (get_byte(b, 9 + 7 * k) + 0.5) * 58.6 as metres, get_byte(b, 10 + 7 * k) << 8 | get_byte(b, 11 + 7 * k) as x,
+                    get_byte(b, 12 + 7 * k) << 8 | get_byte(b, 13 + 7 * k) as y from given cross join generate_series(0, legs - 1) as k
+            ), first as (
+                select (x - (x >> 23 << 24)) * 360.0 / (1 << 24) as lon, (y - (y >> 23 << 24)) * 360.0 / (1 << 24) as lat from (
+                    select (get_byte(b, 1) << 16) + (get_byte(b, 2) << 8) + get_byte(b, 3) as x,
+                        (get_byte(b, 4) << 16) + (get_byte(b, 5) << 8) + get_byte(b, 6) as y from given) as it
+            ), cut as (
+                select case when has_start then (get_byte(b, octet_length(b) - offsets) + 0.5) / 256 * head.metres else 0 end as start,
+                    case when offsets - has_start::int > 0 then (get_byte(b, octet_length(b) - 1) + 0.5) / 256 * tail.metres else 0 end as finish
+                from given join leg as head on head.k = 0 join leg as tail on tail.k = legs - 1
+            )
+            select array[ST_MakePoint(lon, lat), ST_MakePoint(lon + east, lat + north)], array[start, finish], far - start - finish, legs
+            from first cross join cut cross join (select count(*)::int as legs, sum(metres) as far, sum(x - (x >> 15 << 16)) / 1e5 as east,
+                sum(y - (y >> 15 << 16)) / 1e5 as north from leg) as it
+        $f$;
+        insert into olr_keep.problem (kind, path, words, geom)
+        select 'off its course', name, format('it is %s m off its drawn course', round(off)), ST_StartPoint(given) from (
+            select name, given, ST_HausdorffDistance(ST_Scale(given, wide, 111195), ST_Scale(course, wide, 111195)) as off
+            from olr_keep.string join olr_keep.path using (name)
+                cross join lateral (select cos(radians(ST_Y(ST_StartPoint(given)))) * 111195 as wide) as it
+            where not lost and not found_elsewhere and course is not null
+        ) as one where off > 5;
+        insert into olr_keep.problem (kind, path, words, geom)
+        select 'other string', name, case when was.metres - now.metres between -slack and slack
+                then format('its first string, %s, ends elsewhere', first.text)
+                else format('its first string, %s, is %s m long, and that of now %s m', first.text, round(was.metres), round(now.metres)) end,
+            ST_StartPoint(geom)
+        from olr_keep.string join (
+            select distinct on (name) name, text from olr_keep.history where text is not null order by name, round
+        ) as first using (name) cross join lateral pg_temp.read_string(first.text) as was
+            cross join lateral pg_temp.read_string(string.text) as now
+            cross join lateral (select 60.0 + 20 * (was.legs + now.legs) + 0.01 * was.metres as slack) as it
+            cross join lateral (select bool_or(far > 8 and abs(far - cut) > case when cut < 30 then 8 else 60 end) as is_other from (
+                select ST_DistanceSphere(was.ends[k], now.ends[k]) as far, abs(was.cuts[k] - now.cuts[k]) as cut
+                from generate_series(1, 2) as k) as one) as two
+        where string.text is not null and not lost and not found_elsewhere and first.text <> string.text and (is_other or abs(was.metres - now.metres) > slack);
     end if;
 end $$;
 
@@ -605,7 +648,7 @@ create or replace function olr_keep.accept_shown(names text[]) returns text[] la
         from accepted as it(name, streets_given, course_given) where string.name = it.name
     ), mended as (
         delete from olr_keep.problem using accepted
-        where path = name and kind in ('two roads', 'two ways', 'off its course') returning path
+        where path = name and kind in ('two roads', 'two ways', 'off its course', 'other string') returning path
     )
     select coalesce(array_agg(name), '{}') from accepted
 $$;

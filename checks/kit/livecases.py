@@ -1109,21 +1109,31 @@ TABLES = ("source", "path", "street", "vertex", "node", "line", "string", "round
 
 
 def released(server):
-    """A database with the schema of 2.0.0, with paths in each state: live.sql upgrades it, and what is published and held stays."""
+    """A database with the schema of 2.0.0, with paths in each state: live.sql upgrades it, and what is published and held stays. A path
+    that is off its drawn course, and one whose first string is another road's, are listed."""
     with Case(server, "released_new") as case:
-        case.save(*comb(14), *comb(4, FAR))
+        case.save(*comb(14), *comb(4, FAR), ROW + f"(77, 3, 3, 'both', {line((6.3, 49.6), (6.3, 49.602))})",
+                  f"insert into olr_keep.path (name, course) values ('rough', {line((6.3, 49.6), (6.30011, 49.601), (6.3, 49.602))})")
         case.save("select olr_keep.freeze('p6200000')", "delete from streets where id = 6200001",
                   "update streets set class = 4 where id = 6200000",
                   "update streets set geom = ST_Translate(geom, 0.0001, 0.0003) where id = 6200002")
         case.do("delete from streets where geom && ST_MakeEnvelope(6.09, 49, 6.11, 50, 4326)")
         case.settle(held=True)
         make_release(server, case.connection.cursor(), "released")
-        texts, history = case.texts(), case.ask("select round, name, text, reason from olr_keep.history order by 1, 2")
+        texts = case.texts()
+    server.psql("released", "-c", "delete from olr_keep.problem where kind = 'off its course'", "-c", """update olr_keep.history set text = (
+        select text from olr_keep.string where name = 'p6200002') where name = 'p6200003'""")
     for _ in range(2):
         server.psql("released", "-f", f"{TOP}/tools/live.sql")
     with Case(server, "released", exists=True) as case:
+        history = case.ask("select round, name, text, reason from olr_keep.history order by 1, 2")
+        listed = case.ask("select path, kind, words from olr_keep.problem where kind in ('other string', 'off its course') order by path")
+        words = f"its first string, {texts['p6200002']}, ends elsewhere"
+        if listed != [("p6200003", "other string", words), ("rough", "off its course", "it is 8 m off its drawn course")]:
+            fail(f"released: listed are {listed}")
         states = dict(case.ask("select name, state from olr_keep.string"))
-        wanted = {**dict.fromkeys(texts, "held"), "p6200000": "frozen", "p6200001": "lost", "p6200002": "elsewhere", "p6200003": "as given"}
+        wanted = {**dict.fromkeys(texts, "held"), "p6200000": "frozen", "p6200001": "lost", "p6200002": "elsewhere",
+                  "p6200003": "as given", "rough": "as given"}
         kinds = case.ask("select kind, count(*) from olr_keep.waiting group by kind order by kind")
         case.consumed, case.last = case.published(), case.ask("select max(round) from olr_keep.round")[0][0]
         case.begin()
@@ -1134,7 +1144,7 @@ def released(server):
             fail("released: an upgrade publishes something")
         case.save("select olr_keep.release(hold) from olr_keep.held", "select olr_keep.thaw('p6200000')")
         states = case.ask("select state, count(*), count(text) from olr_keep.string group by state order by state")
-        if states != [("as given", 2, 2), ("elsewhere", 1, 1), ("lost", 15, 0)]:
+        if states != [("as given", 3, 3), ("elsewhere", 1, 1), ("lost", 15, 0)]:
             fail(f"released: after a release the states are {states}")
     print("live: a schema of 2.0.0 is upgraded: strings, holds, and what is frozen, lost or elsewhere stay")
 
