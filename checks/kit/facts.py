@@ -29,7 +29,7 @@ LENGTHS = {
     "docs/DECISIONS.md": 3710,
     "docs/EMBEDDING.md": 2100,
     "docs/LIMITS.md": 3900,
-    "docs/LIVE.md": 2660,
+    "docs/LIVE.md": 2690,
     "docs/MAPS.md": 2800,
     "docs/QUALITY.md": 1900,
     "docs/SECURITY.md": 850,
