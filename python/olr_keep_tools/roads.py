@@ -158,6 +158,12 @@ class Sections:
             for left in LEFTS:
                 self.cells[int((x - left * north) // GRID), int((y + left * east) // GRID)].append(k)
 
+    @functools.cached_property
+    def box(self) -> Tuple[int, int, int, int]:
+        """The least and the greatest of the cells."""
+        xs, ys = zip(*self.cells)
+        return min(xs), min(ys), max(xs), max(ys)
+
     def crossings(self, lines: Mapping[int, Line], plane: Plane, reach: float) -> List[List[Crossing]]:
         """The lines that cross each section in its direction, from right to left."""
         found: List[List[Crossing]] = [[] for _ in self.at]
@@ -177,9 +183,11 @@ class Sections:
         (w, s), (e, n), half = a, b, GRID / 4
         w, e = (w - half, e + half) if w < e else (e - half, w + half)
         s, n = (s - half, n + half) if s < n else (n - half, s + half)
-        rows = range(int(s // GRID), int(n // GRID) + 1)
+        # A segment with a wrong coordinate is as long as the earth.
+        west, south, east, north = self.box
+        rows = range(max(south, int(s // GRID)), min(north, int(n // GRID)) + 1)
         found: Set[int] = set()
-        for x in range(int(w // GRID), int(e // GRID) + 1):
+        for x in range(max(west, int(w // GRID)), min(east, int(e // GRID)) + 1):
             for y in rows:
                 found.update(self.cells.get((x, y), ()))
         return found

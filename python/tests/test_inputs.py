@@ -89,6 +89,14 @@ class Inputs(unittest.TestCase):
             state.read_dump(["node,1,6,49", f"node,2,{lon},49", "line,1,1,2,3,3,7000"])
             self.assertEqual(TwoMaps(state, state, [path]).roads(path) is not None, is_decided)
 
+    def test_far_line_beside(self) -> None:
+        """A line beside a path that a wrong coordinate makes very long costs no time."""
+        state, began = State(), time.process_time()
+        state.read_dump(["node,1,6,49", "node,2,6.01,49", "node,3,-170,-80", "line,1,1,2,3,3,7000", "line,2,2,3,3,3,7000"])
+        path = Path(0, 0, (1,))
+        self.assertIs(TwoMaps(state, state, [path]).on_its_road(path, path).path, path)
+        self.assertLess(time.process_time() - began, 2.0)
+
     def test_printable(self) -> None:
         self.assertEqual(printable("a\x1b[31mb\u202ec\udcff\n\u00e9"), "a\ufffd[31mb\ufffdc\ufffd\n\u00e9")
 

@@ -3,7 +3,7 @@ import io
 import os
 import tempfile
 import unittest
-from typing import Dict, List, Sequence
+from typing import Dict, List, Optional, Sequence
 
 from olr_keep_tools import roads
 from olr_keep_tools.command import Failure
@@ -119,6 +119,31 @@ class Carry(unittest.TestCase):
         self.assertEqual(named, Named({"a": (1,)}, {}))
         both = "line,7,1,2,3,3,3336", "line,9,3,4,3,3,3336"
         self.assertEqual(carried(*nodes, *both, old=old), Carried(Path(0, 0, (7,)), How.COURSE))
+
+    def verdict_of(self, old: State, *new: str) -> Optional[roads.Verdict]:
+        """What became of the road of a path on a new map."""
+        found = Carrier(old, state_of(*new), LIMITS).carried(old.paths, lambda _: None)["a"]
+        return found.road.verdict if isinstance(found, Carried) and found.road else None
+
+    def test_road_beside_that_is_left(self) -> None:
+        # Both maps have a road 3 to 10 m beside the path's own, which is gone on the new one.
+        for metres in range(3, 11):
+            lon = 6 + metres / 73_000
+            beside = [f"node,3,{lon:.7f},49", f"node,4,{lon:.7f},49.003", "line,3,3,4,3,3,3336"]
+            old = state_of("node,1,6,49", "node,2,6,49.003", "line,1,1,2,3,3,3336", *beside, "path,a,0,0,1")
+            self.assertEqual(self.verdict_of(old, *beside), roads.Verdict.GONE)
+            beside[-1] = "line,1,3,4,3,3,3336"
+            self.assertIn(self.verdict_of(old, *beside), (roads.Verdict.GONE, roads.Verdict.TWO))
+
+    def test_merged_carriageways(self) -> None:
+        # Two one-way carriageways 8 m from each other, and one road between them, with other numbers.
+        nodes = ["node,1,6,49", "node,2,6,49.003", "node,3,6.00011,49.003", "node,4,6.00011,49"]
+        new = ["node,11,6.000055,49", "node,12,6.000055,49.003", "line,11,11,12,3,3,3336", "line,12,12,11,3,3,3336"]
+        for number, road in ((1, 11), (2, 12)):
+            old = state_of(*nodes, "line,1,1,2,3,2,3336", "line,2,3,4,3,2,3336", f"path,a,0,0,{number}")
+            found = carried(*new, old=old)
+            self.assertEqual(found.path if isinstance(found, Carried) else found, Path(0, 0, (road,)))
+            self.assertEqual(self.verdict_of(old, *new), roads.Verdict.THERE)
 
     def test_positions(self) -> None:
         anchors = [(0.0, 0.0), (100.0, 200.0), (200.0, 250.0)]
