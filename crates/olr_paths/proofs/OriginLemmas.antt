@@ -4,7 +4,7 @@ use Rattle.olr_paths.proofs.Common.{arith, filter, option_map, Path, CoverageQue
 use Rattle.olr_paths.proofs.Common.{Begins, BeginsPut, Put, put, all_put, puts_of, NamedPath, Near}
 use Rattle.std.specs.Prelude.{min}
 use Rattle.olr_spec.specs.Map.{Map}
-use Rattle.olr_route.specs.declared.frontier.TheConstants.{GREATEST_LIMIT}
+use Rattle.olr_search.specs.declared.frontier.TheConstants.{GREATEST_LIMIT}
 
 -- no query reaches one of the nodes T
 abbrev pub AreFar : Map → List ℕ → List Item → Type 0

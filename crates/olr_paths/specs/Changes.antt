@@ -9,7 +9,7 @@
 use Rattle.std.specs.Prelude.{◌≡◌, ◌≢◌, ℕ, List, [], ◌∷◌, Contains, Option, Some, None, option_map, ◌⊎◌, IsTrue, ⊤}
 use Rattle.std.specs.Prelude.{min, map, Bool, true, false, if◌then◌else◌}
 use Rattle.olr_spec.specs.Map.{Map, has}
-use Rattle.olr_route.specs.declared.frontier.TheConstants.{GREATEST_LIMIT}
+use Rattle.olr_search.specs.declared.frontier.TheConstants.{GREATEST_LIMIT}
 use Rattle.olr_spec.specs.Extension.{Path}
 use Rattle.olr_spec.specs.Margins.{Margin}
 use Rattle.olr_spec.specs.Encoding.{Answer}

@@ -1,7 +1,7 @@
 -- The names that most proofs of olr_refs cite, passed on from one place. Declares nothing.
 pub use Rattle.olr_answers.specs.Answers.{answer_of, refusal_of}
 pub use Rattle.olr_refs.specs.Along.{DistancesTo, IsLastNear, IsReach}
-pub use Rattle.olr_refs.specs.Choice.{AreSearched, CostsAtMost, ForPoints, Notes, SeenBy, searches_of, begun_at, MayMark}
+pub use Rattle.olr_refs.specs.Choice.{ForPoints, SeenBy, searches_of, begun_at, MayMark}
 pub use Rattle.olr_refs.specs.Extends.{Extends}
 pub use Rattle.olr_refs.specs.KeptPoints.{AreAlong, AreKept, ArePoints, AreTrimmed, IsFirstKept, IsLastKept}
 pub use Rattle.olr_refs.specs.KeptPoints.{distance_at, later, middle_points_of, whole_distance}
@@ -10,17 +10,17 @@ pub use Rattle.olr_refs.specs.Reuse.{Queried, IsAnswered, IsReuse, own_of}
 pub use Rattle.olr_refs.specs.Runs.{IsLongest, IsRun, LeadsOn, LiesBeyond, in_order, outermost, joined}
 pub use Rattle.olr_refs.specs.declared.reuse.Found.{Found}
 pub use Rattle.olr_refs.specs.declared.reuse.Reuse.{Reuse}
-pub use Rattle.olr_route.proofs.ReadLemmas.{read_at, resolved_as}
-pub use Rattle.olr_route.proofs.WayLemmas.{no_end, has_end, entry_is, far_node, near_node, as_many}
-pub use Rattle.olr_route.specs.Counts.{no_work, raised_count, raised_work}
-pub use Rattle.olr_route.specs.Distances.{far_end, near_end, lines_at, ends_at}
-pub use Rattle.olr_route.specs.Frontiers.{label_of}
-pub use Rattle.olr_route.specs.ResolvedLines.{IsResolved, ResolvedLine, record_of}
-pub use Rattle.olr_route.specs.Searches.{Counts, IsSearch, LiesWithin, limit_of}
-pub use Rattle.olr_route.specs.declared.distances.Dijkstra.{Dijkstra}
-pub use Rattle.olr_route.specs.declared.distances.Direction.TheVariants.{Against, Along}
-pub use Rattle.olr_route.specs.declared.distances.Direction.{Direction}
-pub use Rattle.olr_route.specs.declared.work.Work.{Work}
+pub use Rattle.olr_search.proofs.ReadLemmas.{read_at, resolved_as}
+pub use Rattle.olr_search.proofs.WayLemmas.{no_end, has_end, entry_is, far_node, near_node, as_many}
+pub use Rattle.olr_search.specs.Counts.{no_work, raised_count, raised_work}
+pub use Rattle.olr_search.specs.Distances.{far_end, near_end, lines_at, ends_at}
+pub use Rattle.olr_search.specs.Frontiers.{label_of}
+pub use Rattle.olr_search.specs.ResolvedLines.{IsResolved, ResolvedLine, record_of}
+pub use Rattle.olr_search.specs.Searches.{IsSearch, LiesWithin, limit_of}
+pub use Rattle.olr_search.specs.declared.distances.Dijkstra.{Dijkstra}
+pub use Rattle.olr_search.specs.declared.distances.Direction.TheVariants.{Against, Along}
+pub use Rattle.olr_search.specs.declared.distances.Direction.{Direction}
+pub use Rattle.olr_search.specs.declared.work.Work.{Work}
 pub use Rattle.olr_spec.proofs.AnswerLemmas.{all_first, all_last, no_unknown, path_also, path_nonempty, sound_lines}
 pub use Rattle.olr_spec.proofs.Common.{answer_by_points_with, QueriesOfExtendedWith, Contains-append_right, Contains-append_left}
 pub use Rattle.olr_spec.proofs.Common.{IsBinarySearchResult, IsStrictlyIncreasing, TraversedOfExtended, ValidCandidateWith, Coord}

@@ -2,12 +2,12 @@
 use Rattle.olr_refs.proofs.Common.{◌≡◌, ◌==◌, ◌<◌, ◌≤◌, ◌+◌, ℕ, true, List, [], ◌∷◌, ◌++◌, sym, ap, ◌∙◌, subst, refl, arith}
 use Rattle.olr_refs.proofs.Common.{inl, inr, cases_lt, IsTrue, Map, start, end, dm, has, has_line, has_node, has_here, IsRoute}
 use Rattle.olr_refs.proofs.Common.{UniqueShortest, dm_of, dm_of-append, Each, route_known, list_any-append, or_left, or_right}
-use Rattle.olr_refs.proofs.Common.{Along, Dijkstra, IsSearch, LiesWithin, limit_of, CoverageQuery, Sees, Contains-one, cond}
-use Rattle.olr_refs.proofs.Common.{Each-tail, has_cases, dec_same, begun_at, label_of, Margin, counted, counted_dm}
-use Rattle.olr_refs.proofs.Common.{counted_dm_of, CountedRoute, counted_own, counted_zero, counted_route, route_counted}
-use Rattle.olr_spec.proofs.RouteMoves.{counted_longer, more_counts}
-use Rattle.olr_route.proofs.UniqueLemmas.{label_way, way_le}
-use Rattle.olr_route.specs.declared.frontier.TheConstants.{GREATEST_LIMIT}
+use Rattle.olr_refs.proofs.Common.{Along, Dijkstra, IsSearch, limit_of}
+use Rattle.olr_refs.proofs.Common.{Each-tail, has_cases, dec_same, label_of, Margin, counted, counted_dm}
+use Rattle.olr_refs.proofs.Common.{counted_dm_of, CountedRoute, counted_own, counted_route, route_counted}
+use Rattle.olr_spec.proofs.RouteMoves.{more_counts}
+use Rattle.olr_search.proofs.UniqueLemmas.{label_way, way_le}
+use Rattle.olr_search.specs.declared.frontier.TheConstants.{GREATEST_LIMIT}
 
 -- ---- one line more
 
@@ -54,18 +54,6 @@ sum_counts g M xs x each known = omega (
 
 -- ---- what a search on it settles
 
--- is no farther on the map itself
-pub seen_counted : (g : Margin) (M : Map) (xs : List ℕ) (l : CoverageQuery) (b v : ℕ) →
-    LiesWithin (counted g M xs) Along ((l.from, b) ∷ []) l.within v → Sees M l v
-seen_counted g M xs l b v w =
-    let leads = w.1.leads in
-    let source : leads.source ≡ l.from = ap (λ (p : ℕ × ℕ). p.0) (Contains-one (l.from, b) _ leads.listed) in
-    let way = route_counted g M xs l.from v leads.lines (subst (λ u. IsRoute (counted g M xs) u v leads.lines) source leads.way) in (
-      leads.lines,
-      way,
-      omega (arith, leads.long, w.2, counted_longer g M xs leads.lines (route_known M l.from v leads.lines way)),
-    )
-
 -- a line of a route begins after another route, which is shorter by this line at least
 begins_within : (K : Map) (s t : ℕ) (xs : List ℕ) → IsRoute K s t xs → (x : ℕ) → has xs x ≡ true →
     (zs : List ℕ) × IsRoute K s (start K x) zs × IsTrue (has_line K x) × (dm_of K zs + dm K x ≤ dm_of K xs)
@@ -100,9 +88,3 @@ module _ (K : Map) (slot : ℕ → ℕ) (s v : ℕ) (xs : List ℕ) (q : Dijkstr
       let p = begins_within K s v xs unique.route x on in
       let some = sound.long x p.2 in
       omega (arith, p.3, way_le K slot s 1 q h (start K x) p.0 (sound.starts x p.2) p.1 (omega (arith, p.3)))
-
--- without a margin it is one on the map itself, from where it begins
-pub plain_search : (g : Margin) (M : Map) (slot : ℕ → ℕ) (xs : List ℕ) (v : ℕ) (q : Dijkstra) → g.routes ≡ 0 →
-    IsSearch (counted g M xs) slot Along ((v, begun_at g) ∷ []) q → IsSearch M slot Along ((v, 0) ∷ []) q
-plain_search g M slot xs v q none s =
-    coe 0 1 (j. IsSearch (counted_zero g M xs none j) slot Along ((v, cond (none j == 0) 0 1) ∷ []) q) s

@@ -13,6 +13,7 @@ pub mod Reaching
 pub mod Resolving
 pub mod Reusing
 pub mod Querying
+pub mod QueryRange
 pub mod OwnLines
 pub mod Referring
 pub mod Sets

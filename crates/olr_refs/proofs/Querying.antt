@@ -1,13 +1,13 @@
 -- The coverage queries of LRPs: what is queried from one LRP to the next, and what that says of a path.
 use Rattle.olr_refs.proofs.Common.{◌≡◌, ◌<◌, ◌≤◌, ◌+◌, ◌-◌, ◌∷◌, Some, None, refl, sym, ◌∙◌, Map, Path, Queried, ℕ, nat_tests}
 use Rattle.olr_refs.proofs.Common.{is_path, NextWith, querying, IsReuse, Extends, taken_end, All-push, All-weaker, List}
-use Rattle.olr_refs.proofs.Common.{KnownQuery, append-nil, IsAnswered, raised_work, taken_start, from_start, AreKnownWith, []}
+use Rattle.olr_refs.proofs.Common.{KnownQuery, append-nil, IsAnswered, taken_start, from_start, AreKnownWith, []}
 use Rattle.olr_refs.proofs.Common.{CoverageQuery, append_assoc, option_to_list, filter-append, IsKnownOfWith, length-append}
 use Rattle.olr_refs.proofs.Common.{◌++◌, length, Option, ap, subst, arith, IsTrue, nat_lt, own_of, Found, Reuse, Margin, IfSome}
 use Rattle.olr_refs.proofs.Common.{KnownOfWith, Contains-append_left, Contains-append_right, drop-append_seam, take-append_seam}
 use Rattle.olr_spec.proofs.AnswerLemmas.{Next-candidate}
 use Rattle.olr_refs.specs.declared.chosen.Queries.{Queries}
-use Rattle.olr_refs.proofs.Noting.{zip_append, cost_more, searched_more, Led, led_more}
+use Rattle.olr_refs.proofs.Noting.{zip_append, Led, led_more}
 
 -- ---- from LRP to LRP
 
@@ -26,51 +26,44 @@ module _ (g : Margin) (M : Map) (ls : List ℕ) (r : Reuse) where
       ] t
 
   -- one LRP more
-  pub queried_more : (is : List ℕ) (i : ℕ) (q s : Queries) (f : Found) (a b c : Option (List ℕ)) → i + 2 < length ls →
-      Queried g M ls r is q a b → IsAnswered g M ls r i f b c → s.all.items ≡ q.all.items ++ f.query ∷ [] →
-      s.own.items ≡ q.own.items ++ option_to_list f.own → s.work ≡ raised_work q.work f.work →
-      Queried g M ls r (is ++ i ∷ []) s a c
-  queried_more is i q s f a b c h x y all own work =
+  pub queried_more : (is : List ℕ) (i : ℕ) (q s : Queries) (f : Found) → i + 2 < length ls →
+      Queried g M ls r is q → IsAnswered g M ls r i f → s.all.items ≡ q.all.items ++ f.query ∷ [] →
+      s.own.items ≡ q.own.items ++ option_to_list f.own → Queried g M ls r (is ++ i ∷ []) s
+  queried_more is i q s f h x y all own =
       let here : querying ls (i ∷ []) ≡ i ∷ [] = grind (arith, nat_tests) in
       let e = filter-append (λ k. nat_lt (k + 2) (length ls)) is (i ∷ []) in
       record {
         each = rw (e, here, all) (zip_append _ _ _ _ _ x.each (y.query, tt));
         own = rw (all, own) (own_more _ _ _ f.own x.own y.own);
-        cost = rw (all, work) (cost_more M _ _ _ _ x.cost y.cost);
-        searched = λ none. rw (all, work) (searched_more M _ _ _ _ a b c (x.searched none) (y.searched none));
       }
 
   -- where at most one line follows line i nothing is queried
-  pub queried_none : (is : List ℕ) (i : ℕ) (q : Queries) (a b : Option (List ℕ)) → length ls ≤ i + 2 →
-      Queried g M ls r is q a b → Queried g M ls r (is ++ i ∷ []) q a b
-  queried_none is i q a b h x =
+  pub queried_none : (is : List ℕ) (i : ℕ) (q : Queries) → length ls ≤ i + 2 → Queried g M ls r is q →
+      Queried g M ls r (is ++ i ∷ []) q
+  queried_none is i q h x =
       let here : querying ls (i ∷ []) ≡ [] = grind (arith, nat_tests) in
       let same : querying ls (is ++ i ∷ []) ≡ querying ls is =
       filter-append (λ k. nat_lt (k + 2) (length ls)) is (i ∷ []) ∙ rw (here, append-nil) refl in
-      record { each = rw same x.each; own = x.own; cost = x.cost; searched = x.searched }
+      record { each = rw same x.each; own = x.own }
 
 -- the LRPs so far, up to the last, from which nothing was queried yet, and their coverage queries
-pub record Gone (g : Margin) (M : Map) (ls : List ℕ) (r : Reuse) (ps : List ℕ) (last : ℕ) (q : Queries)
-    (seen noted : Option (List ℕ)) : Type 0
-  where
-    pub done : List ℕ
-    pub points : List ℕ
-    pub positions : ps ≡ done ++ last ∷ []
-    pub first : done ++ last ∷ [] ≡ 0 ∷ points
-    pub led : Led g M ls points last
-    pub within : last ≤ length ls
-    pub queried : Queried g M ls r done q seen noted
+pub record Gone (g : Margin) (M : Map) (ls : List ℕ) (r : Reuse) (ps : List ℕ) (last : ℕ) (q : Queries) : Type 0 where
+  pub done : List ℕ
+  pub points : List ℕ
+  pub positions : ps ≡ done ++ last ∷ []
+  pub first : done ++ last ∷ [] ≡ 0 ∷ points
+  pub led : Led g M ls points last
+  pub within : last ≤ length ls
+  pub queried : Queried g M ls r done q
 
 module _ (g : Margin) (M : Map) (ls : List ℕ) (r : Reuse) where
   -- what the queries of LRP i add
-  abbrev pub QueriedOn : ℕ → Queries → Queries → Option (List ℕ) → Option (List ℕ) → Type 0
-  QueriedOn i q s b c =
-      (before : List ℕ) (a : Option (List ℕ)) → Queried g M ls r before q a b → Queried g M ls r (before ++ i ∷ []) s a c
+  abbrev pub QueriedOn : ℕ → Queries → Queries → Type 0
+  QueriedOn i q s = (before : List ℕ) → Queried g M ls r before q → Queried g M ls r (before ++ i ∷ []) s
 
-  pub gone_more : (ps qs : List ℕ) (last m : ℕ) (q s : Queries) (a b c : Option (List ℕ)) →
-      Gone g M ls r ps last q a b → QueriedOn last q s b c → NextWith g M ls last m → qs ≡ ps ++ m ∷ [] →
-      Gone g M ls r qs m s a c
-  gone_more ps qs last m q s a b c gone on n e =
+  pub gone_more : (ps qs : List ℕ) (last m : ℕ) (q s : Queries) → Gone g M ls r ps last q → QueriedOn last q s →
+      NextWith g M ls last m → qs ≡ ps ++ m ∷ [] → Gone g M ls r qs m s
+  gone_more ps qs last m q s gone on n e =
       record {
         done = gone.done ++ last ∷ [];
         points = gone.points ++ m ∷ [];
@@ -78,18 +71,18 @@ module _ (g : Margin) (M : Map) (ls : List ℕ) (r : Reuse) where
         first = rw gone.first refl;
         led = led_more g M ls gone.points last m gone.led n;
         within = (Next-candidate M ls last m n).upto;
-        queried = on gone.done a gone.queried;
+        queried = on gone.done gone.queried;
       }
 
-  pub ended : (ps : List ℕ) (last : ℕ) (q s : Queries) (a b c : Option (List ℕ)) → (gone : Gone g M ls r ps last q a b) →
-      QueriedOn last q s b c → Queried g M ls r (0 ∷ gone.points) s a c
-  ended ps last q s a b c gone on = subst (λ (is : List ℕ). Queried g M ls r is s a c) gone.first (on gone.done a gone.queried)
+  pub ended : (ps : List ℕ) (last : ℕ) (q s : Queries) → (gone : Gone g M ls r ps last q) → QueriedOn last q s →
+      Queried g M ls r (0 ∷ gone.points) s
+  ended ps last q s gone on = subst (λ (is : List ℕ). Queried g M ls r is s) gone.first (on gone.done gone.queried)
 
   -- nothing is queried from the end
-  pub ended_there : (ps : List ℕ) (last : ℕ) (q : Queries) (a b : Option (List ℕ)) →
-      (gone : Gone g M ls r ps last q a b) → length ls ≤ last → Queried g M ls r (0 ∷ gone.points) q a b
-  ended_there ps last q a b gone h =
-      ended ps last q q a b b gone (λ before begun x. queried_none g M ls r before last q begun b (omega arith) x)
+  pub ended_there : (ps : List ℕ) (last : ℕ) (q : Queries) → (gone : Gone g M ls r ps last q) → length ls ≤ last →
+      Queried g M ls r (0 ∷ gone.points) q
+  ended_there ps last q gone h =
+      ended ps last q q gone (λ before x. queried_none g M ls r before last q (omega arith) x)
 
 -- ---- of a path without a fault
 

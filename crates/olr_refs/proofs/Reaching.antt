@@ -7,7 +7,7 @@ use Rattle.olr_refs.proofs.Common.{IsLastNear, IsReach, UniqueShortest, Needed, 
 use Rattle.olr_refs.proofs.Common.{record_of, cases_eq, ne_eqb, cond, refl, true, has_node, cases_Bool, cond_both, begun_at}
 use Rattle.olr_refs.proofs.Common.{MayMark, label_of, Each-range, next_start, way_between, Margin, is_margin, counted}
 use Rattle.olr_refs.proofs.Common.{counted_dm, counted_dm_of, CountedRoute, empty_stretch, counted_nil, counted_start}
-use Rattle.olr_route.specs.Lengths.{MayCount}
+use Rattle.olr_search.specs.Lengths.{MayCount}
 use Rattle.olr_spec.proofs.ElsewhereLemmas.{counted_part}
 use Rattle.olr_refs.proofs.Counting.{own_same, line_counts, sum_counts, unique_more, end_ahead, starts_settled}
 use Rattle.olr_refs.proofs.Joined.{known_at}

@@ -4,13 +4,12 @@ use Rattle.olr_refs.proofs.Common.{◌≡◌, IsKnownOfWith, Contains-here, All-
 use Rattle.olr_refs.proofs.Common.{◌<◌, ◌≤◌, ℕ, true, false, List, Some, refl, subst, arith, IsMap, start, Found, Reuse, way_on}
 use Rattle.olr_refs.proofs.Common.{◌-◌, ◌+◌, ◌∷◌, min, [], sym, ap, ◌∙◌, ◌↔◌, Map, end, Ok, Err, Bool, get_or_default}
 use Rattle.olr_refs.proofs.Common.{IsBinarySearchResult, CoverageQuery, IsLastTestedWith, IsSearchInRange, get_or, Result}
-use Rattle.olr_refs.proofs.Common.{Option, IsTrue, length, IsReach, IsReuse, own_of, no_work, Margin, counted, slice_index}
+use Rattle.olr_refs.proofs.Common.{IsTrue, length, IsReach, IsReuse, own_of, Margin, counted, slice_index}
 use Rattle.olr_refs.proofs.Common.{length-take, length-drop, get_or-take, get_or-drop, CoveredWith, CountedRoute, nat_cmp}
 use Rattle.olr_refs.proofs.Common.{AreJoined, KnownQuery, IsLastNear, IsAnswered, IsKnownWith, next_start}
 use Rattle.std.specs.Result.{result_ok}
 use Rattle.std.proofs.lemmas.Cmp.{ranked}
 use Rattle.olr_spec.proofs.KnownLemmas.{one_end}
-use Rattle.olr_refs.proofs.Noting.{cost_none}
 use Rattle.olr_refs.proofs.Reaching.{all_covered, covered_so_far}
 use Rattle.olr_refs.proofs.Stretches.{stretch_sum}
 
@@ -144,17 +143,14 @@ module _ (g : Margin) (M : Map) (m : IsMap M) (ls : List ℕ) (r : Reuse) (is : 
       rw (reach, last) (covered_so_far g M m ls i last_near joined is_last_near k (omega arith) (omega arith)
       (before_known g M ls r is joined i e begins order upto within right (e.last - 1) (omega arith) (omega arith)) no_more)
 
-  -- nothing is searched
   pub answered_known : (f : Found) → f.reach ≡ (if e.covered then last_near else r.lead + e.last - 1) → f.query ≡ e.query →
-      f.own ≡ Some e → f.work ≡ no_work → (seen : Option (List ℕ)) → IsAnswered g M ls r i f seen seen
-  answered_known f reach query own work seen =
+      f.own ≡ Some e → IsAnswered g M ls r i f
+  answered_known f reach query own =
       let there = found e.covered refl in
       record {
         reach = rw reach there.0;
         query = (r.lead + e.last, there.1, query ∙ query_known g M ls r is joined i e begins order upto within right);
         own = rw (own, query) record { among = Contains-here e.query []; right = right };
-        cost = cost_none M (f.query ∷ []) f.work work;
-        searched = λ none. grind arith;
       }
 
 -- ---- the query that a search found

@@ -1,32 +1,25 @@
--- What a choice of LRPs says, what it searches, and what it costs.
+-- What a choice of LRPs says, and what it searches.
 --     ForPoints g M ls P      P of the points after position 0, of which there is exactly one list
 --     IsChoice ls js c      the choice is 0 and js where they lead to the end, and else the position that has no next
 --         point
 --     searches_of ls is      how many of the points is are searched from: those that two lines or more follow
 --     SeenBy M queries v      one of the queries reaches node v
---     Notes near old new      if nodes are recorded at all, those that are `near` are added
---     CostsAtMost M queries work      at most one search for each query, which settles no more than the nodes that they
---         reach
---     AreSearched M queries work seen noted      one search for each query, and the nodes that it reaches are recorded
 --     begun_at g      the start value of a search that finds how far lines are covered
 --     MayMark g M slot xs from line s      the line may count longer from now on, where the lines xs do so already
---     TestedTo g M slot ls i last_near to within q      the positions after i are covered and within the limit up to last_near, and
---         tested up to the position `to`, by the search q, on the map as it counts for the lines between, whose length
---         it counts is `within`
-use Rattle.std.specs.Prelude.{if◌then◌else◌, ◌==◌, ◌≡◌, ◌≢◌, ℕ, ◌+◌, ◌*◌, ◌≤◌, List, ◌∷◌, [], length, count_by, nat_lt}
-use Rattle.std.specs.Prelude.{Contains, Option, Some, None, ◌↔◌, ◌⊎◌, ⊤, slice_index}
+--     TestedTo g M ls i last_near to within      the positions after i are covered and within the limit up to last_near, and
+--         tested up to the position `to`; the lines between count `within`
+use Rattle.std.specs.Prelude.{if◌then◌else◌, ◌==◌, ◌≡◌, ◌≢◌, ℕ, ◌+◌, List, ◌∷◌, [], length, count_by, nat_lt}
+use Rattle.std.specs.Prelude.{Contains, ◌⊎◌, slice_index}
 use Rattle.olr_spec.specs.Margins.{Margin, counted, counted_dm_of}
 use Rattle.olr_spec.specs.Map.{Map, end}
 use Rattle.olr_spec.specs.Points.{FollowWith, last_position, stretch}
 use Rattle.olr_spec.specs.Footprint.{Sees}
 use Rattle.olr_spec.specs.Queries.{CoverageQuery, IsLastTestedWith}
-use Rattle.olr_route.specs.declared.distances.Dijkstra.{Dijkstra}
-use Rattle.olr_route.specs.declared.distances.Direction.TheVariants.{Along}
-use Rattle.olr_route.specs.Lengths.{MayCount}
-use Rattle.olr_route.specs.ResolvedLines.{ResolvedLine}
-use Rattle.olr_route.specs.Searches.{IsSearch, limit_of}
-use Rattle.olr_route.specs.declared.work.Work.{Work}
-use Rattle.olr_route.specs.Counts.{saturated_count}
+use Rattle.olr_search.specs.declared.distances.Dijkstra.{Dijkstra}
+use Rattle.olr_search.specs.declared.distances.Direction.TheVariants.{Along}
+use Rattle.olr_search.specs.Lengths.{MayCount}
+use Rattle.olr_search.specs.ResolvedLines.{ResolvedLine}
+use Rattle.olr_search.specs.Searches.{IsSearch, limit_of}
 use Rattle.olr_refs.specs.Along.{IsReach}
 use Rattle.olr_refs.specs.declared.chosen.Choice.{Choice}
 use Rattle.olr_refs.specs.declared.chosen.Choice.TheVariants.{Positions, NoNext}
@@ -44,23 +37,6 @@ searches_of ls is = count_by (λ i. nat_lt (i + 2) (length ls)) is
 abbrev pub SeenBy : Map → List CoverageQuery → ℕ → Type 0
 SeenBy M queries v = (l : CoverageQuery) × Contains queries l × Sees M l v
 
--- if none are recorded before, none are recorded afterwards
-abbrev pub Notes : (ℕ → Type 0) → Option (List ℕ) → Option (List ℕ) → Type 0
-Notes near None None = ⊤
-Notes near None (Some new) = ⊥
-Notes near (Some old) None = ⊥
-Notes near (Some old) (Some new) = (v : ℕ) → Contains new v ↔ (Contains old v ⊎ near v)
-
-pub record CostsAtMost (M : Map) (queries : List CoverageQuery) (work : Work) : Type 0 where
-  pub searches : work.searches ≤ length queries
-  pub settled : (all : List ℕ) → ((v : ℕ) → SeenBy M queries v → Contains all v) →
-      work.settled ≤ length queries * length all
-
-pub record AreSearched (M : Map) (queries : List CoverageQuery) (work : Work) (seen noted : Option (List ℕ)) : Type 0
-  where
-    pub searches : work.searches ≡ saturated_count (length queries)
-    pub notes : Notes (SeenBy M queries) seen noted
-
 -- with a margin it begins one step later, so that it isn't settled where the first line begins before that line counts
 abbrev pub begun_at : Margin → ℕ
 begun_at g = if g.routes == 0 then 0 else 1
@@ -69,10 +45,7 @@ abbrev pub MayMark : Margin → Map → (ℕ → ℕ) → List ℕ → List (ℕ
 MayMark g M slot xs from line s =
     ((g.routes ≡ 0) ⊎ MayCount M slot g xs line s) × IsSearch (counted g M xs) slot Along from s
 
--- the search begins at the end of line i, and is settled as far as position `to`
-pub record TestedTo (g : Margin) (M : Map) (slot : ℕ → ℕ) (ls : List ℕ) (i last_near to within : ℕ) (q : Dijkstra) : Type 0 where
+pub record TestedTo (g : Margin) (M : Map) (ls : List ℕ) (i last_near to within : ℕ) : Type 0 where
   pub reach : IsReach g M ls i last_near
   pub last : IsLastTestedWith g M ls i to
   pub long : within ≡ counted_dm_of g M (stretch ls (i + 1) to)
-  pub search : IsSearch (counted g M (stretch ls (i + 1) to)) slot Along ((end M (slice_index ls i), begun_at g) ∷ []) q
-  pub no_farther : limit_of q ≡ within

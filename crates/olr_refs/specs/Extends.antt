@@ -6,7 +6,7 @@ use Rattle.std.specs.Prelude.{◌≡◌, ℕ, ◌⊎◌, ◌↔◌, List, Contai
 use Rattle.olr_spec.specs.Map.{Map}
 use Rattle.olr_spec.specs.Extension.{Path, Tried, extended_path, taken_start}
 use Rattle.olr_spec.specs.Queries.{NodeOf}
-use Rattle.olr_route.specs.ResolvedLines.{ResolvedLine}
+use Rattle.olr_search.specs.ResolvedLines.{ResolvedLine}
 
 pub record ExtendedPath : Type 0 where
   pub path : Path

@@ -1,15 +1,15 @@
 -- What is known of an encoding with a margin beside its answer: the routes that join, what decoders recover from the
--- reference, and the searches that it makes.
+-- reference, and its coverage queries.
 --     JoinsOf g M P A      if the answer has LRPs, this holds for its reference
 --     RecoveredOf g M P A      if the answer has LRPs, every decoder for which each LRP's own line is distinct recovers the
 --         legs between them
---     SearchesOf g M P n      the path is encoded by n searches
+--     SearchesOf g M P n      the path has n coverage queries
 --     OwnLinesAlong M E js A xs      xs are the own lines of the extended path E at the LRPs of its answer; none if it has
 --         no reference
 --     AnsweredAlong g M E js A xs      A is the answer of the extended path by these LRPs, and xs are these lines
 --     IsEncoding g M P e      e is the encoding of the path: its answer, the own lines at its LRPs, the traversed nodes and the
---         coverage queries; it counts as one, with at most one search for each query, which settles at most the footprint
-use Rattle.std.specs.Prelude.{◌≡◌, ℕ, ◌*◌, ◌≤◌, ◌↔◌, List, [], ◌∷◌, length, Contains, MatchOption, ⊤}
+--         coverage queries
+use Rattle.std.specs.Prelude.{◌≡◌, ℕ, ◌↔◌, List, [], ◌∷◌, Contains, MatchOption, ⊤}
 use Rattle.olr_spec.specs.Margins.{Margin}
 use Rattle.olr_spec.specs.Map.{Map}
 use Rattle.olr_spec.specs.Extension.{Path}
@@ -20,7 +20,6 @@ use Rattle.olr_spec.specs.Reference.{legs, kept_points}
 use Rattle.olr_spec.specs.Recovery.{DistinctWith, IsStretchesWith, own_lines, OwnLinesOfWith}
 use Rattle.olr_spec.specs.Joins.{JoinedWith}
 use Rattle.olr_spec.specs.Receiver.{Receiver, Recovers}
-use Rattle.olr_spec.specs.Footprint.{FootWith}
 use Rattle.olr_spec.specs.Queries.{TraversedOf, QueriesOfWith, KnownOfWith}
 use Rattle.olr_answers.specs.Answers.{answer_of}
 use Rattle.olr_answers.specs.declared.answer.Answer.{Answer}
@@ -55,6 +54,3 @@ pub record IsEncoding (g : Margin) (M : Map) (P : Path) (e : Encoding) : Type 0 
   pub traversed : (v : ℕ) → Contains e.traversed v ↔ TraversedOf M P v
   pub queries : QueriesOfWith g M P e.queries.items
   pub known : KnownOfWith g M P.lines e.queries.items e.known.items
-  pub encodings : e.work.encodings ≡ 1
-  pub searches : e.work.searches ≤ length e.queries.items
-  pub settled : (all : List ℕ) → ((v : ℕ) → FootWith g M P v → Contains all v) → e.work.settled ≤ length e.queries.items * length all

@@ -4,7 +4,7 @@
 --     AreRecords M slot rs      each line is as the map has it
 use Rattle.std.specs.Prelude.{◌≡◌, ℕ, List, map}
 use Rattle.olr_spec.specs.Map.{Map}
-use Rattle.olr_route.specs.ResolvedLines.{ResolvedLine, record_of}
+use Rattle.olr_search.specs.ResolvedLines.{ResolvedLine, record_of}
 
 abbrev pub records_of : Map → (ℕ → ℕ) → List ℕ → List ResolvedLine
 records_of M slot ls = map (record_of M slot) ls

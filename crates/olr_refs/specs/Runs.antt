@@ -12,10 +12,10 @@ use Rattle.std.specs.Prelude.{◌≡◌, ◌≢◌, ℕ, ◌+◌, ◌≤◌, Boo
 use Rattle.olr_spec.specs.Map.{Map, has, has_line}
 use Rattle.olr_spec.specs.Routes.{dm_of}
 use Rattle.olr_spec.specs.Extension.{limit, passing, first, last, LongestStart, LongestEnd}
-use Rattle.olr_route.specs.Distances.{near_end, far_end}
-use Rattle.olr_route.specs.declared.distances.Direction.{Direction}
-use Rattle.olr_route.specs.declared.distances.Direction.TheVariants.{Along, Against}
-use Rattle.olr_route.specs.ResolvedLines.{ResolvedLine, IsResolved}
+use Rattle.olr_search.specs.Distances.{near_end, far_end}
+use Rattle.olr_search.specs.declared.distances.Direction.{Direction}
+use Rattle.olr_search.specs.declared.distances.Direction.TheVariants.{Along, Against}
+use Rattle.olr_search.specs.ResolvedLines.{ResolvedLine, IsResolved}
 use Rattle.olr_refs.specs.ResolvedLines.{ids, AreRecords}
 
 abbrev pub outermost : Direction → List ℕ → ℕ

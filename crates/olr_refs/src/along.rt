@@ -7,14 +7,14 @@ ghost use Rattle.olr_spec.specs.Points.{node_at, stretch};
 ghost use Rattle.olr_spec.specs.Reference.{legs, dm_between, position};
 ghost use Rattle.olr_refs.specs.Along.{AreJoined-prop, DistancesTo};
 ghost use Rattle.olr_spec.specs.Extension.{AreJoined, passing};
-ghost use Rattle.olr_route.specs.ResolvedLines.{IsResolved, record_of};
+ghost use Rattle.olr_search.specs.ResolvedLines.{IsResolved, record_of};
 ghost use Rattle.olr_refs.specs.ResolvedLines.{records_of};
 
 use crate::nodes::passing_at;
 use olr_answers::Margin;
 use olr_coords::Coord;
 use olr_model::{Line, LineId, MapRead, NodeId};
-use olr_route::ResolvedLine;
+use olr_search::ResolvedLine;
 use std::alloc::{AllocError, Global};
 
 /// Joined lines of a map, each of which ends where the next begins, as the map has them, with the distances of their

@@ -6,7 +6,7 @@ ghost use Rattle.olr_refs.specs.Along.{IsLastNear, IsReach};
 use crate::along::ResolvedPath;
 use olr_coords::{Coord, rel16};
 use olr_model::MapRead;
-use olr_route::LEG_LIMIT;
+use olr_search::LEG_LIMIT;
 
 /// The last position of a path, from `i` on, that is at most 150,000 dm from position `i`.
 pub fn last_within_limit<M: MapRead>(resolved: &ResolvedPath<M>, i: usize) -> usize

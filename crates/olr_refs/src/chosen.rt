@@ -1,11 +1,7 @@
 //! The location reference points of an extended path.
-ghost use Rattle.std.specs.Prelude.{◌≡◌, ℕ, List, ◌+◌, ◌<◌, ◌≤◌, [], ◌∷◌, ◌++◌, IfOk, OnOk, IsTrue, Option as OptionOf, length};
-ghost use Rattle.olr_spec.specs.Map.{has_node};
-ghost use Rattle.olr_spec.specs.Footprint.{Sees};
-ghost use Rattle.olr_route.specs.declared.distances.Direction.TheVariants.{Along};
-ghost use Rattle.olr_route.specs.Searches.{IsSearch, limit_of};
+ghost use Rattle.std.specs.Prelude.{◌≡◌, ℕ, List, ◌+◌, ◌<◌, ◌≤◌, [], ◌∷◌, ◌++◌, IfOk, OnOk, length};
 ghost use Rattle.olr_refs.specs.Along.{IsReach};
-ghost use Rattle.olr_refs.specs.Choice.{ForPoints, IsChoice, Notes};
+ghost use Rattle.olr_refs.specs.Choice.{ForPoints, IsChoice};
 ghost use Rattle.olr_refs.specs.Reuse.{IsReuse, IsAnswered, Queried};
 
 use crate::along::ResolvedPath;
@@ -13,8 +9,8 @@ use crate::choice::{last_within_limit, next_of};
 use crate::reach::covered_to;
 use crate::reuse::{Found, Reuse, known_after, own_query};
 use olr_answers::{CoverageQuery, KnownQuery};
-use olr_model::{Footprint, MapRead};
-use olr_route::{Dijkstra, Direction, GREATEST_LIMIT, Work};
+use olr_model::MapRead;
+use olr_search::Dijkstra;
 use std::alloc::{AllocError, Global};
 
 /// The LRPs of an extended path, or why there are none.
@@ -26,15 +22,13 @@ pub enum Choice {
     NoNext(usize),
 }
 
-/// Coverage queries of a path, and the searches that were made for them.
+/// Coverage queries of a path.
 #[derive(Drop)]
 pub struct Queries {
     /// One coverage query from each LRP whose line is followed by two lines or more.
     pub all: Vec<CoverageQuery>,
     /// Those of the queries that are along the path's own lines.
     pub own: Vec<KnownQuery>,
-    /// The searches for the queries that were not known already.
-    pub work: Work,
 }
 
 /// The LRPs of an extended path, and the coverage queries by which they were found.
@@ -46,134 +40,88 @@ pub struct Chosen {
     pub queries: Queries,
 }
 
-/// If `seen` is `Some`, adds the nodes that a coverage query reaches. Without a margin they are those that the search which
-/// found the query has settled.
-fn note_reached<M: MapRead>(
-    alloc: Global,
-    resolved: &ResolvedPath<M>,
-    query: CoverageQuery,
-    search: &mut Dijkstra,
-    seen: &mut Option<Footprint>,
-) -> Result<(), AllocError>
-    requires small { query.within ≤ GREATEST_LIMIT }
-    requires known { IsTrue (has_node (M.map resolved.now.map.now) query.from) }
-    requires found { resolved.now.margin.routes ≡ 0 → IsSearch (M.map resolved.now.map.now)
-        (M.node_slot resolved.now.map.now) Along ((query.from, 0) ∷ []) search.old
-        × (limit_of search.old ≡ query.within) }
-    ensures { OnOk result (Notes (Sees (M.map resolved.now.map.now) query) seen.old seen.new) }
-{
-    let Some(seen) = seen else {
-        return Ok(());
-    };
-    if resolved.margin.routes() > 0 {
-        search.begin(resolved.map, Direction::Along, &[(query.from, 0)])?;
-        search.settle_to(resolved.map, query.within)?;
-    }
-    let nodes = search.nodes(alloc, resolved.map)?;
-    seen.note_all(&nodes)
-}
-
 /// The coverage query from position `i`, where two lines or more follow line `i`. If it is not known, it is found by one
-/// search; then, if `seen` is `Some`, adds the nodes that it reaches.
+/// search.
 fn query_after<M: MapRead>(
-    alloc: Global,
     resolved: &ResolvedPath<M>,
     i: usize,
     reuse: &Reuse,
     search: &mut Dijkstra,
-    seen: &mut Option<Footprint>,
 ) -> Result<Found, AllocError>
     requires some { i + 2 < length resolved.now.lines.now }
     requires reuse { IsReuse resolved.now.margin (M.map resolved.now.map.now) resolved.now.lines.now reuse.now }
-    ensures { IfOk result (λ f. IsAnswered resolved.now.margin (M.map resolved.now.map.now) resolved.now.lines.now reuse.now i f seen.old
-        seen.new) }
+    ensures { IfOk result (IsAnswered resolved.now.margin (M.map resolved.now.map.now) resolved.now.lines.now reuse.now i) }
 {
     let last_near = last_within_limit(resolved, i);
     if let Some(found) = known_after(resolved, reuse, i, last_near) {
         return Ok(found);
     }
-    let from = resolved.end(i);
     let tested = covered_to(resolved, i, last_near, search)?;
     let query = CoverageQuery {
-        from,
+        from: resolved.end(i),
         to: resolved.node(tested.last),
         within: tested.within,
     };
-    let own = own_query(resolved, reuse, i, query, tested);
-    let work = Work {
-        encodings: 0,
-        searches: 1,
-        settled: search.settled_count() as u64,
-    };
-    note_reached(alloc, resolved, query, search, seen)?;
     Ok(Found {
         reach: tested.reach,
         query,
-        own,
-        work,
+        own: own_query(resolved, reuse, i, query, tested),
     })
 }
 
 /// How far the positions after `i` are covered and near enough. If two lines or more follow line `i`, appends the
 /// coverage query that shows it.
 fn reach_of<M: MapRead>(
-    alloc: Global,
     resolved: &ResolvedPath<M>,
     reuse: &Reuse,
     i: usize,
     queries: &mut Queries,
     search: &mut Dijkstra,
-    seen: &mut Option<Footprint>,
 ) -> Result<usize, AllocError>
     requires some { i < length resolved.now.lines.now }
     requires reuse { IsReuse resolved.now.margin (M.map resolved.now.map.now) resolved.now.lines.now reuse.now }
     ensures reach { IfOk result (IsReach resolved.now.margin (M.map resolved.now.map.now) resolved.now.lines.now i) }
-    ensures queried { OnOk result ((before : List ℕ) (begun : OptionOf (List ℕ))
-        → Queried resolved.now.margin (M.map resolved.now.map.now) resolved.now.lines.now reuse.now before queries.old begun seen.old
-        → Queried resolved.now.margin (M.map resolved.now.map.now) resolved.now.lines.now reuse.now (before ++ i ∷ []) queries.new begun seen.new) }
+    ensures queried { OnOk result ((before : List ℕ)
+        → Queried resolved.now.margin (M.map resolved.now.map.now) resolved.now.lines.now reuse.now before queries.old
+        → Queried resolved.now.margin (M.map resolved.now.map.now) resolved.now.lines.now reuse.now (before ++ i ∷ []) queries.new) }
 {
     if resolved.lines.len() - i <= 2 {
         return Ok(last_within_limit(resolved, i));
     }
-    let found = query_after(alloc, resolved, i, reuse, search, seen)?;
+    let found = query_after(resolved, i, reuse, search)?;
     queries.all.push(found.query)?;
     if let Some(own) = found.own {
         queries.own.push(own)?;
     }
-    queries.work = queries.work.plus(found.work);
     Ok(found.reach)
 }
 
 /// The location reference points (LRPs) of an extended path, by position: position 0, the next LRP after it, and so on
 /// to the end; or the position after which there is no valid LRP (White Paper, intermediate points and the 15,000 m
 /// rule; which LRP is next is the profile's choice). From each LRP that two lines or more follow one search is made,
-/// no farther than is needed to find the next LRP, and none if the coverage query is known. If `seen` is `Some`, adds
-/// the nodes that the searched queries reach, for which a margin needs further searches. If an allocation fails, `seen`
-/// may have some of these nodes, and the search must be started again before its next use.
+/// no farther than is needed to find the next LRP, and none if the coverage query is known. If an allocation fails, the
+/// search must be started again before its next use.
 pub fn points<M: MapRead>(
     alloc: Global,
     resolved: &ResolvedPath<M>,
     reuse: &Reuse,
     search: &mut Dijkstra,
-    seen: &mut Option<Footprint>,
 ) -> Result<Chosen, AllocError>
     requires { IsReuse resolved.now.margin (M.map resolved.now.map.now) resolved.now.lines.now reuse.now }
     ensures choice { IfOk result (λ chosen. ForPoints resolved.now.margin (M.map resolved.now.map.now) resolved.now.lines.now
         (λ js. IsChoice resolved.now.lines.now js chosen.choice)) }
     ensures queried { IfOk result (λ chosen. ForPoints resolved.now.margin (M.map resolved.now.map.now) resolved.now.lines.now
-        (λ js. Queried resolved.now.margin (M.map resolved.now.map.now) resolved.now.lines.now reuse.now (0 ∷ js) chosen.queries seen.old
-        seen.new)) }
+        (λ js. Queried resolved.now.margin (M.map resolved.now.map.now) resolved.now.lines.now reuse.now (0 ∷ js) chosen.queries)) }
 {
     let mut positions = Vec::new(alloc);
     positions.push(0)?;
     let mut queries = Queries {
         all: Vec::new(alloc),
         own: Vec::new(alloc),
-        work: Work::none(),
     };
     let mut last = 0;
     while last < resolved.lines.len() {
-        let reach = reach_of(alloc, resolved, reuse, last, &mut queries, search, seen)?;
+        let reach = reach_of(resolved, reuse, last, &mut queries, search)?;
         let Some(next) = next_of(resolved, last, reach) else {
             return Ok(Chosen {
                 choice: Choice::NoNext(last),

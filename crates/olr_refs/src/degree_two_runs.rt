@@ -5,15 +5,15 @@ ghost use Rattle.std.specs.Prelude.{◌≢◌, ℕ, MatchOption, length, reverse
 ghost use Rattle.std.specs.List.Sorted.{IsNonDecreasing};
 ghost use Rattle.olr_spec.specs.Map.{Map, has_line, has};
 ghost use Rattle.olr_spec.specs.Extension.{limit};
-ghost use Rattle.olr_route.specs.Distances.{near_end, far_end, lines_at, ends_at};
+ghost use Rattle.olr_search.specs.Distances.{near_end, far_end, lines_at, ends_at};
 ghost use Rattle.olr_refs.specs.Runs.{outermost, in_order, GrowsBy, LiesBeyond, IsRun};
-ghost use Rattle.olr_route.specs.ResolvedLines.{IsResolved, record_of};
+ghost use Rattle.olr_search.specs.ResolvedLines.{IsResolved, record_of};
 ghost use Rattle.olr_refs.specs.ResolvedLines.{ids, AreRecords};
 
 use crate::nodes::passing_at;
 use crate::resolved::ids_of;
 use olr_model::{LineEnd, LineId, MapRead, NodeId};
-use olr_route::{Direction, LEG_LIMIT, ResolvedLine, lines_from, resolve_line};
+use olr_search::{Direction, LEG_LIMIT, ResolvedLine, lines_from, resolve_line};
 use std::alloc::{AllocError, Global};
 
 /// A run of degree-two nodes: lines that lead through such nodes to the first line of a list, or on from its last one.

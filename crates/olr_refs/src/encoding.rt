@@ -1,5 +1,5 @@
 //! The encoding of a path on a map with a margin.
-ghost use Rattle.std.specs.Prelude.{◌≡◌, ◌+◌, ◌<◌, [], ◌∷◌, IsTrue, IfOk, None, Some, length};
+ghost use Rattle.std.specs.Prelude.{◌≡◌, ◌+◌, ◌<◌, ◌∷◌, IsTrue, IfOk, Some};
 ghost use Rattle.olr_spec.specs.Map.{Map};
 ghost use Rattle.olr_spec.specs.Margins.{Margin};
 ghost use Rattle.olr_spec.specs.Extension.{Path as Record, is_path, AreJoined};
@@ -7,8 +7,7 @@ ghost use Rattle.olr_spec.specs.Encoding.{path_fault};
 ghost use Rattle.olr_spec.specs.Queries.{AreKnownWith};
 ghost use Rattle.olr_answers.specs.Answers.{answer_of, refusal_of};
 ghost use Rattle.olr_spec.specs.Routes.{dm_of};
-ghost use Rattle.olr_refs.specs.Choice.{AreSearched, ForPoints};
-ghost use Rattle.olr_route.specs.Counts.{saturated_count};
+ghost use Rattle.olr_refs.specs.Choice.{ForPoints};
 ghost use Rattle.olr_refs.specs.Referring.{AnsweredAlong, IsEncoding};
 ghost use Rattle.olr_refs.specs.ResolvedLines.{records_of};
 ghost use Rattle.olr_refs.specs.Reuse.{IsReuse, Queried};
@@ -21,7 +20,7 @@ use crate::reference::reference_of;
 use crate::reuse::Reuse;
 use olr_answers::{Answer, CoverageQuery, KnownQuery, Margin, Path, Refusal};
 use olr_model::{Footprint, LineId, MapRead};
-use olr_route::{Dijkstra, ResolvedLine, Work};
+use olr_search::{Dijkstra, ResolvedLine};
 use std::alloc::{AllocError, Global};
 
 /// The answer of a path on a map with a margin, and what it depends on. An edit that affects nothing of this leaves the answer
@@ -41,8 +40,6 @@ pub struct Encoding {
     /// The coverage queries along the path's own lines, in the same order. After edits, those that are clear of the
     /// changed lines are known to be still right.
     pub known: Vec<KnownQuery>,
-    /// One encoding, and one search for each coverage query that was not known before.
-    pub work: Work,
 }
 
 /// The encoding of a path on a map with a margin, by searches that are settled no farther than is needed to find the LRPs.
@@ -57,9 +54,8 @@ pub fn encode<M: MapRead>(
 ) -> Result<Encoding, AllocError>
     ensures encoding { IfOk result (IsEncoding margin (M.map map.now) path.now) }
     ensures path { IsTrue (is_path path.now.lines) }
-    ensures searches { IfOk result (λ e. e.work.searches ≡ saturated_count (length e.queries.items)) }
 {
-    encode_noting(alloc, map, path, &[], margin, search, &mut None)
+    encode_again(alloc, map, path, margin, &[], search)
 }
 
 /// The encoding of a path on a map, as `encode` returns it, but without searches for the coverage queries in `known`.
@@ -79,30 +75,6 @@ pub fn encode_again<M: MapRead>(
     ensures encoding { IfOk result (IsEncoding margin (M.map map.now) path.now) }
     ensures path { IsTrue (is_path path.now.lines) }
 {
-    encode_noting(alloc, map, path, known, margin, search, &mut None)
-}
-
-/// The encoding of a path on a map, as `encode_again` returns it. If `seen` is `Some`, adds the nodes that the coverage
-/// queries reach: those that the searches settled. With a margin these count longer lengths, so that each query's nodes
-/// are found by a further search, which the work does not count.
-///
-/// If an allocation fails, `seen` may have some of these nodes, and the search must be started again before its next
-/// use.
-pub fn encode_noting<M: MapRead>(
-    alloc: Global,
-    map: &M,
-    path: &Path,
-    known: &[KnownQuery],
-    margin: Margin,
-    search: &mut Dijkstra,
-    seen: &mut Option<Footprint>,
-) -> Result<Encoding, AllocError>
-    requires { AreKnownWith margin (M.map map.now) path.now.lines known.now }
-    ensures encoding { IfOk result (IsEncoding margin (M.map map.now) path.now) }
-    ensures path { IsTrue (is_path path.now.lines) }
-    ensures searched { IfOk result (λ e. known.now ≡ []
-        → AreSearched (M.map map.now) e.queries.items e.work seen.old seen.new) }
-{
     let own = match own_lines(alloc, map, path)? {
         Ok(own) => own,
         Err(refusal) => return Ok(refused(alloc, refusal)),
@@ -114,26 +86,20 @@ pub fn encode_noting<M: MapRead>(
         lead: extended.lead,
         own: path.lines().len(),
     };
-    let (answer, own, queries) = encode_along(alloc, map, margin, &extended, &reuse, search, seen)?;
+    let (answer, own, queries) = encode_along(alloc, map, margin, &extended, &reuse, search)?;
     Ok(Encoding {
         answer,
         own,
         traversed,
         queries: queries.all,
         known: queries.own,
-        work: Work {
-            encodings: 1,
-            ..queries.work
-        },
     })
 }
 
 /// The encoding of a path to which one of reasons 1 to 3 applies.
 fn refused(alloc: Global, refusal: Refusal) -> Encoding
-    ensures encoding { (margin : Margin) (M : Map) (P : Record) → path_fault M P ≡ Some (refusal_of refusal)
+    ensures { (margin : Margin) (M : Map) (P : Record) → path_fault M P ≡ Some (refusal_of refusal)
         → IsEncoding margin M P result }
-    ensures none { result.queries.items ≡ [] }
-    ensures work { result.work.searches ≡ 0 }
 {
     Encoding {
         answer: Answer::Refused(refusal),
@@ -141,10 +107,6 @@ fn refused(alloc: Global, refusal: Refusal) -> Encoding
         traversed: Footprint::new(alloc),
         queries: Vec::new(alloc),
         known: Vec::new(alloc),
-        work: Work {
-            encodings: 1,
-            ..Work::none()
-        },
     }
 }
 
@@ -157,7 +119,6 @@ fn encode_along<M: MapRead>(
     extended: &Extended,
     reuse: &Reuse,
     search: &mut Dijkstra,
-    seen: &mut Option<Footprint>,
 ) -> Result<(Answer, Vec<LineId>, Queries), AllocError>
     requires joined { AreJoined (M.map map.now) extended.now.path.lines }
     requires records { extended.now.records ≡ records_of (M.map map.now) (M.node_slot map.now) extended.now.path.lines }
@@ -166,7 +127,7 @@ fn encode_along<M: MapRead>(
     ensures answered { IfOk result (λ r. ForPoints margin (M.map map.now) extended.now.path.lines
         (λ js. AnsweredAlong margin (M.map map.now) extended.now.path js (answer_of r.0) r.1.items)) }
     ensures queried { IfOk result (λ r. ForPoints margin (M.map map.now) extended.now.path.lines
-        (λ js. Queried margin (M.map map.now) extended.now.path.lines reuse.now (0 ∷ js) r.2 seen.old seen.new)) }
+        (λ js. Queried margin (M.map map.now) extended.now.path.lines reuse.now (0 ∷ js) r.2)) }
 {
     let lines = extended.lines.as_slice();
     let records = extended.records.as_slice();
@@ -178,7 +139,7 @@ fn encode_along<M: MapRead>(
         margin,
         distances: &distances,
     };
-    let Chosen { choice, queries } = points(alloc, &resolved, reuse, search, seen)?;
+    let Chosen { choice, queries } = points(alloc, &resolved, reuse, search)?;
     match choice {
         Choice::NoNext(k) => {
             let refused = Answer::Refused(Refusal::NoNextPoint(k));

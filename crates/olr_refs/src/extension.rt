@@ -11,7 +11,7 @@ use crate::degree_two_runs::longest_run;
 use crate::resolved::ids_of;
 use olr_answers::Path;
 use olr_model::{Footprint, LineId, MapRead, NodeId};
-use olr_route::{Direction, ResolvedLine};
+use olr_search::{Direction, ResolvedLine};
 use std::alloc::{AllocError, Global};
 use std::marker::Model;
 

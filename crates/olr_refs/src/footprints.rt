@@ -1,26 +1,28 @@
 //! Footprints: the nodes on which an answer depends.
 ghost use Rattle.std.specs.Prelude.{◌≡◌, ℕ, ◌+◌, ◌*◌, ◌^◌, ◌<◌, ◌≤◌, ◌↔◌, IfOk, OnOk, OnErr};
-ghost use Rattle.std.specs.Prelude.{Contains, length};
-ghost use Rattle.olr_spec.specs.Map.{Map, IsMap, Agree};
+ghost use Rattle.std.specs.Prelude.{◌⊎◌, Contains, IsTrue, length};
+ghost use Rattle.olr_spec.specs.Map.{Map, IsMap, Agree, has_node};
 ghost use Rattle.olr_spec.specs.Encoding.{Encodes, EncodesWith};
-ghost use Rattle.olr_spec.specs.Footprint.{Foot, FootWith};
+ghost use Rattle.olr_spec.specs.Footprint.{Foot, FootWith, Sees};
 ghost use Rattle.olr_spec.specs.Margins.{no_margin};
+ghost use Rattle.olr_spec.specs.Queries.{CoverageQuery as Query};
 ghost use Rattle.olr_answers.specs.Answers.{answer_of};
-ghost use Rattle.olr_route.specs.Counts.{raised_count};
+ghost use Rattle.olr_search.specs.Counts.{raised_count};
+ghost use Rattle.olr_refs.specs.Choice.{SeenBy};
 ghost use Rattle.olr_refs.specs.Referring.{JoinsOf, RecoveredOf, SearchesOf};
 
-use crate::encoding::{Encoding, encode_noting};
-use olr_answers::{Answer, Margin, Path};
+use crate::encoding::encode;
+use olr_answers::{Answer, CoverageQuery, Margin, Path};
 use olr_model::{Footprint, MapRead};
-use olr_route::{Dijkstra, Work};
+use olr_search::{Dijkstra, Direction, GREATEST_LIMIT, Work};
 use std::alloc::{AllocError, Global};
 
 /// The answer of a path on a map, and its footprint: the nodes on which the answer depends. On any sound map that is
 /// the same around these nodes, and has the same lines of the path, the answer is the same. On this map every decoder
 /// for which each LRP's own line is distinct recovers the lines between the location reference points (LRPs).
 ///
-/// Adds one encoding to the work, and one search for each coverage query: the searches of the encoding find the
-/// footprint. If an allocation fails, the work is unchanged.
+/// Adds one encoding to the work, and for each coverage query one search and the nodes that it reaches. If an allocation
+/// fails, the work is unchanged.
 pub fn refer<M: MapRead>(
     alloc: Global,
     map: &M,
@@ -44,9 +46,52 @@ pub fn refer<M: MapRead>(
     refer_with(alloc, map, path, Margin::none(), work)
 }
 
-/// The answer of a path on a map with a margin, and its footprint, as `refer` gives them without one. The work has the
-/// searches for the coverage queries; with a margin a further one for each, which finds the nodes that it reaches, is not
-/// counted.
+/// Adds the nodes that a coverage query reaches to a footprint, by a search. Returns how many they are.
+fn note_query<M: MapRead>(
+    alloc: Global,
+    map: &M,
+    query: CoverageQuery,
+    search: &mut Dijkstra,
+    footprint: &mut Footprint,
+) -> Result<u64, AllocError>
+    requires begins { IsTrue (has_node (M.map map.now) query.from) }
+    requires small { query.within ≤ GREATEST_LIMIT }
+    ensures noted { OnOk result ((v : ℕ) → Contains footprint.new v
+        ↔ (Contains footprint.old v ⊎ Sees (M.map map.now) query v)) }
+    ensures few { IfOk result (λ n. n ≤ length footprint.new) }
+    ensures grows { OnOk result (length footprint.old ≤ length footprint.new) }
+{
+    search.begin(map, Direction::Along, &[(query.from, 0)])?;
+    search.settle_to(map, query.within)?;
+    let nodes = search.nodes(alloc, map)?;
+    footprint.note_all(&nodes)?;
+    Ok(nodes.len() as u64)
+}
+
+/// Adds the nodes that coverage queries reach to a footprint, by a search for each. Returns how many nodes the searches
+/// settled; this number saturates.
+fn note_queries<M: MapRead>(
+    alloc: Global,
+    map: &M,
+    queries: &[CoverageQuery],
+    search: &mut Dijkstra,
+    footprint: &mut Footprint,
+) -> Result<u64, AllocError>
+    requires { (l : Query) → Contains queries.now l
+        → IsTrue (has_node (M.map map.now) l.from) × (l.within ≤ GREATEST_LIMIT) }
+    ensures noted { OnOk result ((v : ℕ) → Contains footprint.new v
+        ↔ (Contains footprint.old v ⊎ SeenBy (M.map map.now) queries.now v)) }
+    ensures few { IfOk result (λ n. n ≤ length queries.now * length footprint.new) }
+{
+    let mut settled: u64 = 0;
+    for query in queries {
+        let nodes = note_query(alloc, map, *query, search, footprint)?;
+        settled = settled.saturating_add(nodes);
+    }
+    Ok(settled)
+}
+
+/// The answer of a path on a map with a margin, and its footprint, as `refer` gives them without one.
 pub fn refer_with<M: MapRead>(
     alloc: Global,
     map: &M,
@@ -68,14 +113,17 @@ pub fn refer_with<M: MapRead>(
         × (work.new.settled ≤ work.old.settled + n * length r.1)) }
     ensures err_work { OnErr result (work.new ≡ work.old) }
 {
-    let mut seen = Some(Footprint::new(alloc));
-    let (answer, mut footprint, done) = {
-        let mut search = Dijkstra::new(alloc);
-        let encoding = encode_noting(alloc, map, path, &[], margin, &mut search, &mut seen)?;
-        (encoding.answer, encoding.traversed, encoding.work)
-    };
-    let seen = seen.unwrap();
-    footprint.note_all(seen.as_slice())?;
-    *work = work.plus(done);
-    Ok((answer, footprint))
+    // For the proof alone: the margin is in range.
+    let _routes = margin.routes();
+    let mut search = Dijkstra::new(alloc);
+    let encoding = encode(alloc, map, path, margin, &mut search)?;
+    let mut footprint = encoding.traversed;
+    let queries = encoding.queries;
+    let settled = note_queries(alloc, map, &queries, &mut search, &mut footprint)?;
+    *work = work.plus(Work {
+        encodings: 1,
+        searches: queries.len() as u64,
+        settled,
+    });
+    Ok((encoding.answer, footprint))
 }

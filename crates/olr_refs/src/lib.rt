@@ -25,6 +25,6 @@ pub use extension::{Extended, extend};
 pub use footprints::{refer, refer_with};
 pub use nodes::passing;
 pub use olr_answers::{Answer, CoverageQuery, KnownQuery, Margin, Path, PathFault, Refusal};
-pub use olr_route::ResolvedLine;
+pub use olr_search::ResolvedLine;
 pub use resolved::resolve;
 pub use reuse::Reuse;

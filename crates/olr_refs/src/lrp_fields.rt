@@ -12,7 +12,7 @@ use olr_bearing::{Ends, bearing_back, bearing_out};
 use olr_binary::{Attrs, First, Last, Middle};
 use olr_coords::{Coord, abs24, rel16};
 use olr_model::{Line, MapRead};
-use olr_route::ResolvedLine;
+use olr_search::ResolvedLine;
 use std::alloc::{AllocError, Global};
 
 /// One step of the distance to the next point (DNP), in decimetres: 58.6 m.

@@ -10,7 +10,7 @@ ghost use Rattle.olr_refs.specs.ResolvedLines.{records_of};
 use crate::resolved::resolve;
 use olr_answers::{Path, Refusal};
 use olr_model::MapRead;
-use olr_route::ResolvedLine;
+use olr_search::ResolvedLine;
 use std::alloc::{AllocError, Global};
 
 /// A path's own lines as the map has them, or the first of reasons 1 to 3 that applies to the path.

@@ -3,16 +3,16 @@ ghost use Rattle.std.specs.Prelude.{◌≡◌, ◌+◌, ◌*◌, ◌<◌, ◌≤
 ghost use Rattle.olr_spec.specs.Map.{end, dm};
 ghost use Rattle.olr_spec.specs.Extension.{limit};
 ghost use Rattle.olr_spec.specs.Margins.{counted, counted_dm, is_margin};
-ghost use Rattle.olr_route.specs.declared.distances.Direction.TheVariants.{Along};
-ghost use Rattle.olr_route.specs.ResolvedLines.{record_of};
-ghost use Rattle.olr_route.specs.Searches.{IsSearch, limit_of};
+ghost use Rattle.olr_search.specs.declared.distances.Direction.TheVariants.{Along};
+ghost use Rattle.olr_search.specs.ResolvedLines.{record_of};
+ghost use Rattle.olr_search.specs.Searches.{IsSearch, limit_of};
 ghost use Rattle.olr_refs.specs.Along.{IsLastNear};
 ghost use Rattle.olr_refs.specs.Choice.{MayMark, TestedTo, begun_at};
 
 use crate::along::ResolvedPath;
 use olr_answers::Margin;
 use olr_model::MapRead;
-use olr_route::{Dijkstra, Direction, GREATEST_LIMIT, ResolvedLine};
+use olr_search::{Dijkstra, Direction, GREATEST_LIMIT, ResolvedLine};
 use std::alloc::AllocError;
 
 /// The start value of a search that finds how far lines are covered. With a margin it is not settled where the first of
@@ -88,8 +88,8 @@ pub fn covered_to<M: MapRead>(
 ) -> Result<Tested, AllocError>
     requires some { i + 1 < length resolved.now.lines.now }
     requires last_near { IsLastNear (M.map resolved.now.map.now) resolved.now.lines.now i last_near }
-    ensures { IfOk result (λ t. TestedTo resolved.now.margin (M.map resolved.now.map.now)
-        (M.node_slot resolved.now.map.now) resolved.now.lines.now i t.reach t.last t.within search.new) }
+    ensures { IfOk result (λ t. TestedTo resolved.now.margin (M.map resolved.now.map.now) resolved.now.lines.now i
+        t.reach t.last t.within) }
 {
     let begun = begun_at(resolved.margin);
     search.begin(resolved.map, Direction::Along, &[(resolved.end(i), begun)])?;

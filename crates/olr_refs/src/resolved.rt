@@ -2,11 +2,11 @@
 ghost use Rattle.std.specs.Prelude.{◌≡◌, IfOk, IsTrue, MatchResult, None, Some, SomeIff};
 ghost use Rattle.olr_spec.specs.Encoding.{first_unknown};
 ghost use Rattle.olr_spec.specs.Map.{has_line};
-ghost use Rattle.olr_route.specs.ResolvedLines.{record_of};
+ghost use Rattle.olr_search.specs.ResolvedLines.{record_of};
 ghost use Rattle.olr_refs.specs.ResolvedLines.{AreRecords, records_of, ids};
 
 use olr_model::{LineId, MapRead};
-use olr_route::{ResolvedLine, resolve_line};
+use olr_search::{ResolvedLine, resolve_line};
 use std::alloc::{AllocError, Global};
 
 /// A line as the map has it, by those before it on a path: it begins where the last of them ends, in most cases. None if

@@ -1,5 +1,5 @@
 //! Coverage queries that are known, and are not searched again.
-ghost use Rattle.std.specs.Prelude.{◌≡◌, ◌+◌, ◌<◌, ℕ, List, [], ◌∷◌, Option, IfSome, length};
+ghost use Rattle.std.specs.Prelude.{◌≡◌, ◌+◌, ◌<◌, [], ◌∷◌, IfSome, length};
 ghost use Rattle.olr_spec.specs.Queries.{IsKnownOfWith, IsLastTestedWith, query_to_with};
 ghost use Rattle.olr_refs.specs.Along.{IsLastNear, IsReach};
 ghost use Rattle.olr_refs.specs.Reuse.{IsReuse, IsAnswered, own_of};
@@ -8,7 +8,6 @@ use crate::along::ResolvedPath;
 use crate::reach::Tested;
 use olr_answers::{CoverageQuery, KnownQuery};
 use olr_model::MapRead;
-use olr_route::Work;
 
 /// What is known of a path's coverage queries, and where its own lines lie on the extended path.
 #[derive(Clone, Copy)]
@@ -31,8 +30,6 @@ pub struct Found {
     pub query: CoverageQuery,
     /// The query as one along the path's own lines. None if it is not one.
     pub own: Option<KnownQuery>,
-    /// The search for it; none if it was known.
-    pub work: Work,
 }
 
 /// The coverage query after `i`, where it is known; positions up to `last_near` are near enough.
@@ -45,8 +42,7 @@ pub fn known_after<M: MapRead>(
     requires some { i + 1 < length resolved.now.lines.now }
     requires reuse { IsReuse resolved.now.margin (M.map resolved.now.map.now) resolved.now.lines.now reuse.now }
     requires last_near { IsLastNear (M.map resolved.now.map.now) resolved.now.lines.now i last_near }
-    ensures { IfSome result (λ f. (seen : Option (List ℕ))
-        → IsAnswered resolved.now.margin (M.map resolved.now.map.now) resolved.now.lines.now reuse.now i f seen seen) }
+    ensures { IfSome result (IsAnswered resolved.now.margin (M.map resolved.now.map.now) resolved.now.lines.now reuse.now i) }
 {
     let first = (i + 1).checked_sub(reuse.lead)?;
     let k = reuse
@@ -65,7 +61,6 @@ pub fn known_after<M: MapRead>(
         reach,
         query: known.query,
         own: Some(known),
-        work: Work::none(),
     })
 }
 

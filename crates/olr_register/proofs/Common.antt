@@ -62,8 +62,8 @@ pub use Rattle.olr_renewal.specs.Reencoded.{CanRenewUnder, IsRenewal, after_rene
 pub use Rattle.olr_renewal.specs.declared.change_set.ChangeSet.{ChangeSet}
 pub use Rattle.olr_renewal.specs.declared.distance_bounds.DistanceBounds.{DistanceBounds}
 pub use Rattle.olr_renewal.specs.declared.renewal.Renewed.{Renewed}
-pub use Rattle.olr_route.specs.Counts.{raised_count, raised_work}
-pub use Rattle.olr_route.specs.declared.work.Work.{Work}
+pub use Rattle.olr_search.specs.Counts.{raised_count, raised_work}
+pub use Rattle.olr_search.specs.declared.work.Work.{Work}
 pub use Rattle.olr_spec.proofs.ChangeLemmas.{differences_add, edit_differs, none_differs}
 pub use Rattle.olr_spec.proofs.ListLemmas.{Contains-cases, take_more_at}
 pub use Rattle.olr_spec.proofs.OptionLemmas.{none_of}

@@ -8,7 +8,7 @@ use Rattle.std.specs.Prelude.{◌≡◌, length, Result, Ok, OnOk, OnErr, IfErr}
 use Rattle.olr_commands.specs.State.{Content, Change, Command, Fault, Make, with_change}
 use Rattle.olr_commands.specs.Words.{command_fault_of}
 use Rattle.olr_commands.specs.declared.fault.CommandFault.{CommandFault}
-use Rattle.olr_route.specs.Counts.{raised_count}
+use Rattle.olr_search.specs.Counts.{raised_count}
 use Rattle.olr_register.specs.BatchChanges.{MayReport}
 use Rattle.olr_register.specs.Registered.{Registered}
 

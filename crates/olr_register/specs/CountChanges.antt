@@ -4,7 +4,7 @@
 --     NoneFalls old new      no count falls
 use Rattle.std.specs.Prelude.{◌≤◌, Bool, true, false}
 use Rattle.olr_commands.specs.State.{On_map, Add_path, Set_path, Set_margin, Command, Make, Commit}
-use Rattle.olr_route.specs.declared.work.Work.{Work}
+use Rattle.olr_search.specs.declared.work.Work.{Work}
 
 abbrev pub encodes : Bool → Command → Bool
 encodes false (Make (On_map e)) = true

@@ -11,8 +11,8 @@ use Rattle.std.specs.Coded.{Coded, code_by, coded_ℕ, coded×}
 use Rattle.std.proofs.Common.{refl}
 use Rattle.olr_spec.specs.Map.{Map}
 use Rattle.olr_spec.specs.Margins.{Margin}
-use Rattle.olr_route.specs.declared.work.Work.{Work}
-use Rattle.olr_route.specs.Counts.{no_work, raised_count}
+use Rattle.olr_search.specs.declared.work.Work.{Work}
+use Rattle.olr_search.specs.Counts.{no_work, raised_count}
 use Rattle.olr_commands.specs.State.{State, Content, Named, no_content, path_named, Command}
 use Rattle.olr_commands.specs.Reply.{Outcome, IsOutcome}
 use Rattle.olr_commands.specs.Counts.{Raises}

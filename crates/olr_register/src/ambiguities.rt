@@ -21,7 +21,7 @@ use olr_commands::{CommandFault, NamedObstacle, Reply};
 use olr_map::RoadMap;
 use olr_paths::{PathList, Published};
 use olr_refs::{Encoding, Margin, encode_again};
-use olr_route::Dijkstra;
+use olr_search::Dijkstra;
 use std::alloc::{AllocError, Global};
 
 /// Appends what was found at the LRPs of the path of this name.

@@ -10,7 +10,7 @@ use olr_commands::CommandFault;
 use olr_map::Footprint;
 use olr_paths::Published;
 use olr_refs::refer_with;
-use olr_route::Work;
+use olr_search::Work;
 
 impl Register {
     ghost use Rattle.olr_register.specs.Registered.{PublishedWhole};

@@ -5,7 +5,7 @@ use olr_map::RoadMap;
 use olr_paths::{Iter, PathList};
 use olr_refs::{Answer, Margin};
 use olr_renewal::{ChangeSet, Searches};
-use olr_route::Work;
+use olr_search::Work;
 use std::alloc::Global;
 use std::marker::Model;
 

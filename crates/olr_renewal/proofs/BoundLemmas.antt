@@ -8,7 +8,7 @@ use Rattle.olr_renewal.proofs.Common.{bound_at, AreClosed, AreMet, AreRight, IsD
 use Rattle.olr_renewal.proofs.Common.{IsUnbounded, IsLed, AreLed, IsFollowed, DistanceBounds, list_any-append}
 use Rattle.std.proofs.lemmas.Bool.{or_left, or_right}
 use Rattle.olr_spec.proofs.AgreeLemmas.{turned_round, by_leaving, same_known, same_start, same_end, same_dm}
-use Rattle.olr_route.specs.declared.frontier.Frontier.{Frontier}
+use Rattle.olr_search.specs.declared.frontier.Frontier.{Frontier}
 
 -- ---- the open nodes
 

@@ -42,15 +42,15 @@ pub use Rattle.olr_renewal.specs.declared.actions.Action.{Action}
 pub use Rattle.olr_renewal.specs.declared.change_set.ChangeSet.{ChangeSet}
 pub use Rattle.olr_renewal.specs.declared.distance_bounds.DistanceBounds.{DistanceBounds}
 pub use Rattle.olr_renewal.specs.declared.renewal.Renewal.{Renewal}
-pub use Rattle.olr_route.proofs.SearchLemmas.{alike_labels, is_distance, moves_then, put_cases, put_le, put_moves}
-pub use Rattle.olr_route.proofs.WayLemmas.{end_is, far_node, has_end, no_end}
-pub use Rattle.olr_route.specs.Bounds.{AreLengths, IsUnder, label_at, AreBounds}
-pub use Rattle.olr_route.specs.Distances.{Leads}
-pub use Rattle.olr_route.specs.Frontiers.{label_of, frontier_len, IsQueued, IsAlike, Moves, to_do}
-pub use Rattle.olr_route.specs.Searches.{CoversSlots, IsSearch}
-pub use Rattle.olr_route.specs.declared.distances.Dijkstra.{Dijkstra}
-pub use Rattle.olr_route.specs.declared.distances.Direction.TheVariants.{Against, Along}
-pub use Rattle.olr_route.specs.declared.frontier.TheConstants.{GREATEST_LIMIT}
+pub use Rattle.olr_search.proofs.SearchLemmas.{alike_labels, is_distance, moves_then, put_cases, put_le, put_moves}
+pub use Rattle.olr_search.proofs.WayLemmas.{end_is, far_node, has_end, no_end}
+pub use Rattle.olr_search.specs.Bounds.{AreLengths, IsUnder, label_at, AreBounds}
+pub use Rattle.olr_search.specs.Distances.{Leads}
+pub use Rattle.olr_search.specs.Frontiers.{label_of, frontier_len, IsQueued, IsAlike, Moves, to_do}
+pub use Rattle.olr_search.specs.Searches.{CoversSlots, IsSearch}
+pub use Rattle.olr_search.specs.declared.distances.Dijkstra.{Dijkstra}
+pub use Rattle.olr_search.specs.declared.distances.Direction.TheVariants.{Against, Along}
+pub use Rattle.olr_search.specs.declared.frontier.TheConstants.{GREATEST_LIMIT}
 pub use Rattle.olr_spec.proofs.AscendingLists.{found_has, put_ascends, put_has, stays_has}
 pub use Rattle.olr_spec.proofs.Common.{ChangedLine, Refusal, extended_path, QueriesOfWith, QueriesOfExtendedWith, query_to_with}
 pub use Rattle.olr_spec.proofs.Common.{Detour, IsMap, Map, end, start, dm, Needed, IsRoute, min, ◌*◌, or_left}

@@ -5,7 +5,6 @@ pub mod Distances
 pub mod SearchedLemmas
 pub mod Covering
 pub mod AroundLemmas
-pub mod LongestQueries
 pub mod RetainedLemmas
 pub mod Following
 pub mod RenewedPrefix

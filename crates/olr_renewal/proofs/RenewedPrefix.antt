@@ -8,7 +8,7 @@ use Rattle.olr_renewal.proofs.Common.{◌≤◌, ◌⊎◌, Covers, CountIs, at_
 use Rattle.olr_renewal.proofs.Common.{ChangeSet, with_results, AreReencoded, IsReencoded, ReportsIfOther, encodings_of, entries_of}
 use Rattle.olr_renewal.proofs.Common.{IsRenewal, IsStep, WasBefore, results_at, append_assoc, append-nil, take_more_at}
 use Rattle.olr_paths.proofs.NotedPositions.{all_put-push, put_behind}
-use Rattle.olr_route.specs.Counts.{no_work, raised_count}
+use Rattle.olr_search.specs.Counts.{no_work, raised_count}
 use Rattle.olr_renewal.proofs.RetainedLemmas.{stays_retained, named_affected, stays_unless, touched_by, affected_by}
 use Rattle.olr_renewal.proofs.Passing.{Walked, walked_all}
 

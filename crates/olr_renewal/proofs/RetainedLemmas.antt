@@ -6,9 +6,10 @@ use Rattle.olr_renewal.proofs.Common.{is_path, min, slice_get, subst, ℕ, All, 
 use Rattle.olr_renewal.proofs.Common.{BeginsIn, ToName, Retains, IsActionFor, Action, Skip, Retain, Encode, IsGiven, known_in}
 use Rattle.olr_renewal.proofs.Common.{Touches, LineTouched, QueryTouched, TraversedTouched, known_kept, TraversedOf, IsClear}
 use Rattle.olr_renewal.proofs.Common.{AllByRecursion, Contains, IfSome, true, ◌∷◌, [], Near, GREATEST_LIMIT, Contains-get_or}
+use Rattle.olr_renewal.proofs.Common.{eqb-true, ◌==◌}
 use Rattle.olr_spec.proofs.StayLemmas.{untouched_retained_with}
 use Rattle.olr_spec.proofs.TestedLemmas.{foot_affected_with}
-use Rattle.olr_renewal.proofs.LongestQueries.{within_farthest, farthest_most}
+use Rattle.olr_refs.proofs.QueryRange.{query_short}
 
 -- no coverage query is longer than the greatest limit
 near_wider : {L : Map} {T : List ℕ} {s : ℕ} (d e : ℕ) → d ≤ e → Near L T s d → Near L T s e
@@ -35,7 +36,7 @@ module _ {g : Margin} {M N : Map} (n : IsMap N) {T X : List ℕ} {C : List Chang
         (at_position (AreEncodingsIfAny g M) (λ j. IfSome j.results (IsEncodingOf g M j.path)) (λ x xs h. h) is k i q.results at)
 
     within : (l : CoverageQuery) → Contains m.queries l → l.within ≤ GREATEST_LIMIT
-    within l on = omega (arith, within_farthest g q.margin M P m.queries results.queries l on, farthest_most g)
+    within l on = omega (arith, (query_short g q.margin M P m.queries results.queries l on).1)
 
     nodes_off : ¬ TraversedTouched T m → (v : ℕ) → has T v ≡ true → ¬ TraversedOf M P v
     nodes_off free v on o = free (v, on, (results.traversed v).1 o)
@@ -121,7 +122,12 @@ short_by g most M [] h l b = absurd b
 short_by g most M (i ∷ is) h l (inl b) = of i.results h.0 b where
   of : (o : Option Results) → IfSome o (IsEncodingOf g M i.path) → BeginsIn o l → l.within ≤ farthest g
   of None e b = absurd b
-  of (Some m) e b = within_farthest g most M i.path m.queries e.queries l b
+  of (Some m) e b =
+      let short = query_short g most M i.path m.queries e.queries l b in
+      elim (cases_Bool (g.routes == 0)) [
+        | inl on ↦ rw on (short.0 (eqb-true g.routes 0 on))
+        | inr off ↦ rw off short.1
+      ]
 short_by g most M (i ∷ is) h l (inr b) = short_by g most M is h.1 l b
 
 pub are_short : {g : Margin} {M N : Map} {T X : List ℕ} {C : List ChangedLine} {is : List Item} →

@@ -8,12 +8,12 @@ use Rattle.std.specs.Prelude.{ℕ, ◌≤◌, min, List, map, IsTrue}
 use Rattle.olr_spec.specs.Map.{Map, has_node}
 use Rattle.olr_spec.specs.Queries.{CoverageQuery}
 use Rattle.olr_spec.specs.Detours.{ChangedLine, Near}
-use Rattle.olr_route.specs.Bounds.{AreLengths, label_at}
-use Rattle.olr_route.specs.Searches.{IsSearch}
-use Rattle.olr_route.specs.declared.distances.Dijkstra.{Dijkstra}
-use Rattle.olr_route.specs.declared.distances.Direction.TheVariants.{Along, Against}
-use Rattle.olr_route.specs.declared.distances.Direction.{Direction}
-use Rattle.olr_route.specs.declared.frontier.TheConstants.{GREATEST_LIMIT}
+use Rattle.olr_search.specs.Bounds.{AreLengths, label_at}
+use Rattle.olr_search.specs.Searches.{IsSearch}
+use Rattle.olr_search.specs.declared.distances.Dijkstra.{Dijkstra}
+use Rattle.olr_search.specs.declared.distances.Direction.TheVariants.{Along, Against}
+use Rattle.olr_search.specs.declared.distances.Direction.{Direction}
+use Rattle.olr_search.specs.declared.frontier.TheConstants.{GREATEST_LIMIT}
 use Rattle.olr_paths.specs.Items.{Item}
 use Rattle.olr_renewal.specs.ChangeSets.{nodes_of, changed_of}
 use Rattle.olr_paths.specs.Origins.{Begins}

@@ -25,11 +25,11 @@ use Rattle.std.specs.Prelude.{min}
 use Rattle.std.specs.HashMap.{get}
 use Rattle.olr_spec.specs.Map.{Map, IsMap, has_node, has_line, start, end, dm, SameRound, has}
 use Rattle.olr_spec.specs.Routes.{IsRoute, dm_of}
-use Rattle.olr_route.specs.declared.frontier.TheConstants.{GREATEST_LIMIT}
-use Rattle.olr_route.specs.Bounds.{AreBounds}
-use Rattle.olr_route.specs.Frontiers.{label_of, IsQueued}
-use Rattle.olr_route.specs.declared.distances.Direction.TheVariants.{Against}
-use Rattle.olr_route.specs.declared.frontier.Frontier.{Frontier}
+use Rattle.olr_search.specs.declared.frontier.TheConstants.{GREATEST_LIMIT}
+use Rattle.olr_search.specs.Bounds.{AreBounds}
+use Rattle.olr_search.specs.Frontiers.{label_of, IsQueued}
+use Rattle.olr_search.specs.declared.distances.Direction.TheVariants.{Against}
+use Rattle.olr_search.specs.declared.frontier.Frontier.{Frontier}
 use Rattle.olr_renewal.specs.declared.distance_bounds.DistanceBounds.{DistanceBounds}
 
 abbrev pub source_of : DistanceBounds → ℕ → Option ℕ

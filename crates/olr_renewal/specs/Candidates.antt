@@ -17,7 +17,7 @@ use Rattle.olr_renewal.specs.ChangeSets.{nodes_of, lines_of}
 use Rattle.olr_renewal.specs.AffectedSearches.{IsSearchedFor}
 use Rattle.olr_paths.specs.Origins.{Begins, BeginsIn}
 use Rattle.olr_renewal.specs.declared.change_set.ChangeSet.{ChangeSet}
-use Rattle.olr_route.specs.declared.distances.Dijkstra.{Dijkstra}
+use Rattle.olr_search.specs.declared.distances.Dijkstra.{Dijkstra}
 
 abbrev pub Includes : List ℕ → List ℕ → Type 0
 Includes xs ys = (k : ℕ) → IsTrue (has xs k) → IsTrue (has ys k)

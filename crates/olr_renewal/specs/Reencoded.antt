@@ -22,7 +22,7 @@ use Rattle.std.specs.Prelude.{◌≡◌, ◌≢◌, ℕ, List, [], ◌∷◌, �
 use Rattle.olr_spec.specs.Map.{Map}
 use Rattle.olr_spec.specs.Margins.{Margin}
 use Rattle.olr_spec.specs.Queries.{AreKnownWith}
-use Rattle.olr_route.specs.Counts.{raised_count}
+use Rattle.olr_search.specs.Counts.{raised_count}
 use Rattle.olr_commands.specs.Counts.{CountIs}
 use Rattle.olr_commands.specs.Words.{entry_of}
 use Rattle.olr_spec.specs.Encoding.{Answer}

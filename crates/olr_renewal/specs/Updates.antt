@@ -9,7 +9,7 @@
 use Rattle.std.specs.Prelude.{ℕ, ◌≤◌, List, length}
 use Rattle.olr_spec.specs.Map.{Map}
 use Rattle.olr_spec.specs.Queries.{CoverageQuery}
-use Rattle.olr_route.specs.declared.distances.Dijkstra.{Dijkstra}
+use Rattle.olr_search.specs.declared.distances.Dijkstra.{Dijkstra}
 use Rattle.olr_paths.specs.Items.{Item}
 use Rattle.olr_paths.specs.Origins.{AreShort}
 use Rattle.olr_renewal.specs.Actions.{ToSkip, ToName, IsActionFor}

@@ -10,7 +10,7 @@ use crate::update::MapUpdate;
 use olr_answers::KnownQuery;
 use olr_model::MapRead;
 use olr_paths::PathView;
-use olr_route::Dijkstra;
+use olr_search::Dijkstra;
 use std::alloc::AllocError;
 
 /// The action for a path.

@@ -6,13 +6,13 @@ ghost use Rattle.olr_commands.specs.Words.{entry_of};
 ghost use Rattle.olr_paths.specs.Items.{items, all_named, results_of, results_of_named};
 ghost use Rattle.olr_renewal.specs.Encoded.{IsAdded, IsSet};
 
-use crate::encoding::{EncodedPath, encode};
+use crate::encoding::encode;
 use crate::renewal::{Renewed, push_if_changed};
 use olr_commands::Entry;
 use olr_model::MapRead;
-use olr_paths::{NamedPath, PathList};
+use olr_paths::{NamedPath, PathList, Published};
 use olr_refs::{Margin, Path};
-use olr_route::Dijkstra;
+use olr_search::{Dijkstra, Work};
 use std::alloc::{AllocError, Global};
 use std::rc::Rc;
 
@@ -20,36 +20,35 @@ use std::rc::Rc;
 fn renewed_alone(
     alloc: Global,
     entries: Vec<Entry>,
-    encoded: &EncodedPath,
+    published: &Published,
 ) -> Result<Renewed, AllocError>
     ensures entries { IfOk result (λ r. r.entries ≡ entries) }
-    ensures work { IfOk result (λ r. r.work ≡ encoded.now.work) }
-    ensures queries { IfOk result (λ r. r.queries.items ≡ (results_of encoded.now.published.value).queries) }
+    ensures counted { IfOk result (λ r. r.work.encodings ≡ 1) }
+    ensures queries { IfOk result (λ r. r.queries.items ≡ (results_of published.now).queries) }
 {
-    let queries = Vec::from_slice(alloc, encoded.published.queries())?;
+    let queries = Vec::from_slice(alloc, published.queries())?;
     Ok(Renewed {
         entries,
-        work: encoded.work,
+        work: Work::none().encoded(),
         queries,
         wasted_labels: 0,
     })
 }
 
 /// The entries that name a path which was not registered.
-fn entry_alone(alloc: Global, name: &str, encoded: &EncodedPath) -> Result<Vec<Entry>, AllocError>
-    ensures { IfOk result (λ es. list_map entry_of es.items ≡ entry name.now (results_of encoded.now.published.value).answer ∷ []) }
+fn entry_alone(alloc: Global, name: &str, published: &Published) -> Result<Vec<Entry>, AllocError>
+    ensures { IfOk result (λ es. list_map entry_of es.items ≡ entry name.now (results_of published.now).answer ∷ []) }
 {
     let mut entries = Vec::new(alloc);
-    entries.push(encoded.published.entry(alloc, name)?)?;
+    entries.push(published.entry(alloc, name)?)?;
     Ok(entries)
 }
 
 /// The path with what is published of it.
-fn named(alloc: Global, path: Path, encoded: EncodedPath) -> Result<NamedPath, AllocError>
+fn named(alloc: Global, path: Path, published: Rc<Published>) -> Result<NamedPath, AllocError>
     ensures path { IfOk result (λ n. n.path.value ≡ path) }
-    ensures results { IfOk result (λ n. results_of_named n ≡ Some (results_of encoded.published.value)) }
+    ensures results { IfOk result (λ n. results_of_named n ≡ Some (results_of published.value)) }
 {
-    let EncodedPath { published, .. } = encoded;
     Ok(NamedPath {
         path: Rc::new(alloc, path)?,
         published: Some(published),
@@ -71,10 +70,10 @@ pub fn add<M: MapRead>(
     ensures added { IfOk result (IsAdded margin (M.map map.now) (items list.old) (items list.new) (string_bytes name) path) }
     ensures err { OnErr result (items list.new ≡ items list.old) }
 {
-    let encoded = encode(alloc, map, &path, margin, &[], query)?;
-    let entries = entry_alone(alloc, name.as_str(), &encoded)?;
-    let renewed = renewed_alone(alloc, entries, &encoded)?;
-    list.push(name, named(alloc, path, encoded)?)?;
+    let published = encode(alloc, map, &path, margin, &[], query)?;
+    let entries = entry_alone(alloc, name.as_str(), &published)?;
+    let renewed = renewed_alone(alloc, entries, &published)?;
+    list.push(name, named(alloc, path, published)?)?;
     Ok(renewed)
 }
 
@@ -92,10 +91,10 @@ pub fn set<M: MapRead>(
     ensures set { IfOk result (IsSet margin (M.map map.now) (items list.old) (items list.new) name.now path) }
     ensures err { OnErr result (items list.new ≡ items list.old) }
 {
-    let encoded = encode(alloc, map, &path, margin, &[], query)?;
+    let published = encode(alloc, map, &path, margin, &[], query)?;
     let mut entries = Vec::new(alloc);
-    push_if_changed(alloc, list, name, &encoded.published, &mut entries)?;
-    let renewed = renewed_alone(alloc, entries, &encoded)?;
-    list.replace(name, named(alloc, path, encoded)?)?;
+    push_if_changed(alloc, list, name, &published, &mut entries)?;
+    let renewed = renewed_alone(alloc, entries, &published)?;
+    list.replace(name, named(alloc, path, published)?)?;
     Ok(renewed)
 }

@@ -19,7 +19,7 @@ use crate::update::MapUpdate;
 use olr_answers::{CoverageQuery, Margin, Path};
 use olr_model::{Footprint, LineId, MapRead};
 use olr_paths::{OverlaidList, PathList, Published};
-use olr_route::{Dijkstra, Direction, GREATEST_LIMIT, LEG_LIMIT};
+use olr_search::{Dijkstra, Direction, GREATEST_LIMIT, LEG_LIMIT};
 use std::alloc::AllocError;
 
 /// The greatest length of a coverage query with a margin, in decimetres.

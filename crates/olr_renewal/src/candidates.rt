@@ -16,7 +16,7 @@ use crate::distance_bounds::DistanceBounds;
 use crate::update::MapUpdate;
 use olr_model::MapRead;
 use olr_paths::{Index, Numbered, OverlaidList, PathList};
-use olr_route::Dijkstra;
+use olr_search::Dijkstra;
 use std::alloc::AllocError;
 
 /// The position of the path with this id, by binary search.

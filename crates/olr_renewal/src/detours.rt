@@ -3,8 +3,8 @@ ghost use Rattle.std.specs.Prelude.{◌≡◌, ◌<◌, ◌≤◌, ◌↔◌, �
 ghost use Rattle.olr_spec.specs.Map.{Map, IsMap, has_node};
 ghost use Rattle.olr_spec.specs.Detours.{Detour};
 ghost use Rattle.olr_spec.specs.Queries.{IsClear};
-ghost use Rattle.olr_route.specs.Distances.{Leads};
-ghost use Rattle.olr_route.specs.Searches.{IsSearch};
+ghost use Rattle.olr_search.specs.Distances.{Leads};
+ghost use Rattle.olr_search.specs.Searches.{IsSearch};
 ghost use Rattle.olr_paths.specs.Changes.{StayKnown};
 ghost use Rattle.olr_renewal.specs.AffectedSearches.{AreDetours};
 ghost use Rattle.olr_renewal.specs.ChangeSets.{changed_of};
@@ -16,7 +16,7 @@ use crate::sources::begin_at;
 use crate::update::MapUpdate;
 use olr_answers::{CoverageQuery, KnownQuery};
 use olr_model::MapRead;
-use olr_route::{Dijkstra, Direction, GREATEST_LIMIT};
+use olr_search::{Dijkstra, Direction, GREATEST_LIMIT};
 use std::alloc::AllocError;
 
 /// The searches for detours over changed lines. Each renewal starts them again, and each test continues them.

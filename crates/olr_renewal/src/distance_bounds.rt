@@ -2,12 +2,12 @@
 ghost use Rattle.std.specs.Prelude.{◌≡◌, ◌≤◌, ℕ, Option, Some, OnOk, IsTrue, nat_eq};
 ghost use Rattle.std.specs.HashMap.{get};
 ghost use Rattle.olr_spec.specs.Map.{has_node};
-ghost use Rattle.olr_route.specs.Frontiers.{Moves, label_of};
-ghost use Rattle.olr_route.specs.Searches.{CoversSlots};
+ghost use Rattle.olr_search.specs.Frontiers.{Moves, label_of};
+ghost use Rattle.olr_search.specs.Searches.{CoversSlots};
 ghost use Rattle.olr_renewal.specs.Bounds.{AreLed, IsFollowed};
 
 use olr_model::{MapRead, NodeId, NumberHasher};
-use olr_route::{Direction, Frontier, GREATEST_LIMIT, ends_from};
+use olr_search::{Direction, Frontier, GREATEST_LIMIT, ends_from};
 use std::alloc::{AllocError, Global};
 use std::collections::HashMap;
 use std::hash::BuildHasherDefault;

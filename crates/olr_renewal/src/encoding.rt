@@ -8,16 +8,9 @@ use olr_answers::KnownQuery;
 use olr_model::MapRead;
 use olr_paths::Published;
 use olr_refs::{Encoding, Margin, Path, encode_again};
-use olr_route::{Dijkstra, Work};
+use olr_search::Dijkstra;
 use std::alloc::{AllocError, Global};
 use std::rc::Rc;
-
-/// What is published of a path that was encoded, and the work.
-#[derive(Drop)]
-pub(crate) struct EncodedPath {
-    pub(crate) published: Rc<Published>,
-    pub(crate) work: Work,
-}
 
 /// What is published of an encoding.
 fn published_of(alloc: Global, encoding: Encoding) -> Result<Published, AllocError>
@@ -34,7 +27,6 @@ fn published_of(alloc: Global, encoding: Encoding) -> Result<Published, AllocErr
         traversed,
         queries,
         known,
-        work: _,
     } = encoding;
     drop(own);
     Published::new(alloc, answer, traversed, queries, known)
@@ -48,13 +40,11 @@ pub(crate) fn encode<M: MapRead>(
     margin: Margin,
     known: &[KnownQuery],
     query: &mut Dijkstra,
-) -> Result<EncodedPath, AllocError>
+) -> Result<Rc<Published>, AllocError>
     requires { AreKnownWith margin (M.map map.now) path.now.lines known.now }
-    ensures results { IfOk result (λ r. IsEncodingOf margin (M.map map.now) path.now (results_of r.published.value)) }
-    ensures counted { IfOk result (λ r. r.work.encodings ≡ 1) }
+    ensures { IfOk result (λ p. IsEncodingOf margin (M.map map.now) path.now (results_of p.value)) }
 {
     let encoding = encode_again(alloc, map, path, margin, known, query)?;
-    let work = encoding.work;
     let published = Rc::new(alloc, published_of(alloc, encoding)?)?;
-    Ok(EncodedPath { published, work })
+    Ok(published)
 }

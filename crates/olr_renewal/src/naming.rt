@@ -12,7 +12,7 @@ use crate::searches::Searches;
 use crate::update::MapUpdate;
 use olr_model::MapRead;
 use olr_paths::{OverlaidList, Overlay, PathList};
-use olr_route::Dijkstra;
+use olr_search::Dijkstra;
 use std::alloc::AllocError;
 
 /// The names of the paths that edits would affect, after the search from what they touch.

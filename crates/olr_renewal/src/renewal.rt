@@ -15,7 +15,7 @@ ghost use Rattle.olr_renewal.specs.declared.change_set.ChangeSet.{ChangeSet as T
 use crate::actions::{Action, decide};
 use crate::affected::find_candidates;
 use crate::detours::{Detours, begin_detours};
-use crate::encoding::{EncodedPath, encode};
+use crate::encoding::encode;
 use crate::searches::Searches;
 use crate::update::MapUpdate;
 use olr_answers::KnownQuery;
@@ -23,7 +23,7 @@ use olr_commands::Entry;
 use olr_model::MapRead;
 use olr_paths::{NamedPath, OverlaidList, PathList, PathView, Published};
 use olr_refs::CoverageQuery;
-use olr_route::{Dijkstra, Work};
+use olr_search::{Dijkstra, Work};
 use std::alloc::{AllocError, Global};
 
 /// Appends the entry of a path, if its answer differs from that of its name in an earlier list.
@@ -70,7 +70,7 @@ pub struct Renewal {
 
 impl Renewal {
     ghost use Rattle.std.specs.Prelude.{◌≡◌, []};
-    ghost use Rattle.olr_route.specs.Counts.{no_work};
+    ghost use Rattle.olr_search.specs.Counts.{no_work};
 
     /// Of a list without affected paths. Takes no memory.
     pub(crate) fn none(alloc: Global) -> Renewal
@@ -104,14 +104,13 @@ impl Renewal {
             (shown_item shown.entry) position self.old self.new) }
     {
         let alloc = update.alloc;
-        let encoded = encode(alloc, update.map, shown.path, update.margin, known, query)?;
-        let EncodedPath { published, work } = encoded;
+        let published = encode(alloc, update.map, shown.path, update.margin, known, query)?;
         let entries = &mut self.renewed.entries;
         push_if_changed(alloc, before, shown.name, &published, entries)?;
         let path = shown.path.clone()?;
         let published = Some(published);
         self.fresh.push((position, NamedPath { path, published }))?;
-        self.renewed.work = self.renewed.work.plus(work);
+        self.renewed.work = self.renewed.work.encoded();
         Ok(())
     }
 
@@ -133,10 +132,7 @@ impl Renewal {
         match action {
             Action::Skip => (),
             Action::Retain => {
-                self.renewed.work = self.renewed.work.plus(Work {
-                    encodings: 1,
-                    ..Work::none()
-                });
+                self.renewed.work = self.renewed.work.encoded();
             }
             Action::Encode(known) => {
                 self.encode_at(update, before, position, shown, &known, query)?;

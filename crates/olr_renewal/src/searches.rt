@@ -2,7 +2,7 @@
 
 use crate::detours::Detours;
 use crate::distance_bounds::DistanceBounds;
-use olr_route::Dijkstra;
+use olr_search::Dijkstra;
 use std::alloc::Global;
 
 /// Distance bounds for the coverage queries of a list, and searches that are restarted for each renewal, so that their

@@ -1,13 +1,13 @@
 //! Where the searches of a renewal begin.
 ghost use Rattle.std.specs.Prelude.{◌≡◌, ℕ, map as list_map, OnOk};
-ghost use Rattle.olr_route.specs.Searches.{IsSearch};
-ghost use Rattle.olr_route.specs.declared.distances.Direction.{Direction};
+ghost use Rattle.olr_search.specs.Searches.{IsSearch};
+ghost use Rattle.olr_search.specs.declared.distances.Direction.{Direction};
 ghost use Rattle.olr_renewal.specs.AffectedSearches.{source_in};
 ghost use Rattle.olr_renewal.specs.ChangeSets.{change_of};
 
 use crate::change_set::ChangedLine;
 use olr_model::{MapRead, NodeId};
-use olr_route::{Dijkstra, Direction};
+use olr_search::{Dijkstra, Direction};
 use std::alloc::{AllocError, Global};
 
 /// What a search can begin at.

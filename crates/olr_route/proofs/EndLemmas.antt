@@ -5,9 +5,9 @@ use Rattle.olr_route.proofs.Common.{IsRoute, dm_of, Least, Leads, IsDistance, Al
 use Rattle.olr_route.proofs.Common.{eqb, eqb-true, eq-eqb, Against, Contains-one, ascend_in, Contains-here}
 use Rattle.std.specs.Option.{option_eq}
 use Rattle.olr_spec.proofs.AscendingLists.{ascends}
-use Rattle.olr_route.proofs.RouteEnds.{last_step, dm_of-line}
-use Rattle.olr_route.proofs.ReadLemmas.{found_at}
-use Rattle.olr_route.proofs.WayLemmas.{leads_on}
+use Rattle.olr_search.proofs.RouteEnds.{last_step, dm_of-line}
+use Rattle.olr_search.proofs.ReadLemmas.{found_at}
+use Rattle.olr_search.proofs.WayLemmas.{leads_on}
 
 -- what `==` says of an option and a number
 pub option_is : (o : Option ℕ) (n : ℕ) → IsTrue (option_eq eqb o (Some n)) ↔ (o ≡ Some n)

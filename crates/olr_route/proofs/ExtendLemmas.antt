@@ -3,7 +3,7 @@ use Rattle.olr_route.proofs.Common.{ℕ, zero, suc, ◌+◌, ◌<◌, ◌≤◌,
 use Rattle.olr_route.proofs.Common.{subst, arith, length, Map, IsMap, start, end, dm, IsRoute, dm_of, LeastWithin, one_least}
 use Rattle.olr_route.proofs.Common.{prefix_of_least, false≢true, append-nil, AllWithin, HoldsAt, dm_of-append}
 use Rattle.std.proofs.Common.{append_assoc, MatchBool}
-use Rattle.olr_route.proofs.RouteEnds.{last_step, route_on, dm_of-line}
+use Rattle.olr_search.proofs.RouteEnds.{last_step, route_on, dm_of-line}
 
 -- if the shortest path ends with line x, the line extends the one to its start
 pub same_front : (M : Map) → IsMap M → (s limit x : ℕ) (route front : List ℕ) → LeastWithin M s limit (start M x) route →

@@ -5,9 +5,9 @@ use Rattle.olr_route.proofs.Common.{LeastWithin, IsLabel, AreLabels, limit_of, e
 use Rattle.olr_route.proofs.Common.{Along, get_or_default, FirstSmaller, last_first, route_start}
 use Rattle.std.proofs.Common.{MatchOption, reverse}
 use Rattle.olr_route.specs.declared.labels.Labels.{Labels}
-use Rattle.olr_route.proofs.RouteEnds.{ends_of, dm_of-line, route_on, last_step, same_last}
-use Rattle.olr_route.proofs.RouteEnds.Ends.{empty, ended}
-use Rattle.olr_route.proofs.SearchLemmas.{near_leads}
+use Rattle.olr_search.proofs.RouteEnds.{ends_of, dm_of-line, route_on, last_step, same_last}
+use Rattle.olr_search.proofs.RouteEnds.Ends.{empty, ended}
+use Rattle.olr_search.proofs.SearchLemmas.{near_leads}
 use Rattle.olr_route.proofs.EndLemmas.{leads_route, route_leads, distance_le, ends_route, least_long}
 
 module _ (M : Map) (m : IsMap M) (s limit : ℕ)

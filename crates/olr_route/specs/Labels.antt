@@ -8,18 +8,21 @@
 --     limit_of x      the limit of the labels x, in decimetres
 --     AreLabels M slot s x      x has the labels of the nodes to which a route from s within the limit leads, on the map M
 --         with its nodes' slots
+--     Counts M direction from limit n      n nodes have a distance of at most the limit
 --     after_search w n      the work after one more search, which settled n nodes
-use Rattle.std.specs.Prelude.{◌≡◌, ◌↔◌, ℕ, ◌+◌, ◌<◌, ◌≤◌, List, [], ◌∷◌, Option, Some, None, IsTrue, Contains, length}
+use Rattle.std.specs.Prelude.{◌≡◌, ◌==◌, ◌↔◌, ℕ, ◌+◌, ◌<◌, ◌≤◌, List, [], ◌∷◌, Option, Some, None, IsTrue, Contains, length}
 use Rattle.std.specs.Prelude.{slice_index, slice_index_or}
+use Rattle.std.specs.List.{IsDistinct}
 use Rattle.std.specs.List.Sorted.{IsStrictlyIncreasing}
 use Rattle.olr_spec.specs.Map.{Map, IsMap, has_line, start, end, dm}
 use Rattle.olr_spec.specs.Routes.{dm_of, Least}
-use Rattle.olr_route.specs.Counts.{saturated_count}
-use Rattle.olr_route.specs.Distances.{IsDistance}
-use Rattle.olr_route.specs.Searches.{IsSearch, LiesWithin}
-use Rattle.olr_route.specs.declared.distances.Dijkstra.{Dijkstra}
-use Rattle.olr_route.specs.declared.distances.Direction.TheVariants.{Along}
-use Rattle.olr_route.specs.declared.work.Work.{Work}
+use Rattle.olr_search.specs.Counts.{saturated_count}
+use Rattle.olr_search.specs.Distances.{IsDistance}
+use Rattle.olr_search.specs.Searches.{IsSearch, LiesWithin}
+use Rattle.olr_search.specs.declared.distances.Dijkstra.{Dijkstra}
+use Rattle.olr_search.specs.declared.distances.Direction.{Direction}
+use Rattle.olr_search.specs.declared.distances.Direction.TheVariants.{Along}
+use Rattle.olr_search.specs.declared.work.Work.{Work}
 use Rattle.olr_route.specs.declared.labels.Labels.{Labels}
 
 pub record LeastWithin (M : Map) (s limit t : ℕ) (xs : List ℕ) : Type 0 where
@@ -57,6 +60,12 @@ pub record AreLabels (M : Map) (slot : ℕ → ℕ) (s : ℕ) (x : Labels) : Typ
   pub near : (v : ℕ) → Contains x.nodes.items v ↔ LiesWithin M Along ((s, 0) ∷ []) (limit_of x) v
   pub each : (i : ℕ) → i < length x.nodes.items →
       IsLabel M s (limit_of x) (slice_index x.nodes.items i) (slice_index_or x.labels.items i (0, None))
+
+pub record Counts (M : Map) (direction : Direction) (from : List (ℕ × ℕ)) (limit n : ℕ) : Type 0 where
+  pub nodes : List ℕ
+  pub apart : IsDistinct ◌==◌ nodes
+  pub exactly : (v : ℕ) → Contains nodes v ↔ LiesWithin M direction from limit v
+  pub many : length nodes ≡ n
 
 abbrev pub after_search : Work → ℕ → Work
 after_search w n = record w { searches = saturated_count (w.searches + 1); settled = saturated_count (w.settled + n) }

@@ -1,11 +1,1 @@
-pub mod Counts
-pub mod Entries
-pub mod Notes
-pub mod Queues
-pub mod Frontiers
-pub mod Distances
-pub mod Searches
-pub mod Lengths
-pub mod Bounds
-pub mod ResolvedLines
 pub mod Labels

@@ -1,8 +1,8 @@
 //! The labels of a search.
 ghost use Rattle.std.specs.Prelude.{◌≡◌, length};
 
-use crate::distances::Dijkstra;
 use olr_model::{LineId, NodeId};
+use olr_search::Dijkstra;
 
 /// The length of the shortest path to a node, and its last line.
 pub type Label = (u32, Option<LineId>);
@@ -22,9 +22,9 @@ pub struct Labels {
 impl Labels {
     ghost use Rattle.std.specs.Prelude.{◌↔◌, ◌≤◌, ℕ, ◌∷◌, [], ◌++◌, List, Some, MatchOption};
     ghost use Rattle.olr_spec.specs.Map.{Map};
-    ghost use Rattle.olr_route.specs.Distances.{IsDistance};
-    ghost use Rattle.olr_route.specs.Searches.{LiesWithin};
-    ghost use Rattle.olr_route.specs.declared.distances.Direction.TheVariants.{Along};
+    ghost use Rattle.olr_search.specs.Distances.{IsDistance};
+    ghost use Rattle.olr_search.specs.Searches.{LiesWithin};
+    ghost use Rattle.olr_search.specs.declared.distances.Direction.TheVariants.{Along};
     ghost use Rattle.olr_route.specs.Labels.{LeastWithin, IsLabel, AreLabels, limit_of};
 
     /// The label of a node.

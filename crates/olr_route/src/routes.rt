@@ -1,16 +1,32 @@
 //! The search for shortest paths within a limit.
 ghost use Rattle.std.specs.Prelude.{◌≡◌, ◌≤◌, ◌↔◌, ◌⊎◌, ◌∷◌, [], ℕ, Contains, IsTrue, IfOk, OnOk, length};
 ghost use Rattle.olr_spec.specs.Map.{has_node, has_line, end};
-ghost use Rattle.olr_route.specs.Searches.{IsSearch, Counts, LiesWithin, limit_of as search_limit};
-ghost use Rattle.olr_route.specs.declared.distances.Direction.TheVariants.{Along};
-ghost use Rattle.olr_route.specs.Labels.{EndsRoute, IsFound, IsLast, after_search, AreLabels, limit_of};
+ghost use Rattle.olr_search.specs.Searches.{IsSearch, LiesWithin, limit_of as search_limit};
+ghost use Rattle.olr_search.specs.declared.distances.Direction.TheVariants.{Along};
+ghost use Rattle.olr_route.specs.Labels.{Counts, EndsRoute, IsFound, IsLast, after_search, AreLabels, limit_of};
 
-use crate::distances::{Dijkstra, Direction, settled_search};
-use crate::frontier::GREATEST_LIMIT;
 use crate::labels::Labels;
-use crate::work::Work;
 use olr_model::{Footprint, LineId, MapRead, NodeId};
+use olr_search::{Dijkstra, Direction, GREATEST_LIMIT, Work};
 use std::alloc::{AllocError, Global};
+
+/// A search from some nodes, each with a start value, settled to a limit. All in decimetres.
+pub fn settled_search<M: MapRead>(
+    alloc: Global,
+    map: &M,
+    direction: Direction,
+    from: &[(NodeId, u32)],
+    limit: u32,
+) -> Result<Dijkstra, AllocError>
+    requires { limit ≤ GREATEST_LIMIT }
+    ensures search { IfOk result (λ search. IsSearch (M.map map.now) (M.node_slot map.now) direction from.now search) }
+    ensures limit { IfOk result (λ search. search_limit search ≡ limit) }
+{
+    let mut search = Dijkstra::new(alloc);
+    search.begin(map, direction, from)?;
+    search.settle_to(map, limit)?;
+    Ok(search)
+}
 
 /// Whether a line ends a shortest route of this length to a node that it enters.
 fn ends_route<M: MapRead>(map: &M, settled: &Dijkstra, line: LineId, length: u32) -> bool

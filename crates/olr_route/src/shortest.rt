@@ -6,8 +6,8 @@ ghost use Rattle.olr_spec.specs.Routes.{IsRoute, UniqueShortest, dm_of};
 ghost use Rattle.olr_route.specs.Labels.{LeastWithin, AreLabels, limit_of};
 
 use crate::labels::Labels;
-use crate::resolved::resolve_line;
 use olr_model::{LineId, MapRead};
+use olr_search::resolve_line;
 
 /// Whether a line extends the shortest path to its start to the shortest path to its end, within the limit.
 fn extends_least<M: MapRead>(map: &M, labels: &Labels, line: LineId) -> bool
@@ -24,7 +24,7 @@ fn extends_least<M: MapRead>(map: &M, labels: &Labels, line: LineId) -> bool
 
 /// Whether a line extends the unique shortest path to its start to the unique shortest path to its end. Unspecified if
 /// the extended path is longer than the limit.
-#[tactic(auto, using(crate::proofs::RouteEnds::last_step))]
+#[tactic(auto, using(olr_search::proofs::RouteEnds::last_step))]
 fn extends_unique<M: MapRead>(map: &M, labels: &Labels, line: LineId) -> bool
     ensures { (s : ℕ) (route : List ℕ) → AreLabels (M.map map.now) (M.node_slot map.now) s labels.now
         → UniqueShortest (M.map map.now) s (start (M.map map.now) line) route

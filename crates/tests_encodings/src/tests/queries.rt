@@ -17,9 +17,11 @@ pub type Seen = (u32, u32, u32);
 /// What is expected of an encoding: its traversed nodes, and its coverage queries.
 type Wanted = (&'static [u32], &'static [Seen]);
 
-/// The traversed nodes, and those that a route of at most the length of a coverage query reaches from its start.
-fn seen(rt: &impl Abort, alloc: Global, map: &RoadMap, encoding: &Encoding) -> Footprint {
+/// The traversed nodes, and those that a route of at most the length of a coverage query reaches from its start; and how
+/// many the latter are for all queries in total.
+fn seen(rt: &impl Abort, alloc: Global, map: &RoadMap, encoding: &Encoding) -> (Footprint, u64) {
     let mut nodes = Footprint::new(alloc);
+    let mut reached_by_all: u64 = 0;
     let noted = nodes.note_all(encoding.traversed.as_slice());
     noted.expect(rt, "memory");
     for query in &encoding.queries {
@@ -29,13 +31,14 @@ fn seen(rt: &impl Abort, alloc: Global, map: &RoadMap, encoding: &Encoding) -> F
         let reached = search.expect(rt, "memory").nodes(alloc, map);
         for node in &reached.expect(rt, "memory") {
             nodes.note(*node).expect(rt, "memory");
+            reached_by_all = reached_by_all.saturating_add(1);
         }
     }
-    nodes
+    (nodes, reached_by_all)
 }
 
 /// The answer of a path with a margin, by `refer_with`. Asserts that the traversed nodes of its encoding and its queries make
-/// up the footprint, and that finding it takes the work of the encoding.
+/// up the footprint, which a search for each of these finds.
 pub fn expect_footprint(
     rt: &impl Abort,
     alloc: Global,
@@ -44,12 +47,14 @@ pub fn expect_footprint(
     margin: Margin,
     encoding: &Encoding,
 ) -> Answer {
-    let wanted = seen(rt, alloc, map, encoding);
+    let (wanted, settled) = seen(rt, alloc, map, encoding);
     let mut work = Work::default();
     let referred = refer_with(alloc, map, path, margin, &mut work);
     let (answer, found) = referred.expect(rt, "memory");
     assert_eq!(rt; found.as_slice(), wanted.as_slice(), "the footprint");
-    assert_eq!(rt; work, encoding.work, "the work");
+    let searches = encoding.queries.len() as u64;
+    let counted = (work.encodings, work.searches, work.settled);
+    assert_eq!(rt; counted, (1, searches, settled), "the work");
     answer
 }
 
@@ -94,9 +99,6 @@ fn expect_queries(rt: &impl Abort, alloc: Global, map: &RoadMap, plain: PlainPat
     let mut search = Dijkstra::new(alloc);
     let encoding = encode(alloc, map, &path, Margin::none(), &mut search).expect(rt, "memory");
     expect_seen(rt, alloc, &encoding, wanted, plain);
-    let searches = encoding.queries.len() as u64;
-    let counted = (encoding.work.encodings, encoding.work.searches);
-    assert_eq!(rt; counted, (1, searches), "of {plain:?}");
     let _ = expect_footprint(rt, alloc, map, &path, Margin::none(), &encoding);
 }
 

@@ -5,7 +5,7 @@ use Rattle.olr_refs.proofs.chosen.points.Goals as goal
 
 pub loop-last-preserved : goal.loop-last-preserved
 loop-last-preserved g c = gone_more _ _ _ _
-    c.loop-last.positions.items c.push-in-loop-last.new.self.items c.loop-last.last c.in-Some.next _ _ _ _ _
+    c.loop-last.positions.items c.push-in-loop-last.new.self.items c.loop-last.last c.in-Some.next _ _
     c.loop-last.invariant c.in_ok-reach.ensures.queried c.in-Some.ensures c.in_ok-push-2.ensures.items
 
 pub returns-in_default : goal.returns-in_default
@@ -19,7 +19,7 @@ returns-in_default g c =
       queried = (
         s.points,
         led.0,
-        ended _ M ls _ c.loop-last.positions.items c.loop-last.last _ _ _ _ _ s c.in_ok-reach.ensures.queried,
+        ended _ M ls _ c.loop-last.positions.items c.loop-last.last _ _ s c.in_ok-reach.ensures.queried,
       );
     }
 
@@ -35,6 +35,6 @@ returns g c =
       queried = (
         s.points,
         led.0,
-        ended_there _ M ls _ c.loop-last.positions.items c.loop-last.last _ _ _ s (omega arith),
+        ended_there _ M ls _ c.loop-last.positions.items c.loop-last.last _ s (omega arith),
       );
     }

@@ -108,7 +108,7 @@ returns-then-not-extends_unique_shortest g c =
     let t =
     covered_so_far _ (M g at) (m g at) (ls g at) _ _ c.args.resolved.now.joined
     c.requires.last_near c.loop-k.k (omega arith) (omega arith) (c.loop-k.invariant.whether.0 refl) no_more in
-    record { reach = t.0; last = t.1; long = on.long; search = on.search; no_farther = on.settled }
+    record { reach = t.0; last = t.1; long = on.long }
 
 pub returns : goal.returns
 returns g c =
@@ -121,7 +121,7 @@ returns g c =
     let all =
     all_covered margin M (g.met.M.MapRead.sound c.args.resolved.now.map.now) ls _ _
     c.args.resolved.now.joined c.requires.last_near c.max-end.result c.requires.some (omega arith) (t.whether.0 refl) in
-    record { reach = all.0; last = all.1; long = t.long; search = t.search; no_farther = t.settled }
+    record { reach = all.0; last = all.1; long = t.long }
 
 pub extends_unique_shortest-requires : goal.extends_unique_shortest-requires
 extends_unique_shortest-requires g c =

@@ -15,8 +15,8 @@ returns g c =
     let reach : c.if-known-2.reach ≡ (if known.covered then c.args.last_near else c.args.reuse.now.lead + known.last - 1) =
     elim c.if-known-2.branch [ then-known-2 w ↦ grind arith | else-known-2 w ↦ grind arith ] in
     let result : Found =
-    record { reach = c.if-known-2.reach; query = c.known.inside.query; own = Some known; work = c.none.result } in
+    record { reach = c.if-known-2.reach; query = c.known.inside.query; own = Some known } in
     let query : c.known.inside.query ≡ known.query = grind arith in
     answered_known _ _ (g.met.M.MapRead.sound c.args.resolved.now.map.now) _ _
     c.requires.reuse c.args.resolved.now.joined _ _ c.requires.some c.requires.last_near known at.0
-    (omega arith) (grind arith, λ t. grind arith) result reach query refl c.none.ensures
+    (omega arith) (grind arith, λ t. grind arith) result reach query refl

@@ -1,5 +1,5 @@
 use Rattle.olr_route.proofs.Common.{◌≡◌, ◌<◌, ◌∷◌, [], ℕ, None, length, get_or, Along, IsLabel, IsSearch}
-use Rattle.olr_route.specs.Searches.{limit_of}
+use Rattle.olr_search.specs.Searches.{limit_of}
 use Rattle.olr_route.proofs.routes.labels_of.Given as goal
 
 abbrev pub invariant-loop-node : goal.invariant-loop-node

@@ -1,6 +1,6 @@
 use Rattle.olr_route.proofs.Common.{Against, ℕ, Some, get_or, arith, sym, subst, ◌∙◌, ◌↔◌, IsTrue, IsFound, IsLast, EndsRoute}
 use Rattle.olr_route.proofs.Common.{get_or_default_zero, below_more, false≢true}
-use Rattle.olr_route.proofs.ReadLemmas.{read_at}
+use Rattle.olr_search.proofs.ReadLemmas.{read_at}
 use Rattle.olr_route.proofs.EndLemmas.{first_is_last, none_is_last}
 use Rattle.olr_route.proofs.routes.last_line.Given.{Over}
 use Rattle.olr_route.proofs.routes.last_line.Goals.{After-ends_route}

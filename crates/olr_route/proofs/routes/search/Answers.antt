@@ -1,6 +1,6 @@
 use Rattle.olr_route.proofs.Common.{◌∷◌, [], ◌⊎◌, ◌↔◌, ℕ, List, Contains, length, refl, sym, subst, inl, inr, ◌∙◌, Along}
 use Rattle.olr_route.proofs.Common.{IsStrictlyIncreasing, LiesWithin, Counts, rules, distinct_from_ascending}
-use Rattle.olr_route.proofs.DistinctLemmas.{no_more}
+use Rattle.olr_search.proofs.DistinctLemmas.{no_more}
 use Rattle.olr_route.proofs.routes.search.Given.{Over}
 use Rattle.olr_route.proofs.routes.search.Goals.{In_ok-labels}
 use Rattle.olr_route.proofs.routes.search.Goals as goal

@@ -1,7 +1,7 @@
 use Rattle.olr_route.proofs.Common.{◌∷◌, [], ◌++◌, ℕ, List, sym, subst, ap, ◌∙◌, LeastWithin, arith, limit_of, ResolvedLine}
 use Rattle.olr_route.proofs.EndLemmas.{option_is}
 use Rattle.olr_route.proofs.ExtendLemmas.{same_front}
-use Rattle.olr_route.proofs.RouteEnds.{last_step}
+use Rattle.olr_search.proofs.RouteEnds.{last_step}
 use Rattle.olr_route.proofs.shortest.extends_least.Goals as goal
 
 pub returns-in-Some : goal.returns-in-Some

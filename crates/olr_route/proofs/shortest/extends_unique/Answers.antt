@@ -1,6 +1,6 @@
 use Rattle.olr_route.proofs.Common.{◌∷◌, [], ◌++◌, ◌+◌, ◌≤◌, ◌↔◌, ℕ, IsTrue, ap, subst, arith, sym, ◌∙◌, start, end, dm}
 use Rattle.olr_route.proofs.Common.{UniqueShortest, dm_of, limit_of, no_margin, ResolvedLine}
-use Rattle.olr_route.proofs.ReadLemmas.{resolved_as}
+use Rattle.olr_search.proofs.ReadLemmas.{resolved_as}
 use Rattle.olr_route.proofs.shortest.extends_unique.Goals as goal
 
 pub extends_unique_shortest-requires : goal.extends_unique_shortest-requires

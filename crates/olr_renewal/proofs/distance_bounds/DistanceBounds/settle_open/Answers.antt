@@ -1,5 +1,5 @@
 use Rattle.olr_renewal.proofs.Common.{List, ℕ, [], ◌∙◌, arith, refl, subst, sym, bound_at, label_of, AreLed, source_of}
-use Rattle.olr_route.specs.Notes.{label_in}
+use Rattle.olr_search.specs.Notes.{label_in}
 use Rattle.olr_renewal.proofs.BoundLemmas.{settling_begun, settling_emptied, settling_looked, settling_on, settling_popped, settled}
 use Rattle.olr_renewal.proofs.distance_bounds.DistanceBounds.settle_open.Goals as goal
 

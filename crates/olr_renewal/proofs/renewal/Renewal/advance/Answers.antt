@@ -5,4 +5,4 @@ pub returns-in-Skip : goal.returns-in-Skip
 returns-in-Skip g c = rw c.in-Skip.is refl
 
 pub returns-in-Retain : goal.returns-in-Retain
-returns-in-Retain g c = rw c.in-Retain.is (refl, refl, rw c.plus-self.ensures refl)
+returns-in-Retain g c = rw c.in-Retain.is (refl, refl, rw c.encoded-self.ensures refl)

@@ -1,0 +1,10 @@
+pub mod Counts
+pub mod Entries
+pub mod Notes
+pub mod Queues
+pub mod Frontiers
+pub mod Distances
+pub mod Searches
+pub mod Lengths
+pub mod Bounds
+pub mod ResolvedLines
