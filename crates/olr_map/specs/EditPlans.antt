@@ -4,7 +4,7 @@
 --         with its change
 --     AreSlots b M at e, AreEnds M nodes e      at: the slots of the nodes of e that exist before it; nodes: the
 --         ends of the line that e sets
-use Rattle.std.specs.Prelude.{◌≡◌, ◌==◌, ◌||◌, ℕ, List, [], ◌∷◌, Some, IsTrue, IsOk, if◌then◌else◌, ⊤}
+use Rattle.std.specs.Prelude.{◌≡◌, ◌==◌, ◌||◌, ℕ, List, map, Some, IsTrue, IsOk, ⊤}
 use Rattle.std.specs.Option.{option_to_list}
 use Rattle.olr_spec.specs.Map as maps
 use Rattle.olr_spec.specs.Map.{Map, has_node, start, end, edited, touched_nodes, touched_lines, has, HasCoord}
@@ -14,8 +14,7 @@ use Rattle.olr_map.specs.declared.slot_index.SlotIndex.{SlotIndex}
 use Rattle.olr_map.specs.declared.judging.EditPlan.{EditPlan}
 
 abbrev pub planned_changes : EditPlan → List ChangedLine
-planned_changes j =
-    if j.changes_routes then record { from = j.nodes.0; to = j.nodes.1; len = j.len } ∷ [] else []
+planned_changes j = map (λ len. record { from = j.nodes.0; to = j.nodes.1; len = len }) (option_to_list j.changed)
 
 -- the ends of the line that e sets
 abbrev pub AreEnds : Map → ℕ × ℕ → maps.Edit → Type 0

@@ -228,26 +228,6 @@ impl RoadMap {
         self.take_back(change);
     }
 
-    /// Makes an edit, and appends its undo record to a log. The faults are those of `apply`; after a fault, map and log
-    /// are unchanged.
-    pub fn apply_into(&mut self, edit: Edit, log: &mut UndoLog) -> Result<(), EditFault>
-        requires { CanUndoAll self.old log.old }
-        ensures refused { (f : MapFault) → (result ≡ Err (edit_fault_of f))
-            ↔ (edited (map_of self.old) (edit_of edit) ≡ Err f) }
-        ensures done { OnOk result (edited (map_of self.old) (edit_of edit) ≡ Ok (map_of self.new)) }
-        ensures same { OnErr result (map_of self.new ≡ map_of self.old) }
-        ensures same_log { OnErr result (log_changes log.new ≡ log_changes log.old) }
-        ensures can_undo { CanUndoAll self.new log.new }
-        ensures before { map_before self.new log.new ≡ map_before self.old log.old }
-    {
-        match judge(self, &edit) {
-            Ok(plan) => self
-                .make_into(edit, &plan, log)
-                .map_err(|_| EditFault::Memory),
-            Err(fault) => Err(fault),
-        }
-    }
-
     /// Makes an edit that `judge` accepted on this map, and appends its undo record to a log. If an allocation fails,
     /// map and log are unchanged.
     pub fn make_into(

@@ -1,5 +1,5 @@
 //! Why a map rejects an edit, or what the edit touches, for every `MapRead`.
-ghost use Rattle.std.specs.Prelude.{◌≡◌, Some, None, Err, false, IsOk, IfOk, MatchResult};
+ghost use Rattle.std.specs.Prelude.{◌≡◌, Some, None, Err, IsOk, IfOk, MatchResult};
 ghost use Rattle.std.specs.FinMap.{get};
 ghost use Rattle.olr_spec.specs.Map.{edited, Drop_node, Add_line};
 ghost use Rattle.olr_model.specs.Edits.{edit_of, edit_fault_of};
@@ -16,11 +16,9 @@ pub struct EditPlan {
     pub slots: (u32, u32),
     /// The line. None if only a node is touched.
     pub line: Option<LineId>,
-    /// The lesser of the line's lengths before and after the edit, in decimetres. The line's length if it is added or
-    /// removed. 0 if no line is touched.
-    pub len: u32,
-    /// Whether the edit can change the length of routes: the line is added or removed, or set to another length.
-    pub changes_routes: bool,
+    /// The lesser of the line's lengths before and after the edit, in decimetres; the only one if the line is added or
+    /// removed. None if the edit changes no route: it is of a node, or leaves the line as long as it was.
+    pub changed: Option<u32>,
 }
 
 /// The first fault of the edit on this map, or what the edit touches. Out of memory is not tested.
@@ -60,14 +58,14 @@ pub fn judge<M: MapRead>(map: &M, edit: &Edit) -> Result<EditPlan, EditFault>
             if !has_good_fields(*frc, *fow, *len, shape) {
                 return Err(EditFault::BadShape);
             }
-            let least = was.len.min(*len);
-            Ok(line_plan(map, *id, was, least, was.len != *len))
+            let changed = (was.len != *len).then_some(was.len.min(*len));
+            Ok(line_plan(map, *id, was, changed))
         }
         Edit::DropLine(id) => {
             let Some(was) = map.line(*id) else {
                 return Err(EditFault::NoLine);
             };
-            Ok(line_plan(map, *id, was, was.len, true))
+            Ok(line_plan(map, *id, was, Some(was.len)))
         }
     }
 }
@@ -109,40 +107,30 @@ fn judge_line_added<M: MapRead>(map: &M, id: LineId, line: &Line) -> Result<Edit
         nodes: (line.from, line.to),
         slots: (from, to),
         line: Some(id),
-        len: line.len,
-        changes_routes: true,
+        changed: Some(line.len),
     })
 }
 
 /// What an edit touches that adds, moves or removes a node.
 fn node_plan(id: NodeId, slot: u32) -> EditPlan
-    ensures { result ≡ record { nodes = (id, id); slots = (slot, slot); line = None; len = 0; changes_routes = false } }
+    ensures { result ≡ record { nodes = (id, id); slots = (slot, slot); line = None; changed = None } }
 {
     EditPlan {
         nodes: (id, id),
         slots: (slot, slot),
         line: None,
-        len: 0,
-        changes_routes: false,
+        changed: None,
     }
 }
 
-/// What an edit touches that sets or removes this line of the map, with the lesser of its lengths, and whether it can
-/// change the length of routes.
-fn line_plan<M: MapRead>(
-    map: &M,
-    id: LineId,
-    was: &Line,
-    len: u32,
-    changes_routes: bool,
-) -> EditPlan
+/// What an edit touches that sets or removes this line of the map, with its length if it changes routes.
+fn line_plan<M: MapRead>(map: &M, id: LineId, was: &Line, changed: Option<u32>) -> EditPlan
     requires { get (M.map map.now).lines id ≡ Some was.now }
     ensures nodes { result.nodes ≡ (was.now.from, was.now.to) }
     ensures begin { M.node_slot map.now was.now.from ≡ result.slots.0 }
     ensures end { M.node_slot map.now was.now.to ≡ result.slots.1 }
     ensures line { result.line ≡ Some id }
-    ensures len { result.len ≡ len }
-    ensures changes { result.changes_routes ≡ changes_routes }
+    ensures changed { result.changed ≡ changed }
 {
     let from = map.slot_of(was.from).unwrap();
     let to = map.slot_of(was.to).unwrap();
@@ -150,7 +138,6 @@ fn line_plan<M: MapRead>(
         nodes: (was.from, was.to),
         slots: (from, to),
         line: Some(id),
-        len,
-        changes_routes,
+        changed,
     }
 }

@@ -1,5 +1,5 @@
 -- What the register shows of its paths.
-use Rattle.olr_register.proofs.Common.{arith, subst, ◌≡◌, ◌≢◌, ℕ, true, false, List, [], ◌∷◌, map, length, Option, Some, None}
+use Rattle.olr_register.proofs.Common.{arith, subst, ◌≡◌, ◌≢◌, ℕ, false, List, [], ◌∷◌, map, length, Option, Some, None}
 use Rattle.olr_register.proofs.Common.{refl, sym, ap, ◌∙◌, ◌==◌, option_map, option_and_then, MatchOption, IsSomeAnd, result_ok}
 use Rattle.olr_register.proofs.Common.{ne_eqb, length-map, Map, Margin, Answer, EncodesWith, Path, Content, path_named}
 use Rattle.olr_register.proofs.Common.{published_text, Results, Item, IsEncodingOf, AreEncodings, named_of, all_named, results_in}
@@ -31,15 +31,15 @@ text_published g M is c name text o e encoded of there =
 
 -- ---- if every path was encoded
 
-pub some_answer_in : (g : Margin) (M : Map) (is : List Item) (name : List ℕ) → AreEncodings g M is →
-    is_some (path_named (all_named is) name) ≡ true → (A : Answer) × (answer_in is name ≡ Some A)
-some_answer_in g M is name encoded =
+pub found_if_there : (g : Margin) (M : Map) (is : List Item) (name : List ℕ) → AreEncodings g M is →
+    is_some (path_named (all_named is) name) ≡ is_some (results_in is name)
+found_if_there g M is name encoded =
     by (path_named (all_named is) name) (results_in is name) (results_found g M is name encoded) where
       by : (p : Option Path) (o : Option Results) → MatchOption p (o ≡ None) (λ P. IsSomeAnd o (IsEncodingOf g M P)) →
-          is_some p ≡ true → (A : Answer) × (option_map (λ (m : Results). m.answer) o ≡ Some A)
-      by None o h some = absurd cc
-      by (Some P) None h some = absurd h
-      by (Some P) (Some m) h some = (m.answer, refl)
+          is_some p ≡ is_some o
+      by None o none = sym (ap (λ (q : Option Results). is_some q) none)
+      by (Some P) None h = absurd h
+      by (Some P) (Some m) h = refl
 
 -- of a list with paths
 pub some_named : (is : List Item) → length is ≢ 0 → (length (all_named is) == 0) ≡ false

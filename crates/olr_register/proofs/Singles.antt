@@ -5,20 +5,22 @@ use Rattle.olr_register.proofs.Common.{IsTouchedBy, begins_drop, raised_work, pa
 use Rattle.olr_register.proofs.Common.{append-nil, Set_margin, option_map, CanRenewTo, entries_of, length-map, same_name, IsFalse}
 use Rattle.olr_register.proofs.Common.{Drop_path, HasCoords, all_named, IsRenewal, ChangeSet, HasBounds, MayReport, ByContent, Ok}
 use Rattle.olr_register.proofs.Common.{is_margin, IsRefusal, HasCoord, Add_path, Set_path, may_want, reply_of, nodes_of, lines_of}
-use Rattle.olr_register.proofs.Common.{has_name, state_of, CanRenew, Answered, to_renew, batch_of, named_of, is_path, RoadMap, ap}
+use Rattle.olr_register.proofs.Common.{has_name, state_of, Answered, to_renew, batch_of, named_of, is_path, RoadMap, ap}
 use Rattle.olr_register.proofs.Common.{Content, at_once, Affects, By_name, By_node, By_line, encodes, Renewed, IsState, IsPaths}
 use Rattle.olr_register.proofs.Common.{CountIs, filter, length, Result, edited, map_of, Change, On_map, Margin, IsTrue, Inside, ℕ}
 use Rattle.olr_register.proofs.Common.{false, Named, Fault, Reply, arith, items, Lacks, true, List, Some, None, refl, ◌==◌, ◌&&◌}
-use Rattle.olr_register.proofs.Common.{Edit, Path, Work, Make, Item, ◌≡◌, not, ◌∷◌, Err, sym, ◌∙◌, Map}
+use Rattle.olr_register.proofs.Common.{Edit, Path, Work, Make, Item, ◌≡◌, ◌≢◌, not, ◌∷◌, Err, sym, ◌∙◌, Map, IsOk, No_memory, ne_eqb}
 use Rattle.std.proofs.lemmas.List.{nil_from_length}
 use Rattle.olr_renewal.specs.Encoded.{IsAdded, IsSet}
-use Rattle.olr_register.proofs.Changing.{add_ok, set_ok, drop_ok}
+use Rattle.olr_register.proofs.Changing.{add_ok, set_ok, drop_ok, edit_lacks}
 use Rattle.olr_register.proofs.Counting.{Rise, counted_all, counted_changes, none_affected, rise_none, rise_on}
 use Rattle.olr_register.proofs.Listed.{given_all, given_none, given_at_first, each_left, each_add, each_set, each_encoded}
-use Rattle.olr_register.proofs.Listed.{named_to_renew}
-use Rattle.olr_register.proofs.Touched.{begins_none, touched_edit, is_before, can_set}
+use Rattle.olr_register.proofs.Listed.{follows_untold, named_to_renew}
+use Rattle.olr_register.proofs.Common.{IsAffected, Reported, has}
+use Rattle.olr_renewal.specs.Reencoded.{AreLeft}
+use Rattle.olr_register.proofs.Touched.{begins_none, can_edit, can_set}
 use Rattle.olr_register.proofs.Outcomes.{answered_counted, answered_refused, Accepts}
-use Rattle.olr_register.proofs.Renewed.{reencoded_encoded, encoded_if_any}
+use Rattle.olr_register.proofs.Renewed.{reencoded_encoded}
 use Rattle.olr_register.proofs.Replies.{planned_changes, reported_add, reported_set, reported_drop}
 use Rattle.olr_register.proofs.States.{state, of_parts, register_moved, in_states, right_as}
 use Rattle.olr_commands.specs.Reply as replies
@@ -77,6 +79,12 @@ module _ (r : Inside) {x : Registered} (view : of_parts r.margin r.roads (items 
     by (Lacks is first) =
         let now = rw (← view) at takes in replies.Lacks is (λ i. now i && may_want_once (with_change c y) first i)
 
+  -- out of memory for an edit that the map accepts, where there are paths
+  pub edit_lacks_now : {e : Edit} {new : Registered} {q : Result Reply CommandFault} → length x.state.content.paths ≢ 0 →
+      IsOk (edited M e) → new ≡ x → IsErrAnd q (λ g. g ≡ No_memory) → Answered x (Make (On_map e)) q new
+  edit_lacks_now {e} some accepted same failed =
+      may_refuse_now No_memory same failed (rw (ne_eqb (length x.state.content.paths) 0 some)) (edit_lacks c (edited M e) accepted)
+
   -- the change is made: it leads to this list on the later map, es is reported, and the work is v
   pub record IsMadeNow (k : Margin) (y : Change) (later : RoadMap) (js : List Item) (es : List replies.Entry) (v : Work) :
       Type 0 where
@@ -129,20 +137,6 @@ module _ (r : Inside) {x : Registered} (view : of_parts r.margin r.roads (items 
 
     -- ---- edits
 
-    -- after the edit, which touches t, the list can be renewed
-    abbrev pub CanRenewAfter : Edit → ChangeSet → Type 0
-    CanRenewAfter e t = (N : Map) → edited M e ≡ Ok N → CanRenew g M N is is t
-
-    pub can_edit : (e : Edit) (t : ChangeSet) → IsTouchedBy M e t → CanRenewAfter e t
-    can_edit e t touched N done = record {
-      names = right.register.content.names;
-      follows = follows_self is right.register.content.names;
-      before =
-          is_before g right.register.content.margin M N (nodes_of t) (lines_of t) (changed_of t) is
-          (touched_edit M N e (nodes_of t) (lines_of t) (changed_of t) done touched.nodes touched.lines touched.changed)
-          right.register.content.map right.register.content.paths (encoded_if_any g M is right.register.encoded);
-    }
-
     module _ (e : Edit) (later : RoadMap) (done : edited M e ≡ Ok (map_of later)) (placed : HasCoord e) where
       pub bare_made : is ≡ [] → IsMadeNow g (On_map e) later is [] r.work
       bare_made bare = record {
@@ -156,26 +150,39 @@ module _ (r : Inside) {x : Registered} (view : of_parts r.margin r.roads (items 
         same = λ off. let no : true ≡ false = off in absurd cc;
       }
 
-      pub edit_made : {t : ChangeSet} → IsTouchedBy M e t → {js : List Item} {n : Renewed} →
+      -- the paths on the later map, of which those that the edit affects are counted
+      edit_made : (T X : List ℕ) → ((v : ℕ) → has T v ≡ has (touched_nodes M e) v) →
+          ((y : ℕ) → has X y ≡ has (touched_lines e) y) → {js : List Item} → AreEncodings g (map_of later) js →
+          all_named js ≡ all_named is → {es : List replies.Entry} → Reported is js es →
+          {n : ℕ} → CountIs (IsAffected g M T X) is n → {v : Work} → Rise r.work v n → IsMadeNow g (On_map e) later js es v
+      edit_made T X nodes lines {js} encoded named {es} reported {n} count rise = record {
+        ok = rw (done, named) refl;
+        placed = placed;
+        encoded = encoded;
+        differ = planned_changes g g M (map_of later) is js es right.register.content right.register.encoded encoded reported;
+        many = n;
+        raised = rw named (counted_changes c (On_map e ∷ []) T X (λ v. rw (append-nil (touched_nodes M e)) (nodes v))
+            (λ y. rw (append-nil (touched_lines e)) (lines y)) is n count
+            (given_none [] (On_map e) is (λ q. refl) (given_at_first g M is right.register.encoded)));
+        rise = rise;
+        same = λ off. let no : true ≡ false = off in absurd cc;
+      }
+
+      pub renewed_made : {t : ChangeSet} → IsTouchedBy M e t → {js : List Item} {n : Renewed} →
           IsRenewal g (map_of later) t is is js n →
           IsMadeNow g (On_map e) later js (entries_of n) (raised_work r.work n.work)
-      edit_made {t} touched {js} {n} renewal =
-          let count = renewal.counted M (can_edit e t touched (map_of later) done).before in
-          let encoded = reencoded_encoded g (map_of later) is js renewal.reencoded in
-          record {
-            ok = rw (done, renewal.named) refl;
-            placed = placed;
-            encoded = encoded;
-            differ = planned_changes g g M (map_of later) is js (entries_of n) right.register.content right.register.encoded encoded
-                renewal.reported;
-            many = count.0;
-            raised = rw renewal.named (counted_changes c (On_map e ∷ []) (nodes_of t) (lines_of t)
-                (λ v. rw (append-nil (touched_nodes M e)) (touched.nodes v))
-                (λ y. rw (append-nil (touched_lines e)) (touched.lines y)) is count.0 count.1
-                (given_none [] (On_map e) is (λ q. refl) (given_at_first g M is right.register.encoded)));
-            rise = rise_on r.work n.work count.0 count.2;
-            same = λ off. let no : true ≡ false = off in absurd cc;
-          }
+      renewed_made {t} touched {js} {n} renewal =
+          let count = renewal.counted M (can_edit right e t touched (map_of later) done).before in
+          edit_made (nodes_of t) (lines_of t) touched.nodes touched.lines (reencoded_encoded g (map_of later) is js renewal.reencoded) renewal.named
+          renewal.reported count.1 (rise_on r.work n.work count.0 count.2)
+
+      pub left_made : (T X : List ℕ) → ((v : ℕ) → has T v ≡ has (touched_nodes M e) v) →
+          ((y : ℕ) → has X y ≡ has (touched_lines e) y) → AreLeft g M (map_of later) T X is →
+          IsMadeNow g (On_map e) later is [] r.work
+      left_made T X nodes lines left =
+          edit_made T X nodes lines left.0 refl
+          (follows_untold g (map_of later) is is left.0 (follows_self is right.register.content.names)) left.1
+          (rise_none r.work)
 
     -- ---- the margin
 

@@ -1,6 +1,6 @@
 -- What edits touch: the maps before and after them have no other difference.
 use Rattle.olr_register.proofs.Common.{Contains-append_cases, AreEncodingsIfAny, differences_add, list_any-append, AllByRecursion}
-use Rattle.olr_register.proofs.Common.{follows_without, without_answer, DistanceBounds, option_to_list, Contains-cases, is_margin}
+use Rattle.olr_register.proofs.Common.{None, follows_self, follows_without, without_answer, DistanceBounds, option_to_list, Contains-cases, is_margin}
 use Rattle.olr_register.proofs.Common.{touched_nodes, touched_lines, CoverageQuery, IsStateRight, edit_differs, none_differs, inl}
 use Rattle.olr_register.proofs.Common.{IsTouchedBy, ChangedLine, under_batch, NamesDiffer, IsRegister, content_on, CanRenewTo, Ok}
 use Rattle.olr_register.proofs.Common.{AreTouched, changes_of, changed_of, map_before, all_named, ChangeSet, IsContent, nodes_of}
@@ -10,6 +10,7 @@ use Rattle.olr_register.proofs.Common.{◌++◌, refl, ◌||◌, Edit, Item, Som
 use Rattle.olr_map.specs.declared.judging.EditPlan.{EditPlan}
 use Rattle.olr_map.specs.EditPlans.{IsEditPlan, planned_changes}
 use Rattle.olr_register.proofs.Listed.{named_to_renew}
+use Rattle.olr_register.proofs.Renewed.{encoded_if_any}
 
 -- ---- where changed lines begin
 
@@ -103,6 +104,27 @@ is_before g most M N T X C is touched sound paths results =
       paths = are_paths is paths;
       results = results;
     }
+
+-- before an edit that is made at once
+pub edit_before : {g : Margin} {roads : RoadMap} {is : List Item} {f : DistanceBounds} → IsStateRight g roads is None f →
+    (e : Edit) (T X : List ℕ) (C : List ChangedLine) → ((v : ℕ) → has T v ≡ has (touched_nodes (map_of roads) e) v) →
+    ((y : ℕ) → has X y ≡ has (touched_lines e) y) → C ≡ changes_of (map_of roads) e → (N : Map) →
+    edited (map_of roads) e ≡ Ok N → IsBefore g (map_of roads) N T X C is
+edit_before {g} {roads} {is} right e T X C nodes lines changed N done =
+    let h = right.register in
+    is_before g h.content.margin (map_of roads) N T X C is
+    (touched_edit (map_of roads) N e T X C done nodes lines changed) h.content.map h.content.paths
+    (encoded_if_any g (map_of roads) is h.encoded)
+
+-- after the edit, which touches t, the list can be renewed
+pub can_edit : {g : Margin} {roads : RoadMap} {is : List Item} {f : DistanceBounds} → IsStateRight g roads is None f →
+    (e : Edit) (t : ChangeSet) → IsTouchedBy (map_of roads) e t → (N : Map) → edited (map_of roads) e ≡ Ok N →
+    CanRenew g (map_of roads) N is is t
+can_edit {is = is} right e t touched N done = record {
+  names = right.register.content.names;
+  follows = follows_self is right.register.content.names;
+  before = edit_before right e (nodes_of t) (lines_of t) (changed_of t) touched.nodes touched.lines touched.changed N done;
+}
 
 -- what a commit renews
 pub can_commit : (g : Margin) (roads : RoadMap) (is : List Item) (b : Batch) → IsRegister g roads is (Some b) →

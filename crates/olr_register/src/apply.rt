@@ -9,13 +9,11 @@ ghost use Rattle.olr_register.specs.RegisterState.{Represents};
 use crate::change::{Change, PathParts};
 use crate::register::Register;
 use olr_commands::{Command, CommandFault, Reply};
-use olr_map::Edit;
 use std::alloc::{AllocError, Global};
 
 impl Register {
-    ghost use Rattle.std.specs.Prelude.{◌≡◌, None, is_some, OnOk, OnErr, IsFalse};
-    ghost use Rattle.olr_commands.specs.State.{IsContent, Make, On_map};
-    ghost use Rattle.olr_model.specs.Edits.{edit_of};
+    ghost use Rattle.std.specs.Prelude.{◌≡◌, is_some, OnOk, OnErr, IsFalse};
+    ghost use Rattle.olr_commands.specs.State.{IsContent, Make};
     ghost use Rattle.olr_register.specs.BatchChanges.{change_of};
     ghost use Rattle.olr_register.specs.Registered.{Applied, Counted};
     ghost use Rattle.olr_register.specs.Answered.{Answered};
@@ -29,14 +27,6 @@ impl Register {
         if let Some(batch) = &mut self.batch {
             return batch.hold(self.alloc, &mut self.roads, &self.paths, change);
         }
-        self.change_now(change)
-    }
-
-    /// Makes a change at once.
-    fn change_now(&mut self, change: Change) -> Result<Reply, CommandFault>
-        requires { self.old.state.batch ≡ None }
-        ensures { Answered self.old (Make (change_of change)) result self.new }
-    {
         match change {
             Change::Edit(edit) => self.edit_now(edit),
             Change::AddPath(name, parts) => self.add_now(name, parts),
@@ -46,33 +36,23 @@ impl Register {
         }
     }
 
-    /// The same for an edit, which is a change only where it is held.
-    fn edit(&mut self, edit: Edit) -> Result<Reply, CommandFault>
-        ensures { Answered self.old (Make (On_map (edit_of edit))) result self.new }
-    {
-        if self.batch.is_some() {
-            return self.change(Change::Edit(edit));
-        }
-        self.edit_now(edit)
-    }
-
-    /// The answer to a command.
+    /// The answer to a command. An edit that no batch holds takes no room for the results of the others.
     fn answer_to(&mut self, command: Command) -> Result<Reply, CommandFault>
         ensures { Answered self.old (command_of command) result self.new }
     {
         match command {
-            Command::Edit(edit) => self.edit(edit),
+            Command::Edit(edit) if self.batch.is_none() => self.edit_now(edit),
             command => self.answer_to_other(command),
         }
     }
 
-    /// The same. It is not inlined, so that an edit takes no room for the results of the other commands.
+    /// The answer to another command, or to an edit in a batch.
     #[inline(never)]
     fn answer_to_other(&mut self, command: Command) -> Result<Reply, CommandFault>
         ensures { Answered self.old (command_of command) result self.new }
     {
         match command {
-            Command::Edit(edit) => self.edit(edit),
+            Command::Edit(edit) => self.change(Change::Edit(edit)),
             Command::AddPath(name, lines, pos, neg) => {
                 self.change(Change::AddPath(name, PathParts { lines, pos, neg }))
             }

@@ -1,7 +1,6 @@
 //! An open batch, and the changes that it holds.
 
 use crate::change::{Change, path_unless};
-use crate::edits::line_changed;
 use olr_commands::{CommandFault, Reply};
 use olr_map::{Edit, RoadMap, UndoLog, judge};
 use olr_paths::{Overlay, PathList};
@@ -56,7 +55,7 @@ impl Batch {
         };
         self.touched.reserve()?;
         roads.make_into(edit, &plan, &mut self.log)?;
-        self.touched.add(plan.nodes, plan.line, line_changed(&plan));
+        self.touched.add(plan.nodes, plan.line, plan.changed);
         Ok(())
     }
 

@@ -182,7 +182,6 @@ impl Building {
             paths,
             margin,
             searches,
-            touched,
             work,
             batch: None,
         })

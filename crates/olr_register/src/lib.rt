@@ -20,6 +20,5 @@ mod register;
 
 pub use apply::replay;
 pub use building::Building;
-pub use edits::line_changed;
 pub use olr_paths::{Iter, Published};
 pub use register::Register;

@@ -5,7 +5,7 @@ use crate::register::Register;
 use olr_commands::{CommandFault, Dump, Reply, push_margin_record};
 use olr_paths::Overlay;
 use olr_refs::Margin;
-use olr_renewal::MapUpdate;
+use olr_renewal::{ChangeSet, MapUpdate};
 
 impl Register {
     ghost use Rattle.std.specs.Prelude.{◌≡◌, None};
@@ -21,14 +21,14 @@ impl Register {
     {
         // For the proof alone: the margin is in range.
         let _routes = margin.routes();
-        self.touched.clear();
+        let touched = ChangeSet::new(self.alloc);
         let none = Overlay::new(self.alloc);
         let update = MapUpdate {
             alloc: self.alloc,
             map: &self.roads,
             margin,
             sets_margin: true,
-            touched: &self.touched,
+            touched: &touched,
         };
         let renewed = renew(&update, &mut self.paths, &none, &mut self.searches)?;
         self.margin = margin;

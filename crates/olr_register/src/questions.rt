@@ -35,10 +35,10 @@ impl Register {
     pub fn show(&self, name: &str) -> Result<Reply, CommandFault>
         ensures { Answered self.now (Show name.now) result self.now }
     {
-        if !self.paths.has(name) {
+        let Some(published) = self.paths.published_of(name) else {
             return Err(CommandFault::NoPath);
-        }
-        let entry = self.paths.entry(self.alloc, name)?;
+        };
+        let entry = published.entry(self.alloc, name)?;
         Ok(Reply::Paths(one_entry(self.alloc, entry)?))
     }
 

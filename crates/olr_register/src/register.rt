@@ -4,7 +4,7 @@ use crate::batch::Batch;
 use olr_map::RoadMap;
 use olr_paths::{Iter, PathList};
 use olr_refs::{Answer, Margin};
-use olr_renewal::{ChangeSet, Searches};
+use olr_renewal::Searches;
 use olr_search::Work;
 use std::alloc::Global;
 use std::marker::Model;
@@ -20,8 +20,6 @@ pub struct Register {
     /// The distance bounds, which show that no coverage query begins near an edit, and the searches of renewals. The bounds
     /// are settled when an edit or a commit needs them; what the edits of an open batch touched is reopened then.
     pub(crate) searches: Searches,
-    /// What an edit touches, in a buffer that is reused.
-    pub(crate) touched: ChangeSet,
     pub(crate) work: Work,
     pub(crate) batch: Option<Batch>,
 }
@@ -49,14 +47,12 @@ impl Drop for Register {
             paths,
             margin: _,
             searches,
-            touched,
             work: _,
             batch,
         } = self;
         drop(roads);
         drop(paths);
         drop(searches);
-        drop(touched);
         drop(batch);
     }
 }
@@ -78,7 +74,6 @@ impl Register {
             paths: PathList::new(alloc),
             margin: Margin::none(),
             searches: Searches::new(alloc),
-            touched: ChangeSet::new(alloc),
             work: Work::none(),
             batch: None,
         }

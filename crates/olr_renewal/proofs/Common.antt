@@ -36,7 +36,7 @@ pub use Rattle.olr_renewal.specs.Candidates.{Covers, CoversSearched, Finds, Find
 pub use Rattle.olr_renewal.specs.ChangeSets.{changed_of, lines_of, nodes_of, IsLineAround}
 pub use Rattle.olr_renewal.specs.Changes.{AffectedNames, with_results, AreReencoded, IsReencoded, IsAffected, IsBefore, Follows}
 pub use Rattle.olr_renewal.specs.Reencoded.{IsRenewal, IsStep, WasBefore, AreAffectedNames, AreRenewed, IsRenewed, IsPutIn}
-pub use Rattle.olr_renewal.specs.Reencoded.{after_renewal, results_at, IsGiven, ReportsIfOther, encodings_of, entries_of}
+pub use Rattle.olr_renewal.specs.Reencoded.{AreLeft, after_renewal, results_at, IsGiven, ReportsIfOther, encodings_of, entries_of}
 pub use Rattle.olr_renewal.specs.declared.actions.Action.TheVariants.{Skip, Retain, Encode}
 pub use Rattle.olr_renewal.specs.declared.actions.Action.{Action}
 pub use Rattle.olr_renewal.specs.declared.change_set.ChangeSet.{ChangeSet}

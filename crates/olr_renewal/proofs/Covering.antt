@@ -65,9 +65,9 @@ is_there : (o : Option (Rc Published Global)) → o ≢ None → (p : Rc Publish
 is_there None h = absurd (h refl)
 is_there (Some p) h = (p, refl)
 
-module _ (N : Map) (t : ChangeSet) (l : PathList) (off_held : l.held ≡ false) (indexed : IsTrue l.finder.indexed)
-    (found : List ℕ) (traversed : AreFound l.path_ids.items l.finder.traversed (nodes_of t) found)
-    (lines : AreFound l.path_ids.items l.finder.lines (lines_of t) found) where
+module _ (N : Map) (T X : List ℕ) (l : PathList) (off_held : l.held ≡ false) (indexed : IsTrue l.finder.indexed)
+    (found : List ℕ) (traversed : AreFound l.path_ids.items l.finder.traversed T found)
+    (lines : AreFound l.path_ids.items l.finder.lines X found) where
   abbrev ms : List ℕ
   ms = l.path_ids.items
 
@@ -85,16 +85,16 @@ module _ (N : Map) (t : ChangeSet) (l : PathList) (off_held : l.held ≡ false) 
         let on = All-contains (λ (u : ℕ). Finds ms i u found) vs v are (in_from vs v touched) k lower held in
         cc (on, off)
 
-    stays_there : ¬ QueryTouched N (nodes_of t) (results_of p.value).queries →
-        ToSkip N (nodes_of t) (lines_of t) (item_of e).results e.1.path.value
+    stays_there : ¬ QueryTouched N T (results_of p.value).queries →
+        ToSkip N T X (item_of e).results e.1.path.value
     stays_there unqueried = (
       results_of p.value,
       ap (option_map (λ (q : Rc Published Global). results_of q.value)) some,
       (λ h. let noted = noted_as f (get_or ms k 0) e.1 p some (l.noted k e at) indexed in elim h [
-        | inl o ↦ missed f.traversed (nodes_of t) traversed o.0 o.1
+        | inl o ↦ missed f.traversed T traversed o.0 o.1
             (All-contains (λ (v : ℕ). IsTrue (holds f.traversed v (get_or ms k 0))) p.value.traversed o.0 noted.0 o.2)
         | inr rest ↦ elim rest [
-          | inl x ↦ missed f.lines (lines_of t) lines x.0 x.1
+          | inl x ↦ missed f.lines X lines x.0 x.1
               (All-contains (λ (v : ℕ). IsTrue (holds f.lines v (get_or ms k 0))) e.1.path.value.lines x.0 noted.2
               (in_from e.1.path.value.lines x.0 x.2))
           | inr q ↦ unqueried q
@@ -105,44 +105,47 @@ module _ (N : Map) (t : ChangeSet) (l : PathList) (off_held : l.held ≡ false) 
   -- where none of its queries is touched
   stays_by : (k : ℕ) (i : Item) → slice_get (items l) k ≡ Some i → has found k ≡ false →
       ((e : String Global × NamedPath) (p : Rc Published Global) → slice_get l.paths.entries k ≡ Some e →
-      e.1.published ≡ Some p → i.results ≡ Some (results_of p.value) → ¬ QueryTouched N (nodes_of t) (results_of p.value).queries) →
-      ToSkip N (nodes_of t) (lines_of t) i.results i.path
+      e.1.published ≡ Some p → i.results ≡ Some (results_of p.value) → ¬ QueryTouched N T (results_of p.value).queries) →
+      ToSkip N T X i.results i.path
   stays_by k i at off unqueried =
       let b = back l.paths.entries k i at in
       let p = is_there b.0.1.published (l.encoded off_held k b.0 b.1) in
-      subst (λ (x : Item). ToSkip N (nodes_of t) (lines_of t) x.results x.path) b.2
+      subst (λ (x : Item). ToSkip N T X x.results x.path) b.2
       (stays_there k b.0 b.1 p.0 p.1 off (unqueried b.0 p.0 b.1 p.1
       (ap (λ (x : Item). x.results) (sym b.2) ∙ ap (option_map (λ (q : Rc Published Global). results_of q.value)) p.1)))
 
   -- where it is known that they are far from all queries
-  pub covers_far : AreFar N (nodes_of t) (items l) → Covers N (nodes_of t) (lines_of t) (items l) found
+  pub covers_far : AreFar N T (items l) → Covers N T X (items l) found
   covers_far far k i at off = stays_by k i at off (λ e p there some results q.
       far q.0 (begins_there (items l) k i q.0 at (rw results q.1)) q.2)
 
-  module _ (n : IsMap N) (slot : ℕ → ℕ) (near : Dijkstra) (from : AreFound ms f.by_query_origin (nodes_of t) found)
-      (reached : (begun : List (ℕ × ℕ)) → AreLengths N slot Against begun near → (v : ℕ) → IsTrue (has_node N v) →
-      label_at near (slot v) ≤ GREATEST_LIMIT → Finds ms f.by_query_origin v found) where
-    never_query : (k : ℕ) (e : String Global × NamedPath) (at : slice_get l.paths.entries k ≡ Some e)
-        (p : Rc Published Global) (some : e.1.published ≡ Some p) (off : has found k ≡ false) →
-        IsSearchedFor N slot t near (BeginsIn (Some (results_of p.value))) →
-        ¬ QueryTouched N (nodes_of t) (results_of p.value).queries
-    never_query k e at p some off s h =
-        let v : ℕ = h.0.from in
-        let held = All-contains (λ (l : CoverageQuery). IsTrue (holds f.by_query_origin l.from (get_or ms k 0))) _ h.0
-        (noted_as f (get_or ms k 0) e.1 p some (l.noted k e at) indexed).1 h.1 in
-        elim (cases_Bool (has_node N v)) [
-          | inl there ↦
-              let low = s.found h.0 h.1 there h.2 in
-              let on = reached s.from s.lengths v there (omega arith) k (lower k e at p some off) held in
-              let never : ⊥ = cc (on, off) in never
-          | inr lacks ↦ missed k e at p some off f.by_query_origin (nodes_of t) from v
-              ((near_absent N n (nodes_of t) v (min h.0.within GREATEST_LIMIT)
-              (λ there. let never : ⊥ = cc (there, lacks) in never)).1 h.2) held
-        ]
+module _ (N : Map) (t : ChangeSet) (l : PathList) (off_held : l.held ≡ false) (indexed : IsTrue l.finder.indexed)
+    (found : List ℕ) (traversed : AreFound l.path_ids.items l.finder.traversed (nodes_of t) found)
+    (lines : AreFound l.path_ids.items l.finder.lines (lines_of t) found) (n : IsMap N) (slot : ℕ → ℕ) (near : Dijkstra)
+    (from : AreFound l.path_ids.items l.finder.by_query_origin (nodes_of t) found)
+    (reached : (begun : List (ℕ × ℕ)) → AreLengths N slot Against begun near → (v : ℕ) → IsTrue (has_node N v) →
+    label_at near (slot v) ≤ GREATEST_LIMIT → Finds l.path_ids.items l.finder.by_query_origin v found) where
+  never_query : (k : ℕ) (e : String Global × NamedPath) (at : slice_get l.paths.entries k ≡ Some e)
+      (p : Rc Published Global) (some : e.1.published ≡ Some p) (off : has found k ≡ false) →
+      IsSearchedFor N slot t near (BeginsIn (Some (results_of p.value))) →
+      ¬ QueryTouched N (nodes_of t) (results_of p.value).queries
+  never_query k e at p some off s h =
+      let v : ℕ = h.0.from in
+      let held = All-contains (λ (z : CoverageQuery). IsTrue (holds l.finder.by_query_origin z.from (get_or l.path_ids.items k 0))) _ h.0
+      (noted_as l.finder (get_or l.path_ids.items k 0) e.1 p some (l.noted k e at) indexed).1 h.1 in
+      elim (cases_Bool (has_node N v)) [
+        | inl there ↦
+            let low = s.found h.0 h.1 there h.2 in
+            let on = reached s.from s.lengths v there (omega arith) k (lower N (nodes_of t) (lines_of t) l off_held indexed found traversed lines k e at p some off) held in
+            let never : ⊥ = cc (on, off) in never
+        | inr lacks ↦ missed N (nodes_of t) (lines_of t) l off_held indexed found traversed lines k e at p some off l.finder.by_query_origin (nodes_of t) from v
+            ((near_absent N n (nodes_of t) v (min h.0.within GREATEST_LIMIT)
+            (λ there. let never : ⊥ = cc (there, lacks) in never)).1 h.2) held
+      ]
 
-    pub covers_by : CoversSearched N slot t near (items l) found
-    covers_by k i at off one = stays_by k i at off (λ e p there some results.
-        never_query k e there p some off (subst (λ (o : Option Results). IsSearchedFor N slot t near (BeginsIn o)) results one))
+  pub covers_by : CoversSearched N slot t near (items l) found
+  covers_by k i at off one = stays_by N (nodes_of t) (lines_of t) l off_held indexed found traversed lines k i at off (λ e p there some results.
+      never_query k e there p some off (subst (λ (o : Option Results). IsSearchedFor N slot t near (BeginsIn o)) results one))
 
 -- ---- for a list under changes
 

@@ -7,6 +7,7 @@ use Rattle.olr_renewal.proofs.Common.{BeginsIn, ToName, Retains, IsActionFor, Ac
 use Rattle.olr_renewal.proofs.Common.{Touches, LineTouched, QueryTouched, TraversedTouched, known_kept, TraversedOf, IsClear}
 use Rattle.olr_renewal.proofs.Common.{AllByRecursion, Contains, IfSome, true, ◌∷◌, [], Near, GREATEST_LIMIT, Contains-get_or}
 use Rattle.olr_renewal.proofs.Common.{eqb-true, ◌==◌}
+use Rattle.olr_renewal.proofs.Common.{AreLeft, ToSkip, zero, suc}
 use Rattle.olr_spec.proofs.StayLemmas.{untouched_retained_with}
 use Rattle.olr_spec.proofs.TestedLemmas.{foot_affected_with}
 use Rattle.olr_refs.proofs.QueryRange.{query_short}
@@ -115,6 +116,25 @@ module _ {g : Margin} {M N : Map} (n : IsMap N) {T X : List ℕ} {C : List Chang
   pub named_affected : ToName N T X i.results i.path → IsAffected g M T X i
   named_affected (inl none) = By_name none
   named_affected (inr f) = affected_by f.1 f.2
+
+-- where no path is touched, each result stays right
+module _ {g : Margin} {M N : Map} (n : IsMap N) {T X : List ℕ} {C : List ChangedLine} {is : List Item}
+    (q : IsBefore g M N T X C is) where
+  abbrev LeavesAt : List Item → Type 0
+  LeavesAt js = (k : ℕ) (i : Item) → slice_get js k ≡ Some i →
+      ((m : Results) × (i.results ≡ Some m) × IsEncodingOf g N i.path m) × ¬ IsAffected g M T X i
+
+  left_by : (js : List Item) → LeavesAt js → AreLeft g M N T X js
+  left_by [] h = (tt, refl)
+  left_by (i ∷ js) h =
+      let one = h zero i refl in
+      let rest = left_by js (λ k j at. h (suc k) j at) in ((one.0, rest.0), inr (one.1, rest.1))
+
+  pub all_left : ((k : ℕ) (i : Item) → slice_get is k ≡ Some i → ToSkip N T X i.results i.path) → AreLeft g M N T X is
+  all_left skips = left_by is (λ k i at. let f = skips k i at in (
+    (f.0, f.1, stays_unless n q k i at f.1 f.2),
+    (λ o. f.2 (touched_by n q k i at f.1 o)),
+  ))
 
 -- so no coverage query of the list is longer than the farthest one may be
 short_by : (g : Margin) → IsTrue (is_margin g) → (M : Map) (is : List Item) → AreEncodingsIfAny g M is → AreShort g is

@@ -1,9 +1,11 @@
 -- What edits touched and changed, as lists.
 --     nodes_of t, lines_of t, changed_of t      the nodes, the lines and the changed lines
+--     changed_between ends len      the line between two nodes that was changed, if one was
 --     HasRoom t      capacity for what one more edit touches
 --     IsLineAround M vs x      a line of M that begins or ends at one of the nodes vs
 --     IsAround M vs t      the nodes are vs, and the lines are those of M that begin or end at them; no line is changed
-use Rattle.std.specs.Prelude.{◌≡◌, ℕ, ◌+◌, ◌≤◌, ◌||◌, List, [], map, vec_len, vec_capacity, IsTrue, ◌↔◌}
+use Rattle.std.specs.Option.{option_to_list}
+use Rattle.std.specs.Prelude.{◌≡◌, ℕ, ◌+◌, ◌≤◌, ◌||◌, List, [], map, Option, vec_len, vec_capacity, IsTrue, ◌↔◌}
 use Rattle.olr_spec.specs.Map.{Map, has, has_line, start, end}
 use Rattle.olr_spec.specs.Detours.{ChangedLine}
 use Rattle.olr_renewal.specs.declared.change_set.ChangedLine.{ChangedLine as Changed}
@@ -20,6 +22,9 @@ change_of c = record { from = c.from; to = c.to; len = c.len }
 
 abbrev pub changed_of : ChangeSet → List ChangedLine
 changed_of t = map change_of t.changed.items
+
+abbrev pub changed_between : ℕ × ℕ → Option ℕ → List ChangedLine
+changed_between ends changed = map (λ len. record { from = ends.0; to = ends.1; len = len }) (option_to_list changed)
 
 pub record HasRoom (t : ChangeSet) : Type 0 where
   pub nodes : vec_len t.nodes + 2 ≤ vec_capacity t.nodes

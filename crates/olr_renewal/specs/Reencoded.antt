@@ -6,6 +6,7 @@
 --     IsRenewal g N t before is js r      the list js is the list is, renewed on N, after changes t that led from a map
 --         where its results were right;  r reports the answers that are not those of the list before, and counts an
 --         encoding for each path that was affected
+--     AreLeft g M N T X is      the results of the list are right on N as well, and edits of M that touch T and X affect no path
 --     to_renew_by u is      the list or, if the margin was set, the list of which no path is encoded yet
 --     CanRenewOver map slot u bounds before is      the list is, to which changes led from the list before, can be renewed after the
 --         map update u: map and slot are those of its map
@@ -28,7 +29,7 @@ use Rattle.olr_commands.specs.Words.{entry_of}
 use Rattle.olr_spec.specs.Encoding.{Answer}
 use Rattle.olr_commands.specs.Reply.{Entry, entry}
 use Rattle.olr_commands.specs.State.{NamesDiffer}
-use Rattle.olr_paths.specs.Items.{Results, Item, IsEncodingOf, answer_in, all_named}
+use Rattle.olr_paths.specs.Items.{Results, Item, IsEncodingOf, AreEncodings, answer_in, all_named}
 use Rattle.olr_paths.specs.Origins.{AreNewQueries}
 use Rattle.olr_paths.specs.Changes.{Reported, to_renew}
 use Rattle.olr_renewal.specs.AffectedSearches.{AreBoundsOf}
@@ -94,6 +95,9 @@ pub record IsRenewal (g : Margin) (N : Map) (t : ChangeSet) (before is js : List
   pub reported : Reported before js (entries_of r)
   pub counted : (L : Map) → WasBefore g L N t is → (n : ℕ) × CountIs (IsAffected g L (nodes_of t) (lines_of t)) is n
       × (r.work.encodings ≡ raised_count 0 n)
+
+abbrev pub AreLeft : Margin → Map → Map → List ℕ → List ℕ → List Item → Type 0
+AreLeft g M N T X is = AreEncodings g N is × CountIs (IsAffected g M T X) is 0
 
 -- ---- after a map update
 

@@ -29,10 +29,10 @@ pub struct ChangeSet {
 }
 
 impl ChangeSet {
-    ghost use Rattle.std.specs.Prelude.{◌≡◌, ◌==◌, ◌||◌, ◌++◌, ℕ, [], map, OnOk};
+    ghost use Rattle.std.specs.Prelude.{◌≡◌, ◌==◌, ◌||◌, ◌++◌, ℕ, [], OnOk};
     ghost use Rattle.std.specs.Option.{option_to_list};
     ghost use Rattle.olr_spec.specs.Map.{has};
-    ghost use Rattle.olr_renewal.specs.ChangeSets.{nodes_of, lines_of, change_of, changed_of, HasRoom};
+    ghost use Rattle.olr_renewal.specs.ChangeSets.{nodes_of, lines_of, changed_of, changed_between, HasRoom};
 
     /// Nothing touched. Takes no memory.
     pub fn new(alloc: Global) -> ChangeSet
@@ -47,17 +47,6 @@ impl ChangeSet {
         }
     }
 
-    /// Clears all three lists, which keep their capacity.
-    pub fn clear(&mut self)
-        ensures nodes { nodes_of self.new ≡ [] }
-        ensures lines { lines_of self.new ≡ [] }
-        ensures changed { changed_of self.new ≡ [] }
-    {
-        self.nodes.clear();
-        self.lines.clear();
-        self.changed.clear();
-    }
-
     /// Reserves capacity for what one more edit touches.
     pub fn reserve(&mut self) -> Result<(), AllocError>
         ensures nodes { nodes_of self.new ≡ nodes_of self.old }
@@ -70,27 +59,24 @@ impl ChangeSet {
         self.changed.reserve(1)
     }
 
-    /// Adds two nodes, which may be the same, a line, and how a line was changed. Takes no memory.
-    pub fn add(
-        &mut self,
-        nodes: (NodeId, NodeId),
-        line: Option<LineId>,
-        changed: Option<ChangedLine>,
-    )
+    /// Adds two nodes, which may be the same, a line, and the length of one that was changed between these nodes, see
+    /// `ChangedLine`. Takes no memory.
+    pub fn add(&mut self, nodes: (NodeId, NodeId), line: Option<LineId>, changed: Option<u32>)
         requires { HasRoom self.old }
         ensures nodes { (v : ℕ) → has (nodes_of self.new) v
             ≡ (has (nodes_of self.old) v || ((nodes.0 == v) || (nodes.1 == v))) }
         ensures lines { (x : ℕ) → has (lines_of self.new) x
             ≡ (has (lines_of self.old) x || has (option_to_list line) x) }
-        ensures changed { changed_of self.new ≡ changed_of self.old ++ map change_of (option_to_list changed) }
+        ensures changed { changed_of self.new ≡ changed_of self.old ++ changed_between nodes changed }
     {
         put_node(&mut self.nodes, nodes.0);
         put_node(&mut self.nodes, nodes.1);
         if let Some(line) = line {
             put_line(&mut self.lines, line);
         }
-        if let Some(changed) = changed {
-            self.changed.push_reserved(changed);
+        if let Some(len) = changed {
+            let (from, to) = nodes;
+            self.changed.push_reserved(ChangedLine { from, to, len });
         }
     }
 

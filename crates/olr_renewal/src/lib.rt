@@ -19,11 +19,11 @@ mod sources;
 mod update;
 
 pub use add_and_set::{add, set};
-pub use change_set::{ChangeSet, ChangedLine};
+pub use change_set::ChangeSet;
 pub use detours::Detours;
 pub use distance_bounds::DistanceBounds;
 pub use naming::affected_names;
-pub use reencode::{NewResults, renew_over, renew_unaffected, renewal_over};
+pub use reencode::{NewResults, is_unaffected, renew_over, renewal_over};
 pub use renewal::{Renewal, Renewed};
 pub use searches::Searches;
 pub use update::MapUpdate;

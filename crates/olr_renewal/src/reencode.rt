@@ -1,5 +1,6 @@
 //! Encodes again the paths whose answer a change of the map may have changed, in place or in a list under changes.
-ghost use Rattle.std.specs.Prelude.{◌≡◌, ℕ, List, [], MatchOption, IsSome, IfSome, IfOk, OnErr};
+ghost use Rattle.std.specs.Prelude.{◌≡◌, ℕ, List, [], MatchOption, IsTrue, IfOk, OnErr};
+ghost use Rattle.olr_spec.specs.Detours.{ChangedLine};
 ghost use Rattle.olr_spec.specs.Map.{Map};
 ghost use Rattle.olr_spec.specs.Margins.{Margin as Margins};
 ghost use Rattle.olr_commands.specs.State.{NamesDiffer};
@@ -9,17 +10,16 @@ ghost use Rattle.olr_paths.specs.Origins.{AreNewQueries};
 ghost use Rattle.olr_paths.specs.Changes.{Reported};
 ghost use Rattle.olr_renewal.specs.AffectedSearches.{AreBoundsOf};
 ghost use Rattle.olr_renewal.specs.Bounds.{IsEdit, IsRight, IsUnderWay};
-ghost use Rattle.olr_renewal.specs.ChangeSets.{nodes_of};
-ghost use Rattle.olr_renewal.specs.Reencoded.{WasBefore, IsRenewal, CanRenewUnder, AreRenewed, IsRenewed, IsPutIn, to_renew_by};
+ghost use Rattle.olr_renewal.specs.Changes.{IsBefore};
+ghost use Rattle.olr_renewal.specs.Reencoded.{AreLeft, CanRenewUnder, AreRenewed, IsRenewed, IsPutIn, to_renew_by};
 ghost use Rattle.olr_renewal.specs.Reencoded.{after_renewal, entries_of};
 
 use crate::candidates::finds_none;
-use crate::change_set::ChangeSet;
 use crate::distance_bounds::DistanceBounds;
 use crate::renewal::{Renewal, Renewed, renewal_of};
 use crate::searches::Searches;
 use crate::update::MapUpdate;
-use olr_model::MapRead;
+use olr_model::{LineId, MapRead, NodeId};
 use olr_paths::{OverlaidList, Overlay, PathList, fresh_queries, put_in};
 use std::alloc::{AllocError, Global};
 use std::mem;
@@ -97,37 +97,34 @@ fn put_results<M: MapRead>(
     Ok(renewed)
 }
 
-/// The renewal of a list without changes, if it is known without a search that edits affect none of its paths: all were
-/// encoded, none has a touched node or line, and no coverage query reaches a touched node. Then nothing is reported or
-/// counted, and the bounds are right on the map after the edits. None if that is not known. `map` is the map before the
-/// edits. Takes no memory.
-pub fn renew_unaffected<M: MapRead>(
+/// Whether it is known without a search that edits which touch these nodes and lines affect no path of a list: all were
+/// encoded, none has a touched node or line, and no coverage query reaches a touched node. Then the results and the bounds
+/// are right on the map after the edits. `map` is the map before them.
+pub fn is_unaffected<M: MapRead>(
     list: &PathList,
-    alloc: Global,
     map: &M,
-    touched: &ChangeSet,
+    nodes: &[NodeId],
+    lines: &[LineId],
     bounds: &DistanceBounds,
-) -> Option<Renewed>
-    ensures renewed { IfSome result (λ r. (g : Margins) (L N : Map) (slot : ℕ → ℕ)
-        → IsEdit (nodes_of touched.now) (M.map map.now) (M.node_slot map.now) N slot
-        → WasBefore g L N touched.now (items list.now) → AreBoundsOf N slot bounds.now (items list.now)
-        → IsRenewal g N touched.now (items list.now) (items list.now) (items list.now) r) }
-    ensures right { IsSome result → (N : Map) (slot : ℕ → ℕ)
-        → IsEdit (nodes_of touched.now) (M.map map.now) (M.node_slot map.now) N slot
+) -> bool
+    ensures paths { IsTrue result → (g : Margins) (L N : Map) (slot : ℕ → ℕ) (C : List ChangedLine)
+        → IsEdit nodes.now (M.map map.now) (M.node_slot map.now) N slot
+        → IsBefore g L N nodes.now lines.now C (items list.now) → AreBoundsOf N slot bounds.now (items list.now)
+        → AreLeft g L N nodes.now lines.now (items list.now) }
+    ensures bounds { IsTrue result → (N : Map) (slot : ℕ → ℕ)
+        → IsEdit nodes.now (M.map map.now) (M.node_slot map.now) N slot
         → IsUnderWay (M.map map.now) (M.node_slot map.now) [] bounds.now → IsRight N slot bounds.now }
 {
-    // For the proof alone: no name occurs twice.
-    let _names = list.len();
     if list.held
         || !list.finder.indexed
         || !bounds.is_settled()
-        || !bounds.are_unbounded(map, touched.nodes())
-        || !finds_none(&list.finder.traversed, touched.nodes())
-        || !finds_none(&list.finder.lines, &touched.lines)
+        || !bounds.are_unbounded(map, nodes)
+        || !finds_none(&list.finder.traversed, nodes)
+        || !finds_none(&list.finder.lines, lines)
     {
-        return None;
+        return false;
     }
-    Some(Renewal::none(alloc).renewed)
+    true
 }
 
 /// Makes the changes of the list, and puts their renewal in the list, which `renewal_over` returns. If no path is removed, the

@@ -24,7 +24,7 @@ returns c = λ is.
     edit_made c.args.roads.now c.make_into.new.self is c.args.self.now c.make_into.new.log c.add.new.self
     (edit_of c.args.edit) m.can_undo m.before c.in_ok-make_into.ensures.done m.slots j.placed
     (λ v. rw (j.nodes v, ← s.nodes) (t.nodes v)) (λ y. rw (← j.lines, ← s.lines) (t.lines y))
-    (rw (← j.changes, ← c.line_changed.ensures, ← s.changed) t.changed)
+    (rw (← j.changes, ← s.changed) t.changed)
 
 pub returns-in_err-make_into : goal.returns-in_err-make_into
 returns-in_err-make_into c = λ is.

@@ -6,7 +6,7 @@ use Rattle.olr_register.proofs.register.Register.set_margin_now.Goals as goal
 pub renew-requires : goal.renew-requires
 renew-requires c =
     rw (c.new-none.ensures (items c.self.inside.paths)) (margin_requires c.self.inside c.self.view_is c.requires
-    c.self.invariant c.args.margin c.routes-routes.ensures.margin c.clear.new.self c.clear.ensures.nodes c.clear.ensures.changed)
+    c.self.invariant c.args.margin c.routes-routes.ensures.margin c.new-touched.result c.new-touched.ensures.nodes c.new-touched.ensures.changed)
 
 pub invariant_of-self : goal.invariant_of-self
 invariant_of-self c =
@@ -23,7 +23,7 @@ invariant_of-self-2 c =
     let r = c.self.inside in
     let e = c.in_ok-renewed.ensures in
     right_now r c.self.view_is c.requires c.self.invariant
-    (margin_made r c.self.view_is c.requires c.self.invariant c.routes-routes.ensures.margin c.clear.ensures.changed
+    (margin_made r c.self.view_is c.requires c.self.invariant c.routes-routes.ensures.margin c.new-touched.ensures.changed
     (rw (c.new-none.ensures (items r.paths)) at e.renewed)) e.bounded
 
 pub returns : goal.returns
@@ -31,5 +31,5 @@ returns c =
     let r = c.self.inside in
     rw c.plus-self-inside.ensures
     (done_now r c.self.view_is c.requires
-    (margin_made r c.self.view_is c.requires c.self.invariant c.routes-routes.ensures.margin c.clear.ensures.changed
+    (margin_made r c.self.view_is c.requires c.self.invariant c.routes-routes.ensures.margin c.new-touched.ensures.changed
     (rw (c.new-none.ensures (items r.paths)) at c.in_ok-renewed.ensures.renewed)) refl)
