@@ -381,11 +381,11 @@ class Live:
         self.last_round, self.last_seconds = time.time(), seconds
 
     def look(self) -> None:
-        """Looks at the tables and their triggers: what was rewritten, or has no triggers, is compared. They are made again if
-        that is possible."""
+        """Looks at the tables and their triggers: what was rewritten, or has no triggers, is compared, and a new table, which may
+        have been rewritten since it was read. Triggers are made again if that is possible."""
         missing = {}
         for it in session.watch(self.cursor):
-            if self.files.setdefault(it.source, it.files) != it.files:
+            if self.files.get(it.source) != it.files:
                 self.files[it.source] = it.files
                 self.stale.add(it.source)
             if not it.is_there or it.has_triggers:
@@ -431,6 +431,7 @@ class Live:
         if not self.settings.is_preview:
             self.lock()
             self.renew_identity()
+            self.files = {it.source: it.files for it in session.watch(self.cursor)}
         self.cursor.execute("listen olr_keep_note")
         self.stale = {it.source for it in session.sources_of(self.cursor)}
         self.compared = time.monotonic()
