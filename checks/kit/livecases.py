@@ -208,7 +208,7 @@ TIES = {"twice": ("'{10,11}', null", ">10 >11", "two ways: two ways lead over it
 
 def ties(server):
     """Streets or a course that lead to two ways, or a course that is drawn badly: the path is where a rule says, and stays there. That is
-    listed until it is accepted, or the path is given anew."""
+    listed until it is accepted, or the path is given again."""
     parts = {20: ("(6.1 49.62, 6.101 49.62), (6.101 49.62, 6.103 49.62)", "both"), 21: ("(6.1 49.63, 6.103 49.63), (6.1 49.6301, 6.103 49.6301)", "both"),
              22: ("(6.1 49.64, 6.103 49.64), (6.103 49.6401, 6.1 49.6401)", "along"),
              23: ("(6.1 49.65, 6.101 49.65), (6.101 49.65, 6.1 49.65)", "both")}
@@ -235,7 +235,7 @@ def ties(server):
             fail(f"ties: what is accepted is listed: {case.ask(rows)}")
         case.save(f"update olr_keep.path set course = {line(east(0, 600), east(100, 608), east(217, 600))} where name = 'rough'")
         if case.ask("select words from olr_keep.problem where path is not null") != [("it is 8 m off its drawn course",)]:
-            fail(f"ties: what is given anew is not listed: {case.ask(rows)}")
+            fail(f"ties: what is given again is not listed: {case.ask(rows)}")
     print("live: streets that meet twice, carriageways, rings, doubled streets and courses that are drawn badly are listed until they are accepted")
 
 

@@ -391,7 +391,7 @@ class PathSearch:
         return found._replace(rival=None)
 
     def doubts(self, found: Found) -> Iterator[Remark]:
-        """What an operator should know of the lines that were found first: until it is accepted, or the path is given anew."""
+        """What an operator should know of the lines that were found first: until it is accepted, or the path is given again."""
         it, course = self.other_way, self.wanted.course
         if it:
             words = f"two ways lead over its streets: from here on it is on {it.taken}, and {it.other} leads there too"

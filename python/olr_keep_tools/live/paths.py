@@ -407,7 +407,7 @@ def write_rows(cursor: Any, rows: Sequence[Sequence[object]]) -> None:
             excluded.given_streets, excluded.last_map, excluded.lost_at, excluded.at_junctions, excluded.off_m)""", rows)
 
 
-# Problems of paths as they are found first, or as an upgrade finds them, until they are accepted or given anew.
+# Problems of paths as they are found first, or as an upgrade finds them, until they are accepted or given again.
 FIRST = "two ways", "off its course", "other string"
 
 

@@ -168,8 +168,8 @@ def by_road(verdict: Verdict, found: Carried, road: roads.Answer) -> Verdict:
         return verdict
     if kind is None and found.how is How.GIVEN and fits(verdict, verdict.allowed):
         return verdict._replace(kind=same(verdict))
-    anew = ["its road was drawn anew"] if road.verdict is roads.Verdict.AGAIN else []
-    return verdict._replace(kind=Kind.FARTHER, why=", ".join([*anew, *(["same junctions"] if found.is_between else [])]))
+    again = ["its road was drawn again"] if road.verdict is roads.Verdict.AGAIN else []
+    return verdict._replace(kind=Kind.FARTHER, why=", ".join([*again, *(["same junctions"] if found.is_between else [])]))
 
 
 def same(verdict: Verdict) -> Kind:
