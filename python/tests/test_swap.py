@@ -312,7 +312,7 @@ class Manual(unittest.TestCase):
             self.assertEqual((self.shown("line 1"), self.records), (new[-1], []))
 
     def test_redrawn(self) -> None:
-        # The vendor drew line 1 anew, 15 m aside in the middle, with another number: what was closed by hand isn't open in silence.
+        # The vendor drew line 1 again, 15 m aside in the middle, with another number: what was closed by hand isn't open in silence.
         bend = "line,11,1,2,3,3,1153,576,6.0002,49.0005"
         self.assertEqual(self.fates([*NODES, *ROAD[1:]], [*NODES, bend, *ROAD[1:]]), {"line 1": Fate.CONFLICT})
         self.assertEqual(self.shown("line 1"), bend)
