@@ -1,13 +1,13 @@
 -- What a log stores, the texts with which the next run may begin, and why a call on it failed.
 --     as_journal      a log in a file, as the journal that it is
-use Rattle.std.specs.Prelude.{◌≡◌, ◌⊎◌, ℕ, ◌+◌, ◌-◌, Bool, false, nat_lt, true, List, [], length, take, drop, IsSome}
+use Rattle.std.specs.Prelude.{◌≡◌, ◌⊎◌, ℕ, ◌+◌, ◌-◌, Bool, false, nat_lt, true, List, [], length, take, drop, IsSome, Some}
 use Rattle.sqlite_disk.specs.declared.Disk as disk
 use Rattle.olr_input.specs.declared.journal.Journal as journal
 use Rattle.olr_log.specs.declared.folder.Folder as folder
 use Rattle.olr_log.specs.declared.log_file.LogFile.{LogFile}
 use Rattle.olr_log.specs.declared.state.State.{State}
 use Rattle.olr_log.specs.declared.state.State.TheVariants.{Opened}
-use Rattle.olr_log.specs.States.{stored_in, size_in, is_broken_in, is_native_in, is_ready_in}
+use Rattle.olr_log.specs.States.{stored_in, size_in, file_size_in, is_broken_in, is_native_in, is_ready_in}
 use Rattle.olr_log.specs.Texts.{ends_blank}
 use Rattle.olr_log.specs.Outcomes.{MayLeave}
 use Rattle.olr_log.specs.Failures.{FolderFailed, NotMade, NotWritten}
@@ -57,9 +57,9 @@ module _ {D F : Type 0} {d : disk.Ghosts D} {f : folder.Ghosts F D} where
   abbrev pub doubts_of : LogFile D F d f → List ℕ → LogFile D F d f → Type 0
   doubts_of old records new = (is_broken_in old.state ≡ true) ⊎ FolderFailed d f
 
-  -- its name was not found to lead to the file, with so many bytes
+  -- its name was not found to lead to the file, with as many bytes as that has
   abbrev pub is_lost_of : LogFile D F d f → Type 0
-  is_lost_of log = (is_broken_in log.state ≡ true) ⊎ ((n : ℕ) × f.is_lost log.folder n)
+  is_lost_of log = (is_broken_in log.state ≡ true) ⊎ ((n : ℕ) × (file_size_in log.state ≡ Some n) × f.is_lost log.folder n)
 
   abbrev pub as_journal : journal.Ghosts (LogFile D F d f)
   as_journal = record {

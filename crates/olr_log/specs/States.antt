@@ -1,8 +1,9 @@
 -- The states of a log.
 --     stored_in state file      the text that it stores
 --     size_in state      how many bytes it counts in its text
+--     file_size_in state      how many bytes its file has, if that is known
 --     Stands d disk state      a disk in this state
-use Rattle.std.specs.Prelude.{◌≡◌, ℕ, ◌+◌, ◌<◌, ◌≤◌, Bool, true, false, List, [], length, IsTrue, ⊤}
+use Rattle.std.specs.Prelude.{◌≡◌, ℕ, ◌+◌, ◌<◌, ◌≤◌, Bool, true, false, List, [], length, IsTrue, Option, None, Some, ⊤}
 use Rattle.std.specs.Coded.{Unit-prop}
 use Rattle.std.proofs.Props.{props}
 use Rattle.sqlite_disk.specs.Disk.{Only}
@@ -24,6 +25,12 @@ size_in (Foreign len) = len
 size_in (Opened n last len) = n
 size_in (Ready n len) = n
 size_in Broken = 0
+
+abbrev pub file_size_in : State → Option ℕ
+file_size_in (Foreign len) = Some len
+file_size_in (Opened n last len) = Some len
+file_size_in (Ready n len) = Some len
+file_size_in Broken = None
 
 abbrev pub is_native_in : State → Bool
 is_native_in (Foreign len) = false

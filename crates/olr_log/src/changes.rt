@@ -3,7 +3,7 @@
 ghost use Rattle.std.specs.Prelude.{◌≡◌, ◌+◌, ℕ, List, ◌∷◌, ◌++◌, length, true, IsTrue, IfOk, OnOk, OnErr};
 ghost use Rattle.sqlite_disk.specs.Disk.{Only};
 ghost use Rattle.olr_input.specs.Journals.{IsFront, is_whole};
-ghost use Rattle.olr_log.specs.Failures.{NotWritten};
+ghost use Rattle.olr_log.specs.Failures.{HasFailed, NotWritten};
 ghost use Rattle.olr_log.specs.Files.{text_in};
 ghost use Rattle.olr_log.specs.Outcomes.{LeavesText};
 ghost use Rattle.olr_log.specs.States.{Stands};
@@ -57,6 +57,7 @@ pub fn wipe<D: Disk>(disk: &mut D, text_len: usize, last: usize, len: usize) -> 
 /// Cuts the padding of a file off: but for one carriage return first, behind which nothing counts meanwhile.
 pub fn cut_off<D: Disk>(disk: &mut D, text_len: usize, _len: usize) -> io::Result<()>
     requires { Stands D.Disk disk.old (State.Ready text_len _len) }
+    ensures failed { OnErr result (HasFailed D.Disk disk.old disk.new) }
     ensures closed { OnOk result (D.Disk.is_clean disk.new ≡ true → D.Disk.seen disk.new ≡ 10 ∷ text_in text_len (D.Disk.seen disk.old)) }
     ensures key { D.Disk.key_of disk.new ≡ D.Disk.key_of disk.old }
     ensures cut { Only (text_in text_len (D.Disk.seen disk.old)) (LeavesText D.Disk.is_clean D.Disk.may_leave disk.new) }

@@ -1,12 +1,12 @@
 //! A log in a file: text, and carriage returns behind it.
 
-ghost use Rattle.std.specs.Prelude.{◌≡◌, ◌⊎◌, ◌+◌, ℕ, List, ◌++◌, length, true, false, if◌then◌else◌, IsTrue, IfOk, OnOk, OnErr, IsErr, IsNone, IsSome, Option, None};
+ghost use Rattle.std.specs.Prelude.{◌≡◌, ◌⊎◌, ◌+◌, ℕ, List, ◌++◌, length, true, false, if◌then◌else◌, IsTrue, IfOk, OnOk, OnErr, IsErr, IsNone, IsSome, Option, None, Some};
 ghost use Rattle.sqlite_disk.specs.Disk.{Only};
 ghost use Rattle.olr_input.specs.Journals.{MayHaveStored, is_whole};
 ghost use Rattle.olr_log.specs.Failures.{FolderFailed, NotMade, NotWritten};
 ghost use Rattle.olr_log.specs.Texts.{counts, ends_blank};
 ghost use Rattle.olr_log.specs.Files.{text_in};
-ghost use Rattle.olr_log.specs.States.{Stands, Stands-prop, is_broken_in, is_ready_in, stored_in, size_in};
+ghost use Rattle.olr_log.specs.States.{Stands, Stands-prop, is_broken_in, is_ready_in, stored_in, size_in, file_size_in};
 ghost use Rattle.olr_log.specs.Outcomes.{MayLeave, LeavesText};
 
 use crate::changes::append;
@@ -104,7 +104,7 @@ impl<D: Disk + Drop, F: Folder<D>> Journal for LogFile<D, F> {
 
     ghost doubts = { λ old _ _. (is_broken_in old.state ≡ true) ⊎ FolderFailed D.Disk F.Folder };
 
-    ghost is_lost = { λ j. (is_broken_in j.state ≡ true) ⊎ ((n : ℕ) × F.Folder.is_lost j.folder n) };
+    ghost is_lost = { λ j. (is_broken_in j.state ≡ true) ⊎ ((n : ℕ) × (file_size_in j.state ≡ Some n) × F.Folder.is_lost j.folder n) };
 
     ghost may_leave = { λ j. MayLeave D.Disk (F.Folder.may_lead j.folder) j.disk j.rival };
 

@@ -1,8 +1,11 @@
 //! Opening a log, and closing it.
 
-ghost use Rattle.std.specs.Prelude.{◌≡◌, ◌⊎◌, ◌+◌, true, false, ℕ, List, ◌∷◌, length, IsTrue, IfOk, IsOk, IsErr, OnOk, OnErr};
+ghost use Rattle.std.specs.Prelude.{◌≡◌, ◌⊎◌, ◌+◌, true, false, ℕ, List, ◌∷◌, length, IsTrue, IfOk, IfErr, IsOk, IsErr, OnOk, OnErr};
 ghost use Rattle.std.specs.Io.KnownBytes.{Appends};
+ghost use Rattle.std.specs.IoError.{error_kind};
+ghost use Rattle.std.specs.declared.io.ErrorKind.TheVariants.{OutOfMemory};
 ghost use Rattle.olr_input.specs.Journals.{Only};
+ghost use Rattle.olr_log.specs.Failures.{HasFailed};
 ghost use Rattle.olr_log.specs.Texts.{text_of, is_native, left_behind};
 ghost use Rattle.olr_log.specs.Files.{IsPaddedText};
 ghost use Rattle.olr_log.specs.States.{is_broken_in};
@@ -142,6 +145,8 @@ impl<D: Disk + Drop, F: Folder<D>> LogFile<D, F> {
     /// The text.
     pub fn text(&mut self, alloc: Global) -> io::Result<Vec<u8>>
         ensures broken { is_broken_in self.old.state ≡ true → IsErr result }
+        ensures failed { IfErr result (λ error. (is_broken_in self.old.state ≡ true) ⊎ (error_kind error ≡ OutOfMemory)
+            ⊎ HasFailed D.Disk self.old.disk self.new.disk) }
         ensures text { IfOk result (λ text. is_clean self.new ≡ true → text.items ≡ stored_of self.old) }
         ensures stored { stored_of self.new ≡ stored_of self.old }
         ensures kind { is_native_of self.new ≡ is_native_of self.old }
@@ -164,6 +169,7 @@ impl<D: Disk + Drop, F: Folder<D>> LogFile<D, F> {
         ensures unready { is_ready self.new ≡ false }
         ensures again { is_ready self.old ≡ false → IsOk result }
         ensures broken { OnErr result (is_broken_in self.new.state ≡ true) }
+        ensures failed { OnErr result (HasFailed D.Disk self.old.disk self.new.disk) }
         ensures cut { (c : List ℕ) → left_of self.new c → left_of self.old c ⊎ (c ≡ stored_of self.old) }
     {
         let State::Ready { text_len, len } = self.state else {

@@ -1,8 +1,9 @@
 //! Reads of a log that was opened.
 
-ghost use Rattle.std.specs.Prelude.{◌≡◌, ◌+◌, ◌^◌, ◌<◌, true, false, length, take, drop, IsTrue, IfOk, OnOk};
+ghost use Rattle.std.specs.Prelude.{◌≡◌, ◌+◌, ◌^◌, ◌<◌, true, false, length, take, drop, IsTrue, IfOk, IfErr, OnOk};
 ghost use Rattle.olr_log.specs.Texts.{is_native};
 ghost use Rattle.olr_log.specs.States.{Stands, is_broken_in, is_ready_in};
+ghost use Rattle.olr_log.specs.Failures.{NotRead};
 ghost use Rattle.olr_log.specs.Reads.{OnlyReads};
 ghost use Rattle.olr_log.specs.Scanning.{Scanned};
 
@@ -95,6 +96,7 @@ pub fn examine<D: Disk>(alloc: Global, disk: &mut D) -> io::Result<State>
 pub fn read_exact<D: Disk>(alloc: Global, disk: &mut D, at: usize, n: usize) -> io::Result<Vec<u8>>
     requires { IsTrue (D.Disk.is_usable disk.old) }
     ensures reads { OnlyReads D.Disk disk.old disk.new }
+    ensures failed { IfErr result (λ error. NotRead D.Disk at n error disk.old disk.new) }
     ensures len { IfOk result (λ bytes. length bytes.items ≡ n) }
     ensures bytes { IfOk result (λ bytes. D.Disk.is_clean disk.new ≡ true → bytes.items ≡ take n (drop at (D.Disk.seen disk.old))) }
 {

@@ -1,7 +1,7 @@
 //! The states of a log.
 
-ghost use Rattle.std.specs.Prelude.{◌≡◌, IsNone, true};
-ghost use Rattle.olr_log.specs.States.{size_in, is_native_in, is_broken_in};
+ghost use Rattle.std.specs.Prelude.{◌≡◌};
+ghost use Rattle.olr_log.specs.States.{size_in, file_size_in, is_native_in, is_broken_in};
 
 /// How a log stands. Lengths are in bytes.
 #[derive(Clone, Copy)]
@@ -52,7 +52,7 @@ impl State {
 
     /// The length of the file, if it is known.
     pub fn file_len(self) -> Option<usize>
-        ensures { IsNone result → is_broken_in self ≡ true }
+        ensures { result ≡ file_size_in self }
     {
         match self {
             State::Foreign { len } | State::Opened { len, .. } | State::Ready { len, .. } => Some(

@@ -1,5 +1,12 @@
 //! Why a log was not opened.
 
+ghost use Rattle.std.specs.Prelude.{◌≡◌, None};
+ghost use Rattle.std.specs.IoError.{error_kind};
+ghost use Rattle.std.specs.declared.fs.locks.TryLockError.TheVariants as lock;
+ghost use Rattle.std.specs.declared.io.Error.{Error};
+ghost use Rattle.std.specs.declared.io.ErrorKind.TheVariants.{OutOfMemory};
+ghost use Rattle.olr_log.specs.declared.unopened.OpenError.TheVariants as unopened;
+
 use std::alloc::AllocError;
 use std::{fs, io};
 
@@ -18,6 +25,8 @@ pub enum OpenError {
 }
 
 impl From<io::Error> for OpenError {
+    ghost from_gives = { λ error opened. opened ≡ unopened.Io error };
+
     fn from(error: io::Error) -> OpenError {
         OpenError::Io(error)
     }
@@ -25,6 +34,9 @@ impl From<io::Error> for OpenError {
 
 /// Of a lock that another process holds, whose id isn't known.
 impl From<fs::TryLockError> for OpenError {
+    ghost from_gives = { λ error opened. (error ≡ lock.WouldBlock → opened ≡ unopened.InUse None)
+        × ((cause : Error) → error ≡ lock.Error cause → opened ≡ unopened.Io cause) };
+
     fn from(error: fs::TryLockError) -> OpenError {
         match error {
             fs::TryLockError::WouldBlock => OpenError::InUse(None),
@@ -34,6 +46,8 @@ impl From<fs::TryLockError> for OpenError {
 }
 
 impl From<AllocError> for OpenError {
+    ghost from_gives = { λ _ opened. (error : Error) × (opened ≡ unopened.Io error) × (error_kind error ≡ OutOfMemory) };
+
     fn from(_error: AllocError) -> OpenError {
         OpenError::Io(io::ErrorKind::OutOfMemory.into())
     }

@@ -138,6 +138,8 @@ pub fn cut<D: Disk>(disk: &mut D, len: usize) -> io::Result<()>
     ensures usable { OnOk result (IsTrue (D.Disk.is_usable disk.new)) }
     ensures calm { D.Disk.is_clean disk.new ≡ D.Disk.is_clean disk.old }
     ensures key { D.Disk.key_of disk.new ≡ D.Disk.key_of disk.old }
+    ensures steady { OnOk result (D.Disk.faults disk.new ≡ D.Disk.faults disk.old) }
+    ensures failed { OnErr result (HasFailed D.Disk disk.old disk.new) }
     ensures len { OnOk result (length (D.Disk.seen disk.new) ≡ len) }
     ensures others { Cut len (D.Disk.seen disk.old) (D.Disk.seen disk.new) }
     ensures durable { OnOk result (Only (D.Disk.seen disk.new) (D.Disk.may_leave disk.new)) }
