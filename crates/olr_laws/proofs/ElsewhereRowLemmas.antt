@@ -2,21 +2,22 @@
 use Rattle.olr_spec.proofs.Common.{◌≡◌, ◌≢◌, ℕ, ◌+◌, ◌*◌, ◌-◌, ◌<◌, ◌≤◌, List, [], ◌∷◌, ◌++◌, refl, sym, ap, ◌∙◌, IsTrue, arith}
 use Rattle.olr_spec.proofs.Common.{◌==◌, ◌||◌, not, Map, IsMap, Line, has_line, line_at, start, end, dm, dm_of, IsRoute, UniqueShortest}
 use Rattle.olr_spec.proofs.Common.{or_cases, inl, inr, ◌⊎◌, ◌↔◌, eqb-true, eq-eqb, not-true, nat_le, leb-true, length, length-append}
-use Rattle.olr_spec.proofs.Common.{subst, has, Within, RecoversTo, true, false, le-leb, and_parts, ◌&&◌}
+use Rattle.olr_spec.proofs.Common.{Leg, subst, has, Within, RecoversTo, true, false, le-leb, and_parts, ◌&&◌}
 use Rattle.std.specs.Prelude.{if◌then◌else◌}
 use Rattle.olr_spec.proofs.Facts.{has_here, has_cases}
 use Rattle.olr_spec.proofs.RouteLemmas.{positive}
 use Rattle.olr_spec.proofs.CountedLemmas.{counted_own, counted_other, counted_least, counted_route, route_counted}
-use Rattle.olr_spec.proofs.ElsewhereLemmas.{only_there, OnlyShortest}
+use Rattle.olr_spec.proofs.ElsewhereLemmas.{OnlyShortest}
+use Rattle.olr_spec.proofs.PartnerLemmas.{itself, road_of, roads_of}
 use Rattle.olr_spec.proofs.SplitLemmas.{only_roads}
 use Rattle.olr_spec.proofs.ReceiverLemmas.{recovers_only}
 use Rattle.olr_spec.specs.Margins.{counted, counted_dm}
-use Rattle.olr_spec.specs.Elsewhere.{HasAlong, HasOurs, InReach, IsOurs, HasNoOther}
-use Rattle.olr_spec.specs.Split.{HasRoads, IsInner, IsNode}
+use Rattle.olr_spec.specs.Elsewhere.{HasOurs, InReach, IsOurs, HasNoOther}
+use Rattle.olr_spec.specs.Split.{chains, HasRoads, IsInner, IsNode}
 use Rattle.olr_spec.specs.Split as split
 use Rattle.olr_laws.specs.Rows.{fifty, row_nodes, roads, roads_records, roads_path, theirs, theirs_records, split_roads, split_records}
 use Rattle.olr_laws.specs.Rows.{split_chain}
-use Rattle.olr_laws.proofs.MapLemmas.{sound, has_line_is, line_at_is, line_in, each_line, long, road}
+use Rattle.olr_laws.proofs.MapLemmas.{sound, has_line_is, line_at_is, line_in, leg_in, each_line, long, road, IsRoad}
 
 -- ---- on our map, where line 20 counts 1,050 dm and line 21 has 1,060
 
@@ -29,6 +30,12 @@ K = counted fifty Ours (20 ∷ [])
 ours_sound : IsMap Ours
 ours_sound = sound row_nodes (roads_records 1000 1060) tt tt refl refl
 
+our_20 : IsRoad Ours 20 (leg_in row_nodes (roads_records 1000 1060) 20) 2 3
+our_20 = road row_nodes (roads_records 1000 1060) tt tt 20 2 3 (refl, refl, refl)
+
+our_21 : IsRoad Ours 21 (leg_in row_nodes (roads_records 1000 1060) 21) 2 3
+our_21 = road row_nodes (roads_records 1000 1060) tt tt 21 2 3 (refl, refl, refl)
+
 -- the lines that leave node 2
 from_2 : (y : ℕ) → IsTrue (has_line Ours y) → start Ours y ≡ 2 → (y ≡ 20) ⊎ (y ≡ 21)
 from_2 y h from =
@@ -37,14 +44,10 @@ from_2 y h from =
     grind (arith, or_cases, eqb-true, eq-eqb, not-true, line_at_is row_nodes (roads_records 1000 1060) tt tt y)
 
 own_counts : dm K 20 ≡ 1050
-own_counts =
-    let l = road row_nodes (roads_records 1000 1060) tt tt 20 2 3 (refl, refl, refl) in
-    counted_own fifty Ours (20 ∷ []) 20 l.known refl ∙ ap (counted_dm fifty) (long l)
+own_counts = counted_own fifty Ours (20 ∷ []) 20 our_20.known refl ∙ ap (counted_dm fifty) (long our_20)
 
 other_counts : dm K 21 ≡ 1060
-other_counts =
-    let l = road row_nodes (roads_records 1000 1060) tt tt 21 2 3 (refl, refl, refl) in
-    counted_other fifty Ours (20 ∷ []) 21 refl ∙ long l
+other_counts = counted_other fifty Ours (20 ∷ []) 21 refl ∙ long our_21
 
 others_longer : (ys : List ℕ) → IsRoute Ours 2 3 ys → ys ≢ 20 ∷ [] → dm_of K (20 ∷ []) < dm_of K ys
 others_longer [] w ne = absurd (omega (arith, w))
@@ -62,11 +65,20 @@ others_longer (y ∷ z ∷ zs) w ne =
 
 ours_unique : UniqueShortest K 2 3 (20 ∷ [])
 ours_unique =
-    let l = road row_nodes (roads_records 1000 1060) tt tt 20 2 3 (refl, refl, refl) in
     record {
-      route = counted_route fifty Ours (20 ∷ []) 2 3 (20 ∷ []) (l.known, l.from, l.to);
+      route = counted_route fifty Ours (20 ∷ []) 2 3 (20 ∷ []) (our_20.known, our_20.from, our_20.to);
       others = λ ys w ne. others_longer ys (route_counted fifty Ours (20 ∷ []) 2 3 ys w) ne;
     }
+
+-- on a map where line 20 is a road within the margin, that is the way
+only_20 : (N : Map) → IsMap N → (chain : ℕ → List ℕ) (most : ℕ) → split.IsRoad 24 Ours N chain 4 2 most 20 →
+    1000 * dm_of N (chain 20) ≤ (1000 + 24) * dm Ours 20 → Within N 4 (chains chain (20 ∷ [])) → dm_of N (chains chain (20 ∷ [])) ≤ most →
+    HasRoads 24 Ours N chain 4 2 most → OnlyShortest N 4 2 3 (chains chain (20 ∷ []))
+only_20 N n chain most road own within le roads =
+    let is : (x : ℕ) → IsTrue (has (20 ∷ []) x) → 20 ≡ x = λ x i. elim (has_cases 20 [] x i) [ inl e ↦ e | inr no_more ↦ absurd cc ] in
+    only_roads fifty Ours N n 24 24 refl chain (20 ∷ []) (λ x i. subst (λ k. IsRoute N (start Ours k) (end Ours k) (chain k)) (is x i) road.route)
+    (λ x i. subst (λ k. 1000 * dm_of N (chain k) ≤ (1000 + 24) * dm Ours k) (is x i) own)
+    4 2 3 most within le roads (20, our_20.known, inl our_20.from) (20, our_20.known, inr our_20.to) ours_unique
 
 -- ---- what is in reach
 
@@ -103,29 +115,29 @@ theirs_reach y r =
     let close = r.near in
     grind (arith, or_cases, not-true, leb-true, le-leb, eqb-true, line_at_is row_nodes theirs_records tt tt y)
 
+same_line : (x v w c d : ℕ) {g h : Leg} → IsRoad Ours x g v w → IsRoad theirs x h v w → dm Ours x ≡ c → dm theirs x ≡ d →
+    (1000 - 24) * c ≤ 1000 * d → IsOurs 24 Ours theirs x
+same_line x v w c d o t here there le =
+    record { known = o.known; starts = t.from ∙ sym o.from; ends = t.to ∙ sym o.to; length = omega (arith, here, there, le) }
+
+their_20 : IsRoad theirs 20 (leg_in row_nodes theirs_records 20) 2 3
+their_20 = road row_nodes theirs_records tt tt 20 2 3 (refl, refl, refl)
+
+their_30 : IsRoad theirs 30 (leg_in row_nodes theirs_records 30) 3 4
+their_30 = road row_nodes theirs_records tt tt 30 3 4 (refl, refl, refl)
+
 theirs_20 : IsOurs 24 Ours theirs 20
-theirs_20 =
-    let o = road row_nodes (roads_records 1000 1060) tt tt 20 2 3 (refl, refl, refl) in
-    let t = road row_nodes theirs_records tt tt 20 2 3 (refl, refl, refl) in
-    let here : dm Ours 20 ≡ 1000 = long o in
-    let there : dm theirs 20 ≡ 1024 = long t in
-    record { known = o.known; starts = t.from ∙ sym o.from; ends = t.to ∙ sym o.to; length = omega (arith, here, there) }
+theirs_20 = same_line 20 2 3 1000 1024 our_20 their_20 (long our_20) (long their_20) (omega arith)
 
 theirs_21 : IsOurs 24 Ours theirs 21
 theirs_21 =
-    let o = road row_nodes (roads_records 1000 1060) tt tt 21 2 3 (refl, refl, refl) in
     let t = road row_nodes theirs_records tt tt 21 2 3 (refl, refl, refl) in
-    let here : dm Ours 21 ≡ 1060 = long o in
-    let there : dm theirs 21 ≡ 1035 = long t in
-    record { known = o.known; starts = t.from ∙ sym o.from; ends = t.to ∙ sym o.to; length = omega (arith, here, there) }
+    same_line 21 2 3 1060 1035 our_21 t (long our_21) (long t) (omega arith)
 
 theirs_30 : IsOurs 24 Ours theirs 30
 theirs_30 =
     let o = road row_nodes (roads_records 1000 1060) tt tt 30 3 4 (refl, refl, refl) in
-    let t = road row_nodes theirs_records tt tt 30 3 4 (refl, refl, refl) in
-    let here : dm Ours 30 ≡ 100 = long o in
-    let there : dm theirs 30 ≡ 100 = long t in
-    record { known = o.known; starts = t.from ∙ sym o.from; ends = t.to ∙ sym o.to; length = omega (arith, here, there) }
+    same_line 30 3 4 100 100 o their_30 (long o) (long their_30) (omega arith)
 
 pub theirs_are_ours : HasOurs 24 Ours theirs 4 2 1124
 theirs_are_ours y r = elim (theirs_reach y r) [
@@ -144,29 +156,16 @@ theirs_has_others h =
     let off : has_line Ours 40 ≡ false = has_line_is row_nodes (roads_records 1000 1060) tt tt 40 in
     absurd (grind (arith, on, off))
 
-along_20 : HasAlong 24 Ours theirs (20 ∷ [])
-along_20 =
-    let o = road row_nodes (roads_records 1000 1060) tt tt 20 2 3 (refl, refl, refl) in
-    let t = road row_nodes theirs_records tt tt 20 2 3 (refl, refl, refl) in
-    let here : dm Ours 20 ≡ 1000 = long o in
-    let there : dm theirs 20 ≡ 1024 = long t in
-    let is : (x : ℕ) → IsTrue (has (20 ∷ []) x) → 20 ≡ x = λ x i. elim (has_cases 20 [] x i) [ inl e ↦ e | inr no_more ↦ absurd cc ] in
-    record {
-      known = λ x i. subst (λ k. IsTrue (has_line theirs k)) (is x i) t.known;
-      starts = λ x i. subst (λ k. start theirs k ≡ start Ours k) (is x i) (t.from ∙ sym o.from);
-      ends = λ x i. subst (λ k. end theirs k ≡ end Ours k) (is x i) (t.to ∙ sym o.to);
-      own = λ x i. subst (λ k. 1000 * dm theirs k ≤ (1000 + 24) * dm Ours k) (is x i) (omega (arith, here, there));
-    }
-
 pub recovered_there : (w : List ℕ) → RecoversTo theirs 4 10 30 w ↔ (w ≡ 10 ∷ 20 ∷ [])
 recovered_there =
     let l10 = road row_nodes theirs_records tt tt 10 1 2 (refl, refl, refl) in
-    let l20 = road row_nodes theirs_records tt tt 20 2 3 (refl, refl, refl) in
-    let l30 = road row_nodes theirs_records tt tt 30 3 4 (refl, refl, refl) in
-    let long20 : dm theirs 20 ≡ 1024 = long l20 in
+    let here : dm Ours 20 ≡ 1000 = long our_20 in
+    let there : dm theirs 20 ≡ 1024 = long their_20 in
     let class : (line_at theirs 20).frc ≤ 4 = omega (arith, ap (λ (l : Line). l.frc) (line_at_is row_nodes theirs_records tt tt 20)) in
-    let only = only_there fifty Ours theirs theirs_sound 24 24 refl (20 ∷ []) along_20 4 2 3 1124 (class, tt) (omega (arith, long20)) theirs_are_ours ours_unique in
-    recovers_only theirs 4 10 30 (20 ∷ []) (coe 0 1 (i. OnlyShortest theirs 4 (sym l10.to i) (sym l30.from i) (20 ∷ [])) only)
+    let roads = roads_of 24 Ours theirs 4 2 1124 1124 (omega arith) theirs_are_ours in
+    let road = road_of 24 Ours theirs 4 2 1124 20 their_20.known theirs_20 in
+    let only = only_20 theirs theirs_sound itself 1124 road (omega (arith, here, there)) (class, tt) (omega (arith, there)) roads in
+    recovers_only theirs 4 10 30 (20 ∷ []) (coe 0 1 (i. OnlyShortest theirs 4 (sym l10.to i) (sym their_30.from i) (20 ∷ [])) only)
 
 -- ---- a map on which line 20 is split
 
@@ -210,42 +209,40 @@ pair_of a b [] after y z e = (cc, cc)
 pair_of a b (u ∷ []) after y z e = absurd (omega (arith, ap (λ (zs : List ℕ). length zs) e))
 pair_of a b (u ∷ v ∷ us) after y z e = absurd (omega (arith, ap (λ (zs : List ℕ). length zs) e, length-append us (y ∷ z ∷ after)))
 
-alone_is : (a : ℕ) (before after : List ℕ) (y z : ℕ) → a ∷ [] ≡ before ++ y ∷ z ∷ after → ⊥
-alone_is a [] after y z e = absurd (omega (arith, ap (λ (zs : List ℕ). length zs) e))
-alone_is a (u ∷ us) after y z e = absurd (omega (arith, ap (λ (zs : List ℕ). length zs) e, length-append us (y ∷ z ∷ after)))
+split_201 : IsRoad split_roads 201 (leg_in row_nodes split_records 201) 2 5
+split_201 = road row_nodes split_records tt tt 201 2 5 (refl, refl, refl)
+
+split_202 : IsRoad split_roads 202 (leg_in row_nodes split_records 202) 5 3
+split_202 = road row_nodes split_records tt tt 202 5 3 (refl, refl, refl)
 
 split_20 : split.IsRoad 24 Ours split_roads split_chain 4 2 1024 20
 split_20 =
-    let o = road row_nodes (roads_records 1000 1060) tt tt 20 2 3 (refl, refl, refl) in
-    let s = road row_nodes split_records tt tt 201 2 5 (refl, refl, refl) in
-    let t = road row_nodes split_records tt tt 202 5 3 (refl, refl, refl) in
-    let here : dm Ours 20 ≡ 1000 = long o in
-    let first : dm split_roads 201 ≡ 512 = long s in
-    let second : dm split_roads 202 ≡ 512 = long t in
+    let here : dm Ours 20 ≡ 1000 = long our_20 in
+    let first : dm split_roads 201 ≡ 512 = long split_201 in
+    let second : dm split_roads 202 ≡ 512 = long split_202 in
     record {
-      known = o.known;
-      route = (s.known, s.from ∙ sym o.from, (t.known, t.from ∙ sym s.to, t.to ∙ sym o.to));
+      known = our_20.known;
+      route = (split_201.known, split_201.from ∙ sym our_20.from, (split_202.known, split_202.from ∙ sym split_201.to, split_202.to ∙ sym our_20.to));
       length = omega (arith, here, first, second);
       inner = λ before after y z e.
           let p = pair_of 201 202 before after y z e in
           subst (λ k. IsInner Ours split_roads 4 2 1024 k z) p.0
           (subst (IsInner Ours split_roads 4 2 1024 201) p.1 (record {
-            new = λ n. new_node (subst (IsNode Ours) s.to n);
-            onward = λ w r from. inl (from_5 w r.known (from ∙ s.to));
+            new = λ n. new_node (subst (IsNode Ours) split_201.to n);
+            onward = λ w r from. inl (from_5 w r.known (from ∙ split_201.to));
           }));
     }
 
 split_21 : split.IsRoad 24 Ours split_roads split_chain 4 2 1024 21
 split_21 =
-    let o = road row_nodes (roads_records 1000 1060) tt tt 21 2 3 (refl, refl, refl) in
     let t = road row_nodes split_records tt tt 21 2 3 (refl, refl, refl) in
-    let here : dm Ours 21 ≡ 1060 = long o in
+    let here : dm Ours 21 ≡ 1060 = long our_21 in
     let there : dm split_roads 21 ≡ 1035 = long t in
     record {
-      known = o.known;
-      route = (t.known, t.from ∙ sym o.from, t.to ∙ sym o.to);
+      known = our_21.known;
+      route = (t.known, t.from ∙ sym our_21.from, t.to ∙ sym our_21.to);
       length = omega (arith, here, there);
-      inner = λ before after y z e. absurd (alone_is 21 before after y z e);
+      inner = λ before after y z e. absurd (omega (arith, ap (λ (zs : List ℕ). length zs) e, length-append before (y ∷ z ∷ after)));
     }
 
 pub split_has_roads : HasRoads 24 Ours split_roads split_chain 4 2 1024
@@ -259,19 +256,13 @@ split_has_roads y r = elim (split_reach y r) [
 
 pub recovered_roads : (w : List ℕ) → RecoversTo split_roads 4 10 30 w ↔ (w ≡ 10 ∷ 201 ∷ 202 ∷ [])
 recovered_roads =
-    let o = road row_nodes (roads_records 1000 1060) tt tt 20 2 3 (refl, refl, refl) in
     let l10 = road row_nodes split_records tt tt 10 1 2 (refl, refl, refl) in
     let l30 = road row_nodes split_records tt tt 30 3 4 (refl, refl, refl) in
-    let s = road row_nodes split_records tt tt 201 2 5 (refl, refl, refl) in
-    let t = road row_nodes split_records tt tt 202 5 3 (refl, refl, refl) in
-    let here : dm Ours 20 ≡ 1000 = long o in
-    let first : dm split_roads 201 ≡ 512 = long s in
-    let second : dm split_roads 202 ≡ 512 = long t in
+    let here : dm Ours 20 ≡ 1000 = long our_20 in
+    let first : dm split_roads 201 ≡ 512 = long split_201 in
+    let second : dm split_roads 202 ≡ 512 = long split_202 in
     let class : (y : ℕ) → (line_in split_records y).frc ≡ 3 → (line_at split_roads y).frc ≤ 4 = λ y e.
     omega (arith, e, ap (λ (l : Line). l.frc) (line_at_is row_nodes split_records tt tt y)) in
-    let is : (x : ℕ) → IsTrue (has (20 ∷ []) x) → 20 ≡ x = λ x i. elim (has_cases 20 [] x i) [ inl e ↦ e | inr no_more ↦ absurd cc ] in
-    let only = only_roads fifty Ours split_roads split_sound 24 24 refl split_chain (20 ∷ [])
-    (λ x i. subst (λ k. IsRoute split_roads (start Ours k) (end Ours k) (split_chain k)) (is x i) split_20.route)
-    (λ x i. subst (λ k. 1000 * dm_of split_roads (split_chain k) ≤ (1000 + 24) * dm Ours k) (is x i) (omega (arith, here, first, second)))
-    4 2 3 1024 (class 201 refl, (class 202 refl, tt)) (omega (arith, first, second)) split_has_roads (20, o.known, inl o.from) (20, o.known, inr o.to) ours_unique in
+    let only = only_20 split_roads split_sound split_chain 1024 split_20 (omega (arith, here, first, second)) (class 201 refl, (class 202 refl, tt))
+    (omega (arith, first, second)) split_has_roads in
     recovers_only split_roads 4 10 30 (201 ∷ 202 ∷ []) (coe 0 1 (i. OnlyShortest split_roads 4 (sym l10.to i) (sym l30.from i) (201 ∷ 202 ∷ [])) only)

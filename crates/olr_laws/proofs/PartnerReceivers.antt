@@ -6,9 +6,8 @@ use Rattle.olr_spec.proofs.Common.{stretch, extended_path, RecoversTo, RecoversL
 use Rattle.olr_spec.proofs.DecodedLemmas.{Kept, form}
 use Rattle.olr_spec.proofs.Facts.{path_also, path_at}
 use Rattle.olr_spec.proofs.FitLemmas.{by_answer}
-use Rattle.olr_spec.proofs.PartnerLemmas.{recovered_elsewhere}
+use Rattle.olr_spec.proofs.PartnerLemmas.{itself, chains_itself, along_roads, kept_roads}
 use Rattle.olr_spec.proofs.ReceiverLemmas.{line_at_point, same_path, size}
-use Rattle.olr_spec.specs.Elsewhere.{RecoversLegs}
 use Rattle.olr_spec.specs.Split.{chains, RecoversRoads}
 use Rattle.olr_spec.specs.Extension.{first, last}
 use Rattle.olr_spec.proofs.SplitLemmas.{recovered_on_roads}
@@ -105,36 +104,16 @@ read_on_roads c i N n a b within chain p at r e along roads takes own ws =
 
 -- ---- a map that splits none
 
-abbrev single : ℕ → List ℕ
-single x = x ∷ []
-
-chains_single : (xs : List ℕ) → chains single xs ≡ xs
-chains_single [] = refl
-chains_single (x ∷ xs) = ap (λ zs. x ∷ zs) (chains_single xs)
-
-all_single : (xss : List (List ℕ)) → map (chains single) xss ≡ xss
-all_single [] = refl
-all_single (xs ∷ xss) = λ n. chains_single xs n ∷ all_single xss n
-
-as_roads : (g : Margin) (M N : Map) (ls ks : List ℕ) → RecoversLegs g M N ls ks → RecoversRoads g M N single ls ks
-as_roads g M N ls [] h = tt
-as_roads g M N ls (p ∷ []) h = tt
-as_roads g M N ls (p ∷ q ∷ []) h =
-    subst (λ zs. (w : List ℕ) → RecoversLast N (attrs_with g (legs M ls) p q).lfrc (slice_index ls p) (slice_index ls (q - 1)) w ↔ (w ≡ zs))
-    (sym (chains_single (stretch ls p q))) h
-as_roads g M N ls (p ∷ q ∷ r ∷ ks) h = (
-  subst (λ zs. (w : List ℕ) → RecoversTo N (attrs_with g (legs M ls) p q).lfrc (slice_index ls p) (slice_index ls q) w ↔ (w ≡ zs))
-      (sym (chains_single (stretch ls p q))) h.0,
-  as_roads g M N ls (q ∷ r ∷ ks) h.1,
-)
+all_itself : (xss : List (List ℕ)) → map (chains itself) xss ≡ xss
+all_itself [] = refl
+all_itself (xs ∷ xss) = λ n. chains_itself xs n ∷ all_itself xss n
 
 pub read_elsewhere : LawOf (λ (l : ReceiverLaws). l.read_elsewhere)
 read_elsewhere c i N n a b within p at r e along classes ours takes own ws =
     let is = path_in c.paths p i.paths at in
     let x = by_answer c.map p.path r e in
-    let legs_there = path_at i.map is x.0 x.1 (recovered_elsewhere c.margin c.map N i.map n a b within p.path is r e along classes ours) in
-    let roads : TakesRoads takes single c.margin c.map p.path r = record { outgoing = own.outgoing; incoming = own.incoming } in
-    let by = recovered takes single c.map N i.map p.path is x.0 r x.1 roads (as_roads c.margin c.map N _ _ legs_there.1) ws in (
-      (λ z. path_also x.1 (path_at i.map is x.0 x.1 (by.0 z) ∙ all_single _)),
-      (λ s. by.1 (path_also x.1 (path_at i.map is x.0 x.1 s ∙ sym (all_single _)))),
+    let roads : TakesRoads takes itself c.margin c.map p.path r = record { outgoing = own.outgoing; incoming = own.incoming } in
+    let by = read_on_roads c i N n a b within itself p at r e (along_roads i.map a b is x.0 along classes) (kept_roads i.map a b is x.0 along ours) takes roads ws in (
+      (λ z. path_also x.1 (path_at i.map is x.0 x.1 (by.0 z) ∙ all_itself _)),
+      (λ s. by.1 (path_also x.1 (path_at i.map is x.0 x.1 s ∙ sym (all_itself _)))),
     )

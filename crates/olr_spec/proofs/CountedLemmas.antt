@@ -55,7 +55,4 @@ counted_route g M xs s t (y ∷ ys) w =
 
 pub route_counted : (g : Margin) (M : Map) (xs : List ℕ) (s t : ℕ) (ys : List ℕ) → IsRoute (counted g M xs) s t ys → IsRoute M s t ys
 route_counted g M xs s t [] w = w
-route_counted g M xs s t (y ∷ ys) w =
-    let e = counted_end g M xs y in
-    let rest = route_counted g M xs (end (counted g M xs) y) t ys w.2 in
-    grind (arith, counted_known g M xs y, counted_start g M xs y, e, rest)
+route_counted g M xs s t (y ∷ ys) w = grind (arith, counted_end, counted_known, counted_start, (route_counted g M xs (end (counted g M xs) y) t ys w.2))

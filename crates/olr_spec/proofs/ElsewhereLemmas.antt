@@ -1,22 +1,23 @@
 -- A route that is the unique shortest one where its own lines count longer is so on a map whose lengths are nearly the
 -- same.
-use Rattle.olr_spec.proofs.Common.{inl, inr, [], ◌||◌, ◌≡◌, ◌≢◌, ◌⊎◌, ◌+◌, ◌-◌, ◌*◌, ◌≤◌, ◌<◌, ◌∷◌, sym, ap, ◌∙◌, not, has, Map}
+use Rattle.olr_spec.proofs.Common.{inl, inr, [], ◌||◌, ◌≡◌, ◌≢◌, ◌+◌, ◌-◌, ◌*◌, ◌≤◌, ◌<◌, ◌∷◌, sym, ap, ◌∙◌, not, has, Map}
 use Rattle.olr_spec.proofs.Common.{start, end, dm, ℕ, IsTrue, IsRoute, UniqueShortest, leb-true, le-leb, Margin, counted, cases_eq}
 use Rattle.olr_spec.proofs.Common.{not-true, or_comm, Bool, true, false, List, ◌++◌, refl, subst, arith, ◌&&◌, ◌==◌, IsMap}
-use Rattle.olr_spec.proofs.Common.{dm_of, get_or, ne_eqb, cases_Bool, none_twice, and_parts, and_from, has_line, counted_dm}
+use Rattle.olr_spec.proofs.Common.{dm_of, get_or, ne_eqb, cases_Bool, none_twice, and_parts, has_line, counted_dm}
 use Rattle.olr_spec.proofs.Common.{IsSoundFor, get_or-take, list_any-append, append_assoc, CountedRoute, length-take-le}
 use Rattle.olr_spec.proofs.Common.{cases_lt, length, take_all, sum_by-append, MarginLaws, LawOf, Within, ◌↔◌}
-use Rattle.olr_spec.specs.Elsewhere.{HasAlong, InReach, HasOurs, suffices}
+use Rattle.olr_spec.specs.Elsewhere.{HasAlong, InReach, suffices}
 use Rattle.olr_spec.specs.Receiver.{Shortest}
 use Rattle.std.proofs.Math.Nat.{mul-le-mul_left, mul-le-mul_right, mul-add, lt_of_mul-lt-mul_left}
 use Rattle.std.proofs.lemmas.List.Sums.{sum_by-cons, split_at_first, fails_before_first, passes_at_first, prefix_len-le-length}
 use Rattle.std.specs.List.{sum_by, before_first, after_first, position_or_len}
-use Rattle.olr_spec.proofs.ListLemmas.{Each, Each-nil, Each-cons, Each-right, has_cases, dec_same, has_here, has_there, at_index}
+use Rattle.olr_spec.proofs.ListLemmas.{Each, Each-nil, Each-cons, has_cases, dec_same, has_here, has_there, at_index}
 use Rattle.olr_spec.proofs.RouteLemmas.{positive, IsRoute-split, IsRoute-append, dm_of-append, prefix_of_unique}
 use Rattle.olr_spec.proofs.WayLemmas.{route_known}
+use Rattle.olr_spec.proofs.SimpleLemmas.{simplified, simple_once}
 use Rattle.olr_spec.proofs.CountedLemmas.{counted_other, counted_own, counted_route, route_counted, counted_least, counted_zero}
 
--- ---- routes without a line twice
+-- ---- lists
 
 -- a list from one of its lines on
 pub from_line : (y : ℕ) (ys : List ℕ) → has ys y ≡ true → (front : List ℕ) × (back : List ℕ) × (ys ≡ front ++ y ∷ back)
@@ -25,43 +26,6 @@ from_line y (x ∷ ys) on = elim (has_cases x ys y on) [
   | inl e ↦ ([], ys, ap (λ z. z ∷ ys) e)
   | inr there ↦ let r = from_line y ys there in (x ∷ r.0, r.1, ap (λ zs. x ∷ zs) r.2)
 ]
-
-pub once_right : (xs ys : List ℕ) → none_twice (xs ++ ys) ≡ true → none_twice ys ≡ true
-once_right [] ys once = once
-once_right (x ∷ xs) ys once = once_right xs ys (and_parts (not (has (xs ++ ys) x)) (none_twice (xs ++ ys)) once).1
-
--- a route without a line twice, which is shorter unless it is the same
-record Cut (N : Map) (s t : ℕ) (ys : List ℕ) : Type 0 where
-  rest : List ℕ
-  route : IsRoute N s t rest
-  once : none_twice rest ≡ true
-  part : Each (λ x. has ys x ≡ true) rest
-  shorter : (rest ≡ ys) ⊎ (dm_of N rest < dm_of N ys)
-
-cut : (N : Map) → IsMap N → (s t : ℕ) (ys : List ℕ) → IsRoute N s t ys → Cut N s t ys
-cut N n s t [] w = record { rest = []; route = w; once = refl; part = λ x i. i; shorter = inl refl }
-cut N n s t (y ∷ ys) w =
-    let c = cut N n (end N y) t ys w.2 in
-    let later : Each (λ x. has (y ∷ ys) x ≡ true) c.rest = λ x i. has_there y ys x (c.part x i) in
-    elim (cases_Bool (has c.rest y)) [
-      | inl on ↦
-          let p = from_line y c.rest on in
-          let part = IsRoute-split N (end N y) t p.0 (y ∷ p.1) (subst (IsRoute N (end N y) t) p.2 c.route) in
-          record {
-            rest = y ∷ p.1;
-            route = (part.2.0, w.1, part.2.2);
-            once = once_right p.0 (y ∷ p.1) (subst (λ zs. none_twice zs ≡ true) p.2 c.once);
-            part = Each-right (λ x. has (y ∷ ys) x ≡ true) p.0 (y ∷ p.1) (subst (Each (λ x. has (y ∷ ys) x ≡ true)) p.2 later);
-            shorter = inr (grind (arith, c.shorter, positive N n y w.0, p.2, dm_of-append N p.0 (y ∷ p.1)));
-          }
-      | inr off ↦ record {
-        rest = y ∷ c.rest;
-        route = (w.0, w.1, c.route);
-        once = and_from (not (has c.rest y)) (none_twice c.rest) (ap not off) c.once;
-        part = Each-cons (λ x. has (y ∷ ys) x ≡ true) y c.rest (has_here y ys) later;
-        shorter = grind (arith, c.shorter);
-      }
-    ]
 
 -- ---- sums over the lines of a list
 
@@ -200,12 +164,12 @@ module _ (g : Margin) (M N : Map) (n : IsMap N) (a b : ℕ) (enough : IsTrue (su
   -- each other route over lines of both maps is longer
   rivals_longer : (s t : ℕ) → UniqueShortest K s t xs → (ys : List ℕ) → IsRoute N s t ys → Each Rival ys → ys ≢ xs → dm_of N xs < dm_of N ys
   rivals_longer s t u ys w rivals ne =
-      let c = cut N n s t ys w in
+      let c = simplified N n s t ys w in
       let r : Each Rival c.rest = λ y i. rivals y (c.part y i) in
       let k = counted_route g M xs s t c.rest (route_here s t c.rest r c.route) in
       elim (dec_same c.rest xs) [
         | yes same ↦ grind (arith, c.shorter, same, ne)
-        | no other ↦ grind (arith, longer_there c.rest r c.once (u.others c.rest k other), c.shorter)
+        | no other ↦ grind (arith, longer_there c.rest r (simple_once N s c.rest c.simple) (u.others c.rest k other), c.shorter)
       ]
 
 pub unique_there : (g : Margin) → LawOf (λ (l : MarginLaws g). l.unique_elsewhere)
@@ -250,29 +214,6 @@ in_reach N n c s t most (y ∷ ys) w i le =
 -- xs is the only shortest route over such lines
 abbrev pub OnlyShortest : Map → ℕ → ℕ → ℕ → List ℕ → Type 0
 OnlyShortest M c s t xs = (ys : List ℕ) → Shortest M c s t ys ↔ (ys ≡ xs)
-
--- where the lines in reach are ours
-pub only_there : (g : Margin) (M N : Map) → IsMap N → (a b : ℕ) → IsTrue (suffices g a b) → (xs : List ℕ) → HasAlong a M N xs → (c s t most : ℕ) →
-    Within N c xs → dm_of N xs ≤ most → HasOurs b M N c s most → UniqueShortest (counted g M xs) s t xs → OnlyShortest N c s t xs
-only_there g M N n a b enough xs along c s t most within le ours u ys =
-    let on_M = route_known M s t xs (route_counted g M xs s t xs u.route) in
-    let route = route_kept g M N n a b enough xs on_M along s t u in
-    let longer : (zs : List ℕ) → IsRoute N s t zs → Within N c zs → zs ≢ xs → dm_of N xs < dm_of N zs = λ zs w i ne.
-    elim (cases_lt (dm_of N xs) (dm_of N zs)) [
-      | inl lt ↦ lt
-      | inr less ↦
-          let reach = in_reach N n c s t most zs w i (omega (arith, le, less)) in
-          rivals_longer g M N n a b enough xs on_M along s t u zs w (λ y j.
-          let o = ours y (reach y j) in
-          record { known = o.known; starts = o.starts; ends = o.ends; long = λ off. o.length }) ne
-    ] in (
-      (λ h. elim (dec_same ys xs) [ yes e ↦ e | no ne ↦ absurd (omega (arith, longer ys h.route h.within ne, h.first xs route within)) ]),
-      (λ e. subst (Shortest N c s t) (sym e) (record {
-        route = route;
-        within = within;
-        first = λ zs w i. elim (dec_same zs xs) [ yes f ↦ omega (arith, ap (dm_of N) f) | no ne ↦ omega (arith, longer zs w i ne) ];
-      })),
-    )
 
 -- ---- on the same map
 

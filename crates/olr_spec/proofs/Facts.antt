@@ -4,7 +4,7 @@ pub use Rattle.olr_spec.proofs.AgreeLemmas.{same_passing, same_record, same_star
 pub use Rattle.olr_spec.proofs.AnswerLemmas.{all_first, all_last, by_fault, map_None, one_answer_with, one_follow, one_next}
 pub use Rattle.olr_spec.proofs.AnswerLemmas.{or_None, path_also, path_at, path_nonempty, same_by, sound_lines, Next-candidate}
 pub use Rattle.olr_spec.proofs.CountedLemmas.{counted_known, counted_least, counted_nil, route_counted}
-pub use Rattle.olr_spec.proofs.ElsewhereLemmas.{counted_part, unique_there, only_there, OnlyShortest}
+pub use Rattle.olr_spec.proofs.ElsewhereLemmas.{counted_part, unique_there, OnlyShortest}
 pub use Rattle.olr_spec.proofs.JoinLemmas.{LinkedWith, between, between_is, empty_stretch, follow_linked_with, joins_last}
 pub use Rattle.olr_spec.proofs.JoinLemmas.{carries_here, kept_joins, counted_last, covered_to, stretch_last}
 pub use Rattle.olr_spec.proofs.JoinLemmas.{joins_to, kept_linked_with, routes_join, stretch_first, Carries, CountedTo}

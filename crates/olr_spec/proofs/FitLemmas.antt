@@ -111,9 +111,7 @@ module _ (M : Map) (m : IsMap M) (ls : List ℕ) (known : Each (Known M) ls) whe
   greatest_below : (a : ℕ) (xs : List ℕ) → Each (Known M) xs → a < 8 →
       fold max a (map (λ (g : Leg). g.line.frc) (legs M xs)) < 8
   greatest_below a [] h lt = lt
-  greatest_below a (x ∷ xs) h lt =
-      let here = greatest_below (max a (line_at M x).frc) xs (Each-tail (Known M) x xs h) in
-      grind (arith, Each-head (Known M) x xs h, nat_tests, and_parts)
+  greatest_below a (x ∷ xs) h lt = grind (arith, Each-tail, Each-head, nat_tests, and_parts, (greatest_below (max a (line_at M x).frc) xs (Each-tail (Known M) x xs h)))
 
   -- ---- positions
 

@@ -20,7 +20,9 @@ pub mod KeptLemmas
 pub mod FitLemmas
 pub mod DecodedLemmas
 pub mod ReceiverLemmas
+pub mod SimpleLemmas
 pub mod ElsewhereLemmas
+pub mod LegLemmas
 pub mod SplitLemmas
 pub mod SectorLemmas
 pub mod BytesLemmas

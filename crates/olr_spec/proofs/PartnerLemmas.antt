@@ -1,24 +1,20 @@
 -- The routes between the LRPs on another map.
-use Rattle.olr_spec.proofs.Common.{inr, true, List, subst, arith, IsTrue, IsMap, start, legs, Margin, Within, fold, ◌==◌}
-use Rattle.olr_spec.proofs.Common.{◌≡◌, ℕ, ◌+◌, ◌≤◌, ◌<◌, [], ◌∷◌, sym, ap, Map, end, has, max, map, Leg, ◌-◌, length, has_line}
-use Rattle.olr_spec.proofs.Common.{stretch, last_kept, UniqueShortest, allowed, none_twice, attrs_with, cases_Bool, slice_index}
-use Rattle.olr_spec.proofs.Common.{first_kept, extended_path, kept_points, AnswerLaws, LawOf}
-use Rattle.olr_spec.proofs.Common.{dm_of, CandidateWith, RecoversTo, RecoversLast, ◌↔◌, ◌++◌}
-use Rattle.olr_spec.specs.Margins.{counted}
-use Rattle.olr_spec.specs.Elsewhere.{HasNoOther, IsNearly, IsNearlyAlong, HasAlong, HasClasses, HasOurs, LegHasOurs, EachLeg, RecoversLegs, suffices}
-use Rattle.olr_spec.proofs.Facts.{Each, Each-head, Each-tail, Each-left, Each-right, Known, has_here, has_there, has_filter}
-use Rattle.olr_spec.proofs.Facts.{Carries, kept_joins, stretch_first, LinkedWith, kept_linked_with, follow_linked_with, between}
-use Rattle.olr_spec.proofs.Facts.{between_is, unique_there, path_at, path_also, only_there, OnlyShortest, CountedTo, counted_last}
-use Rattle.olr_spec.proofs.Facts.{covered_to, stretch_last, dm_of-append}
+use Rattle.olr_spec.proofs.Common.{inl, inr, None, true, has_line, List, subst, arith, IsTrue, IsMap, start, legs, Margin, refl, ◌↔◌}
+use Rattle.olr_spec.proofs.Common.{◌≡◌, ℕ, ◌+◌, ◌≤◌, ◌<◌, [], ◌∷◌, sym, ap, Map, end, has, ◌-◌, length, length-append, Path, is_path}
+use Rattle.olr_spec.proofs.Common.{stretch, last_kept, UniqueShortest, CountedRoute, none_twice, attrs_with, slice_index, path_fault}
+use Rattle.olr_spec.proofs.Common.{first_kept, AnswerLaws, LawOf, AreJoined, dm_of, CandidateWith, RecoversTo, RecoversLast, cases_eq}
+use Rattle.olr_spec.specs.Elsewhere.{HasNoOther, IsNearly, IsNearlyAlong, HasAlong, HasClasses, HasOurs, LegHasOurs, IsOurs, KeptLines, KeptLegs}
+use Rattle.olr_spec.specs.Elsewhere.{RecoversLegs, suffices}
+use Rattle.olr_spec.specs.Split.{chains, IsRoad, HasRoads, HasRoadsAlong, HasKeptRoads, LegHasRoads, LastHasRoads, PartHasRoads, Behind, RecoversRoads}
+use Rattle.olr_spec.proofs.CountedLemmas.{counted_nil}
+use Rattle.olr_spec.proofs.Facts.{has_here, Carries, kept_joins, unique_there, path_at, path_also, counted_last, covered_to, dm_of-append}
+use Rattle.olr_spec.proofs.Facts.{empty_stretch, empty_unique, next_start}
 use Rattle.olr_spec.proofs.QueryLemmas.{stretch_parts}
-use Rattle.olr_spec.proofs.FitLemmas.{range_legs, by_answer, extended_sound, answered}
-use Rattle.olr_spec.proofs.ReceiverLemmas.{within_greatest, recovers_only, recovers_last_only, within_parts, extended_once, once_apart}
-
--- what holds of each line of a part holds of each line of a part of it
-pub part_of : (P : ℕ → Type 0) (ls : List ℕ) (a b p q : ℕ) → a ≤ p → p ≤ q → q ≤ b → Each P (stretch ls a b) → Each P (stretch ls p q)
-part_of P ls a b p q from h to all =
-    let behind = Each-right P (stretch ls a p) (stretch ls p b) (subst (Each P) (stretch_parts ls a p b from (omega arith)) all) in
-    Each-left P (stretch ls p q) (stretch ls q b) (subst (Each P) (stretch_parts ls p q b h to) behind)
+use Rattle.olr_spec.proofs.FitLemmas.{by_answer}
+use Rattle.olr_spec.proofs.JoinedLemmas.{extended_joined}
+use Rattle.olr_spec.proofs.ReceiverLemmas.{extended_once}
+use Rattle.olr_spec.proofs.LegLemmas.{part_of, line_on, once_range, of_kept, Lines_of, From, To, Kept_of}
+use Rattle.olr_spec.proofs.SplitLemmas.{recovered_on_roads}
 
 module _ (g : Margin) (M N : Map) (n : IsMap N) (no_other : HasNoOther M N) (a b : ℕ) (enough : IsTrue (suffices g a b))
     (ls : List ℕ) (from to : ℕ) (nearly : IsNearlyAlong a b M N (stretch ls from to)) where
@@ -27,16 +23,10 @@ module _ (g : Margin) (M N : Map) (n : IsMap N) (no_other : HasNoOther M N) (a b
       let on = part_of (λ x. has (stretch ls from to) x ≡ true) ls from to p q f h t (λ x i. i) in
       grind (arith, on, nearly.known, nearly.own, nearly.all)
 
-  line_there : (p : ℕ) → from ≤ p → p < to → p < length ls → IsTrue (has_line N (slice_index ls p))
-  line_there p f lt h =
-      let on = part_of (λ x. has (stretch ls from to) x ≡ true) ls from to p to f (omega arith) (omega arith) (λ x i. i) in
-      nearly.known (slice_index ls p) (Each-head (λ x. has (stretch ls from to) x ≡ true) (slice_index ls p) (stretch ls (p + 1) to)
-      (subst (Each (λ x. has (stretch ls from to) x ≡ true)) (stretch_first ls p to lt h) on))
-
   pub carries_there : Carries g M N ls from to
   carries_there p k f lt t h c =
-      let first = line_there p f (omega arith) (omega arith) in
-      let last = line_there k (omega arith) t h in
+      let first = nearly.known (slice_index ls p) (line_on ls from to p f (omega arith) (omega arith)) in
+      let last = nearly.known (slice_index ls k) (line_on ls from to k (omega arith) t h) in
       let route = unique_there g M N n no_other a b enough (stretch ls (p + 1) k) (nearly_part (p + 1) k (omega arith) (omega (arith, lt)) (omega arith))
       (end M (slice_index ls p)) (start M (slice_index ls k)) c in
       coe 0 1 (i. UniqueShortest N (sym (no_other.ends (slice_index ls p) first) i) (sym (no_other.starts (slice_index ls k) last) i) (stretch ls (p + 1) k)) route
@@ -47,126 +37,113 @@ routes_join_elsewhere g M N m n no_other a b enough ls js positive negative f ne
     let to = last_kept (legs M ls) negative js in
     kept_joins g M N (inr m) ls js positive negative (carries_there g M N n no_other a b enough ls from to nearly) f
 
--- ---- receivers
+-- ---- a map that splits no roads: there each line is a road
 
-within_there : (g : Margin) (M N : Map) (c : ℕ) (xs : List ℕ) → Within M c xs → HasClasses g M N xs → Within N (allowed g c) xs
-within_there g M N c [] w h = tt
-within_there g M N c (x ∷ xs) w h =
-    let rest = within_there g M N c xs w.1 (λ y on. h y (has_there x xs y on)) in
-    grind (arith, h x (has_here x xs), cases_Bool (g.classes == 0), rest)
+abbrev pub itself : ℕ → List ℕ
+itself x = x ∷ []
 
-module _ (g : Margin) (M N : Map) (m : IsMap M) (n : IsMap N) (a b : ℕ) (enough : IsTrue (suffices g a b)) (ls : List ℕ)
-    (known : Each (Known M) ls) (once : none_twice ls ≡ true) (from to : ℕ) (along : HasAlong a M N (stretch ls from to))
-    (classes : HasClasses g M N (stretch ls from to)) where
-  abbrev On : ℕ → Type 0
-  On x = has (stretch ls from to) x ≡ true
+pub chains_itself : (xs : List ℕ) → chains itself xs ≡ xs
+chains_itself [] = refl
+chains_itself (x ∷ xs) = ap (λ zs. x ∷ zs) (chains_itself xs)
 
-  on_part : (p q : ℕ) → from ≤ p → p ≤ q → q ≤ to → Each On (stretch ls p q)
-  on_part p q f h t = part_of On ls from to p q f h t (λ x i. i)
+pub road_of : (b : ℕ) (M N : Map) (c s most y : ℕ) → IsTrue (has_line N y) → IsOurs b M N y → IsRoad b M N itself c s most y
+road_of b M N c s most y there o =
+    record {
+      known = o.known;
+      route = (there, o.starts, o.ends);
+      length = omega (arith, o.length);
+      inner = λ before after u v is. absurd (omega (arith, ap (λ (zs : List ℕ). length zs) is, length-append before (u ∷ v ∷ after)));
+    }
 
-  on_line : (p : ℕ) → from ≤ p → p < to → p < length ls → On (slice_index ls p)
-  on_line p f lt h =
-      Each-head On (slice_index ls p) (stretch ls (p + 1) to)
-      (subst (Each On) (stretch_first ls p to lt h) (on_part p to f (omega arith) (omega arith)))
+-- also where less is in reach
+pub roads_of : (b : ℕ) (M N : Map) (c s most upto : ℕ) → most ≤ upto → HasOurs b M N c s upto → HasRoads b M N itself c s most
+roads_of b M N c s most upto le ours y r =
+    let o = ours y (record { known = r.known; class = r.class; way = r.way; route = r.route; within = r.within; near = omega (arith, r.near, le) }) in
+    (y, road_of b M N c s most y r.known o, has_here y [])
 
-  along_part : (p q : ℕ) → from ≤ p → p ≤ q → q ≤ to → HasAlong a M N (stretch ls p q)
-  along_part p q f h t =
-      let on = on_part p q f h t in
-      record {
-        known = λ x i. along.known x (on x i);
-        starts = λ x i. along.starts x (on x i);
-        ends = λ x i. along.ends x (on x i);
-        own = λ x i. along.own x (on x i);
-      }
+module _ (g : Margin) (M N : Map) (m : IsMap M) (a b : ℕ) (ls : List ℕ) (joined : AreJoined M ls) (from to : ℕ)
+    (along : HasAlong a M N (stretch ls from to)) where
+  part_roads : (p q k t : ℕ) → from ≤ p → p < k → k ≤ q → q ≤ to → q ≤ length ls →
+      CountedRoute g M (end M (slice_index ls p)) t (stretch ls (p + 1) k) → LegHasOurs g b M N ls p q → PartHasRoads g b M N itself ls p q k t
+  part_roads p q k t f lt up below h counts ours =
+      let c = (attrs_with g (legs M ls) p q).lfrc in
+      let x = slice_index ls p in
+      let most = dm_of N (chains itself (stretch ls (p + 1) k)) in
+      let upto = dm_of N (stretch ls (p + 1) q) in
+      let parts = ap (dm_of N) (stretch_parts ls (p + 1) k q (omega (arith, lt)) up) in
+      let long : most ≤ upto = omega (arith, ap (dm_of N) (chains_itself (stretch ls (p + 1) k)), parts, dm_of-append N (stretch ls (p + 1) k) (stretch ls k q)) in
+      Behind refl counts (subst (λ v. HasRoads b M N itself c v most)
+      (along.ends x (line_on ls from to p f (omega (arith, lt, up, below)) (omega (arith, lt, up, h)))) (roads_of b M N c (end N x) most upto long ours))
 
-  abbrev Class : ℕ → ℕ → ℕ
-  Class p q = (attrs_with g (legs M ls) p q).lfrc
+  leg_roads : (p q : ℕ) → from ≤ p → q < to → q < length ls → CandidateWith g M ls p q → LegHasOurs g b M N ls p q → LegHasRoads g b M N itself ls p q
+  leg_roads p q f t h c ours =
+      let lt : p < q = c.after in
+      let next : end M (slice_index ls (q - 1)) ≡ start M (slice_index ls q) =
+      subst (λ k. end M (slice_index ls (q - 1)) ≡ start M (slice_index ls k)) (omega (arith, lt)) (next_start M _ _ ls (q - 1) joined (omega (arith, lt, h))) in
+      part_roads p q q (end M (slice_index ls (q - 1))) f lt (omega arith) (omega arith) (omega arith)
+      (subst (λ v. CountedRoute g M (end M (slice_index ls p)) v (stretch ls (p + 1) q)) (sym next) (covered_to g M ls p q q (omega arith) lt c.covered)) ours
 
-  leg_within : (p q : ℕ) → from ≤ p → p ≤ q → q ≤ to → Within N (Class p q) (stretch ls p q)
-  leg_within p q f h t =
-      let c = fold max 0 (map (λ (l : Leg). l.line.frc) (legs M (stretch ls p q))) in
-      let same = ap (λ (hs : List Leg). allowed g (fold max 0 (map (λ (l : Leg). l.line.frc) hs))) (range_legs M m ls known p q) in
-      let on = on_part p q f h t in
-      subst (λ (d : ℕ). Within N d (stretch ls p q)) (sym same)
-      (within_there g M N c (stretch ls p q) (within_greatest M 0 (stretch ls p q)) (λ x i. classes x (on x i)))
-
-  -- behind the first line of a leg
-  later_within : (p q : ℕ) → from ≤ p → p < q → q ≤ to → q ≤ length ls → Within N (Class p q) (stretch ls (p + 1) q)
-  later_within p q f lt t h =
-      let parts = stretch_first ls p q lt (omega arith) in
-      let whole : Within N (Class p q) (slice_index ls p ∷ stretch ls (p + 1) q) = subst (Within N (Class p q)) parts (leg_within p q f (omega arith) t) in
-      whole.1
-
-  only_leg : (p k c most : ℕ) → from ≤ p → p < k → k < to → k < length ls → Within N c (stretch ls (p + 1) k) →
-      dm_of N (stretch ls (p + 1) k) ≤ most → HasOurs b M N c (end N (slice_index ls p)) most → CountedTo g M ls p k →
-      OnlyShortest N c (end N (slice_index ls p)) (start N (slice_index ls k)) (stretch ls (p + 1) k)
-  only_leg p k c most f lt t h within le ours counts =
-      let xs = stretch ls (p + 1) k in
-      let ends = along.ends (slice_index ls p) (on_line p f (omega arith) (omega arith)) in
-      let starts = along.starts (slice_index ls k) (on_line k (omega arith) t h) in
-      only_there g M N n a b enough xs (along_part (p + 1) k (omega arith) (omega (arith, lt)) (omega arith)) c (end N (slice_index ls p)) (start N (slice_index ls k))
-      most within le ours (coe 0 1 (i. UniqueShortest (counted g M xs) (sym ends i) (sym starts i) xs) counts)
-
-  leg_to : (p q : ℕ) → from ≤ p → q < to → q < length ls → CandidateWith g M ls p q → LegHasOurs g b M N ls p q → (w : List ℕ) →
-      RecoversTo N (Class p q) (slice_index ls p) (slice_index ls q) w ↔ (w ≡ stretch ls p q)
-  leg_to p q f t h c ours w =
-      let only = only_leg p q (Class p q) (dm_of N (stretch ls (p + 1) q)) f c.after t h (later_within p q f c.after (omega arith) (omega arith))
-      (omega arith) ours (covered_to g M ls p q q (omega arith) c.after c.covered) in
-      subst (λ (zs : List ℕ). RecoversTo N (Class p q) (slice_index ls p) (slice_index ls q) w ↔ (w ≡ zs))
-      (sym (stretch_first ls p q c.after (omega (arith, c.after))))
-      (recovers_only N (Class p q) (slice_index ls p) (slice_index ls q) (stretch ls (p + 1) q) only w)
-
-  leg_last : (p k : ℕ) → from ≤ p → k < to → k < length ls → CandidateWith g M ls p (k + 1) → LegHasOurs g b M N ls p (k + 1) →
-      (w : List ℕ) → RecoversLast N (Class p (k + 1)) (slice_index ls p) (slice_index ls k) w ↔ (w ≡ stretch ls p (k + 1))
-  leg_last p k f t h c ours w =
-      let d = Class p (k + 1) in
-      let up : p < k + 1 = c.after in
-      recovers_last_only N ls d p k (omega (arith, up)) h (λ lt. once_apart ls p k once lt h)
-      (leg_within p (k + 1) f (omega (arith, up)) (omega arith)) (λ lt.
-      let parts = stretch_last ls (p + 1) k (omega (arith, lt)) h in
-      let long : dm_of N (stretch ls (p + 1) k) ≤ dm_of N (stretch ls (p + 1) (k + 1)) =
-      omega (arith, ap (dm_of N) parts, dm_of-append N (stretch ls (p + 1) k) (slice_index ls k ∷ [])) in
-      let later : Within N d (stretch ls (p + 1) k ++ slice_index ls k ∷ []) = subst (Within N d) parts (later_within p (k + 1) f up (omega arith) (omega arith)) in
-      only_leg p k d (dm_of N (stretch ls (p + 1) (k + 1))) f lt t h (within_parts N d (stretch ls (p + 1) k) (slice_index ls k ∷ []) later).0
-      long ours (counted_last g M (inr m) ls p k lt c)) w
-
-  recovers_legs : (ks : List ℕ) → LinkedWith g M ls ks → Each (λ k. from ≤ k) ks → Each (λ k. k ≤ to) ks →
-      EachLeg (LegHasOurs g b M N ls) ks → RecoversLegs g M N ls ks
-  recovers_legs [] l above below ours = tt
-  recovers_legs (p ∷ []) l above below ours = tt
-  recovers_legs (p ∷ q ∷ []) l above below ours =
-      let c = l.0 in
-      let k = q - 1 in
-      let after : p < q = c.after in
+  -- of one line, or up to the last one
+  last_roads : (p q : ℕ) → from ≤ p → q ≤ to → CandidateWith g M ls p q → LegHasOurs g b M N ls p q → LastHasRoads g b M N itself ls p q
+  last_roads p q f t c ours =
+      let lt : p < q = c.after in
       let upto : q ≤ length ls = c.upto in
-      let on : k + 1 ≡ q = omega (arith, after) in
-      let t = below q (has_there p (q ∷ []) q (has_here q [])) in
-      subst (λ (j : ℕ). (w : List ℕ) → RecoversLast N (Class p j) (slice_index ls p) (slice_index ls k) w ↔ (w ≡ stretch ls p j)) on
-      (leg_last p k (above p (has_here p (q ∷ []))) (omega (arith, on, t)) (omega (arith, on, upto)) (subst (CandidateWith g M ls p) (sym on) c)
-      (subst (LegHasOurs g b M N ls p) (sym on) ours.0))
-  recovers_legs (p ∷ q ∷ r ∷ ks) l above below ours =
-      let next : q < r = l.1.0.after in
-      let upto : r ≤ length ls = l.1.0.upto in
-      let t = below r (has_there p (q ∷ r ∷ ks) r (has_there q (r ∷ ks) r (has_here r ks))) in (
-        leg_to p q (above p (has_here p (q ∷ r ∷ ks))) (omega (arith, next, t)) (omega (arith, next, upto)) l.0 ours.0,
-        recovers_legs (q ∷ r ∷ ks) l.1 (Each-tail (λ k. from ≤ k) p (q ∷ r ∷ ks) above) (Each-tail (λ k. k ≤ to) p (q ∷ r ∷ ks) below) ours.1,
-      )
+      let x = slice_index ls p in
+      elim (cases_eq p (q - 1)) [
+        | inl e ↦
+            let bare = empty_stretch ls (p + 1) q (omega (arith, e)) in
+            let here = subst (λ K. UniqueShortest K (end M x) (end M x) []) (sym (counted_nil g M)) (empty_unique M m (end M x)) in
+            let there = subst (λ k. CountedRoute g M (end M x) (end M (slice_index ls k)) []) e here in
+            inl (part_roads p q q (end M (slice_index ls (q - 1))) f lt (omega arith) t upto
+            (subst (CountedRoute g M (end M x) (end M (slice_index ls (q - 1)))) (sym bare) there) ours)
+        | inr ne ↦
+            let on : q ≡ q - 1 + 1 = omega (arith, lt) in
+            inr (
+              refl,
+              omega (arith, lt, ne),
+              part_roads p q (q - 1) (start M (slice_index ls (q - 1))) f (omega (arith, lt, ne)) (omega arith) t upto
+                  (counted_last g M (inr m) ls p (q - 1) (omega (arith, lt, ne)) (subst (CandidateWith g M ls p) on c)) ours,
+            )
+      ]
+
+-- the lines of a path are roads, and so is what is in reach of each leg
+module _ {g : Margin} {M N : Map} (m : IsMap M) (a b : ℕ) {P : Path} (is : IsTrue (is_path P.lines)) (none : path_fault M P ≡ None)
+    (along : KeptLines g M P (HasAlong a M N)) where
+  pub along_roads : KeptLines g M P (HasClasses g M N) → KeptLines g M P (HasRoadsAlong g a M N itself)
+  along_roads classes =
+      let on = along.holds in
+      let within = path_at m is none along classes in
+      let once = once_range (Lines_of along) (From along) (To along) (extended_once M P along.before along.after is along.tried) in
+      path_also along (record {
+        some = λ x i. omega arith;
+        routes = λ x i. (on.known x i, on.starts x i, on.ends x i);
+        own = λ x i. omega (arith, on.own x i);
+        classes = λ x i. (within x i, tt);
+        once = subst (λ zs. none_twice zs ≡ true) (sym (chains_itself (stretch (Lines_of along) (From along) (To along)))) once;
+      })
+
+  pub kept_roads : KeptLegs g M P (LegHasOurs g b M N) → HasKeptRoads g b M N itself P
+  kept_roads ours =
+      let ls = Lines_of along in
+      let joined = extended_joined M P is none along.before along.after along.tried in
+      path_also along (of_kept along (LegHasOurs g b M N ls) (LegHasRoads g b M N itself ls) (LegHasOurs g b M N ls) (LastHasRoads g b M N itself ls)
+      (leg_roads g M N m a b ls joined (From along) (To along) along.holds) (last_roads g M N m a b ls joined (From along) (To along) along.holds)
+      (path_at m is none along ours))
+
+legs_of : (g : Margin) (M N : Map) (ls ks : List ℕ) → RecoversRoads g M N itself ls ks → RecoversLegs g M N ls ks
+legs_of g M N ls [] h = tt
+legs_of g M N ls (p ∷ []) h = tt
+legs_of g M N ls (p ∷ q ∷ []) h =
+    subst (λ zs. (w : List ℕ) → RecoversLast N (attrs_with g (legs M ls) p q).lfrc (slice_index ls p) (slice_index ls (q - 1)) w ↔ (w ≡ zs))
+    (chains_itself (stretch ls p q)) h
+legs_of g M N ls (p ∷ q ∷ r ∷ ks) h = (
+  subst (λ zs. (w : List ℕ) → RecoversTo N (attrs_with g (legs M ls) p q).lfrc (slice_index ls p) (slice_index ls q) w ↔ (w ≡ zs))
+      (chains_itself (stretch ls p q)) h.0,
+  legs_of g M N ls (q ∷ r ∷ ks) h.1,
+)
 
 pub recovered_elsewhere : (g : Margin) → LawOf (λ (l : AnswerLaws g). l.recovered_elsewhere)
 recovered_elsewhere g M N m n a b enough P is r e along classes ours =
-    let x = by_answer M P r e in
-    let p = x.1 in
-    let E = extended_path M P p.before p.after in
-    let s = extended_sound M P is x.0 p.before p.after p.tried in
-    let ans = answered g M E p.points r p.holds in
-    let from = first_kept (legs M E.lines) E.pos p.points in
-    let to = last_kept (legs M E.lines) E.neg p.points in
-    let kept = has_filter (between from to) (0 ∷ p.points) in
-    path_also p (
-      ans.1,
-      recovers_legs g M N m n a b enough E.lines s.known (extended_once M P p.before p.after is p.tried) from to
-          (path_at m is x.0 p along) (path_at m is x.0 p classes) (kept_points (legs M E.lines) E.pos E.neg p.points)
-          (kept_linked_with g M E.lines from to (0 ∷ p.points) (follow_linked_with g M E.lines 0 p.points p.follow))
-          (λ k h. grind (arith, kept k h, between_is from to k)) (λ k h. grind (arith, kept k h, between_is from to k))
-          (path_at m is x.0 p ours),
-    )
+    let none = (by_answer M P r e).0 in
+    let roads = recovered_on_roads g M N m n a b enough itself P is r e (along_roads m a b is none along classes) (kept_roads m a b is none along ours) in
+    path_also roads (roads.holds.0, legs_of g M N (Lines_of roads) (Kept_of roads) roads.holds.1)

@@ -13,7 +13,7 @@ use Rattle.olr_spec.proofs.Common.{suc, ◌+◌, ◌-◌, ◌∷◌, map, ◌<�
 use Rattle.olr_spec.specs.Receiver.{decoded_coord, RecoversFrom, last_number, RecoversBy, More_lines, sector_on, Outgoing, Lrp}
 use Rattle.olr_spec.specs.Receiver.{Incoming, last_lrp, Shortest, One_line, rating, lrp_at, Takes}
 use Rattle.olr_spec.specs.Recovery.{IsStretchesWith, IsLineAtWith, stretches, line_by}
-use Rattle.olr_spec.proofs.Facts.{OnlyShortest, empty_stretch, stretch_first, stretch_last, extended_keeps, has_number, LinkedWith, joins_last, has_index, path_also, at_index, joins_to}
+use Rattle.olr_spec.proofs.Facts.{OnlyShortest, extended_keeps, has_number, LinkedWith, joins_last, has_index, path_also, at_index, joins_to}
 use Rattle.olr_spec.proofs.Facts.{path_at, Known, Each, carries_here, Carries, Each-range, Each-head, Each-tail, dec_same}
 use Rattle.olr_spec.proofs.FitLemmas.{range_legs, extended_sound, by_answer}
 use Rattle.olr_spec.proofs.DecodedLemmas.{answer_decodes, Front, Back, Form, Kept, form}
@@ -96,27 +96,6 @@ recovers_last M ls c p q lt up differ within j w =
           more_lines M c (slice_index ls p) (slice_index ls (q - 1)) (stretch ls p q) t.0
           (differ (omega (arith, ap (λ (xs : List ℕ). length xs) t.1, length-append t.0 (slice_index ls (q - 1) ∷ []))))
           within t.1 t.2 w
-    ]
-
--- from line p to line k, the last of its leg
-pub recovers_last_only : (M : Map) (ls : List ℕ) (c p k : ℕ) → p ≤ k → k < length ls → (p < k → slice_index ls p ≢ slice_index ls k) →
-    Within M c (stretch ls p (k + 1)) → (p < k → OnlyShortest M c (end M (slice_index ls p)) (start M (slice_index ls k)) (stretch ls (p + 1) k)) →
-    (w : List ℕ) → RecoversLast M c (slice_index ls p) (slice_index ls k) w ↔ (w ≡ stretch ls p (k + 1))
-recovers_last_only M ls c p k le up differ within only w =
-    let first = stretch_first ls p (k + 1) (omega arith) (omega arith) in
-    let on : k + 1 - 1 ≡ k = omega arith in
-    elim (cases_eq p k) [
-      | inl e ↦
-          let alone : stretch ls p (k + 1) ≡ slice_index ls p ∷ [] = first ∙ ap (λ zs. slice_index ls p ∷ zs) (empty_stretch ls (p + 1) (k + 1) (omega arith)) in
-          subst (λ (j : ℕ). RecoversLast M c (slice_index ls p) (slice_index ls j) w ↔ (w ≡ stretch ls p (k + 1))) on
-          (one_line M ls c p (k + 1) (omega arith) alone w)
-      | inr ne ↦
-          let lt : p < k = omega arith in
-          let parts = stretch_last ls (p + 1) k (omega arith) up in
-          let all : stretch ls p (k + 1) ≡ slice_index ls p ∷ (stretch ls (p + 1) k ++ slice_index ls k ∷ []) = first ∙ ap (λ zs. slice_index ls p ∷ zs) parts in
-          let tail : Within M c (slice_index ls p ∷ (stretch ls (p + 1) k ++ slice_index ls k ∷ [])) = subst (Within M c) all within in
-          let ends = within_parts M c (stretch ls (p + 1) k) (slice_index ls k ∷ []) tail.1 in
-          only_more M c (slice_index ls p) (slice_index ls k) (stretch ls p (k + 1)) (stretch ls (p + 1) k) (differ lt) ends.1.0 all (only lt) w
     ]
 
 -- ---- no line twice

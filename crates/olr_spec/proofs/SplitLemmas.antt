@@ -1,10 +1,10 @@
 -- On a map that splits roads a shortest route follows whole roads.
-use Rattle.olr_spec.proofs.Common.{inl, inr, [], ◌≡◌, ◌≢◌, ◌⊎◌, ◌+◌, ◌-◌, ◌*◌, ◌≤◌, ◌<◌, ◌∷◌, sym, ap, ◌∙◌, not, has, Map}
+use Rattle.olr_spec.proofs.Common.{inl, inr, [], ◌≡◌, ◌≢◌, ◌+◌, ◌-◌, ◌*◌, ◌≤◌, ◌<◌, ◌∷◌, sym, ap, ◌∙◌, not, has, Map}
 use Rattle.olr_spec.proofs.Common.{start, end, dm, ℕ, zero, suc, IsTrue, IsRoute, UniqueShortest, Margin, counted, IsMap, length}
 use Rattle.olr_spec.proofs.Common.{true, List, ◌++◌, refl, subst, arith, dm_of, none_twice, and_parts, and_from}
 use Rattle.olr_spec.proofs.Common.{cases_Bool, has_line, map, append_assoc, length-append, cases_lt, Within, ◌↔◌}
 use Rattle.olr_spec.specs.Elsewhere.{InReach, suffices}
-use Rattle.olr_spec.specs.Split.{chains, IsNode, IsRoad, HasRoads, HasRoadsAlong, LegHasRoads, LastHasRoads, LegsHaveRoads, PartHasRoads, Whole, Behind}
+use Rattle.olr_spec.specs.Split.{chains, IsNode, IsRoad, HasRoads, HasRoadsAlong, LegHasRoads, LastHasRoads, PartHasRoads, Whole, Behind}
 use Rattle.olr_spec.proofs.Common.{first, last, allowed, line_at, stretch, slice_index, legs, attrs_with, fold, max, Leg, ◌==◌, AreJoined}
 use Rattle.olr_spec.proofs.Facts.{Known, has_index, stretch_first, stretch_last}
 use Rattle.olr_spec.proofs.FitLemmas.{range_legs, by_answer, extended_sound, answered}
@@ -12,106 +12,24 @@ use Rattle.olr_spec.proofs.JoinedLemmas.{extended_joined}
 use Rattle.olr_spec.proofs.KnownLemmas.{one_end}
 use Rattle.olr_spec.proofs.DecideLemmas.{last_of_list}
 use Rattle.olr_spec.proofs.Common.{eq-eqb}
-use Rattle.olr_spec.proofs.Facts.{has_filter, between, between_is, path_at, path_also, kept_linked_with, follow_linked_with}
-use Rattle.olr_spec.proofs.Common.{LawOf, AnswerLaws, extended_path, first_kept, last_kept, kept_points}
-use Rattle.olr_spec.proofs.PartnerLemmas.{part_of}
+use Rattle.olr_spec.proofs.Facts.{path_at, path_also}
+use Rattle.olr_spec.proofs.Common.{LawOf, AnswerLaws, extended_path}
+use Rattle.olr_spec.proofs.LegLemmas.{part_of, line_on, once_left, once_right, of_kept, From, To}
+use Rattle.olr_spec.proofs.SimpleLemmas.{IsSimple, simple_tail, simple_after, simplified}
 use Rattle.olr_spec.proofs.QueryLemmas.{stretch_parts}
 use Rattle.olr_spec.proofs.WayLemmas.{next_start}
-use Rattle.olr_spec.proofs.JoinLemmas.{LinkedWith}
 use Rattle.olr_spec.proofs.Common.{RecoversTo, RecoversLast, list_any-append}
 use Rattle.olr_spec.specs.Receiver.{One_line}
-use Rattle.olr_spec.specs.Split.{RecoversRoads}
+use Rattle.olr_spec.specs.Split.{RecoversLeg, RecoversLastLeg}
 use Rattle.olr_spec.specs.Receiver.{Shortest}
 use Rattle.std.specs.List.{sum_by}
 use Rattle.std.proofs.lemmas.List.Sums.{sum_by-cons}
-use Rattle.olr_spec.proofs.ListLemmas.{Each, Each-nil, Each-cons, Each-head, Each-tail, Each-right, has_cases, dec_same, has_here, has_there}
-use Rattle.olr_spec.proofs.RouteLemmas.{positive, IsRoute-split, IsRoute-append, dm_of-append}
+use Rattle.olr_spec.proofs.ListLemmas.{Each, Each-nil, Each-cons, Each-right, has_cases, dec_same, has_here, has_there}
+use Rattle.olr_spec.proofs.RouteLemmas.{IsRoute-split, IsRoute-append, dm_of-append}
 use Rattle.olr_spec.proofs.WayLemmas.{route_known}
 use Rattle.olr_spec.proofs.ReceiverLemmas.{within_parts, within_greatest, recovers_only, only_more}
 use Rattle.olr_spec.proofs.CountedLemmas.{counted_route, route_counted}
-use Rattle.olr_spec.proofs.ElsewhereLemmas.{from_line, in_reach, longer_by, once_right, OnlyShortest}
-
--- ---- routes that come to no node twice
-
-abbrev IsSimple : Map → ℕ → List ℕ → Type 0
-IsSimple N v ys = none_twice (v ∷ map (end N) ys) ≡ true
-
-simple_tail : (N : Map) (v y : ℕ) (ys : List ℕ) → IsSimple N v (y ∷ ys) → IsSimple N (end N y) ys
-simple_tail N v y ys h = (and_parts (not (has (map (end N) (y ∷ ys)) v)) (none_twice (map (end N) (y ∷ ys))) h).1
-
--- behind a part of it
-simple_after : (N : Map) (v u : ℕ) (xs later : List ℕ) → IsRoute N v u xs → IsSimple N v (xs ++ later) → IsSimple N u later
-simple_after N v u [] later w h = subst (λ k. IsSimple N k later) w h
-simple_after N v u (y ∷ xs) later w h = simple_after N (end N y) u xs later w.2 (simple_tail N v y (xs ++ later) h)
-
--- the part of a route behind the last time that it comes to v
-record After (N : Map) (v t : ℕ) (ys : List ℕ) : Type 0 where
-  rest : List ℕ
-  route : IsRoute N v t rest
-  simple : IsSimple N v rest
-  part : Each (λ x. has ys x ≡ true) rest
-  least : dm_of N rest ≤ dm_of N ys
-
-all_behind : (N : Map) (u v t : ℕ) (ys : List ℕ) → IsRoute N u t ys → IsSimple N u ys → u ≡ v → After N v t ys
-all_behind N u v t ys w h e =
-    record {
-      rest = ys;
-      route = subst (λ k. IsRoute N k t ys) e w;
-      simple = subst (λ k. IsSimple N k ys) e h;
-      part = λ x i. i;
-      least = omega arith;
-    }
-
-behind : (N : Map) (u v t : ℕ) (ys : List ℕ) → IsRoute N u t ys → IsSimple N u ys → has (u ∷ map (end N) ys) v ≡ true → After N v t ys
-behind N u v t [] w h on = elim (has_cases u [] v on) [
-  | inl e ↦ all_behind N u v t [] w h e
-  | inr later ↦ absurd cc
-]
-behind N u v t (y ∷ ys) w h on = elim (has_cases u (map (end N) (y ∷ ys)) v on) [
-  | inl e ↦ all_behind N u v t (y ∷ ys) w h e
-  | inr later ↦
-      let r = behind N (end N y) v t ys w.2 (simple_tail N u y ys h) later in
-      record {
-        rest = r.rest;
-        route = r.route;
-        simple = r.simple;
-        part = λ x i. has_there y ys x (r.part x i);
-        least = omega (arith, r.least);
-      }
-]
-
--- each route is such a one, or a shorter one is
-record Simple (N : Map) (v t : ℕ) (ys : List ℕ) : Type 0 where
-  rest : List ℕ
-  route : IsRoute N v t rest
-  simple : IsSimple N v rest
-  part : Each (λ x. has ys x ≡ true) rest
-  shorter : (rest ≡ ys) ⊎ (dm_of N rest < dm_of N ys)
-
-simplified : (N : Map) → IsMap N → (v t : ℕ) (ys : List ℕ) → IsRoute N v t ys → Simple N v t ys
-simplified N n v t [] w = record { rest = []; route = w; simple = refl; part = λ x i. i; shorter = inl refl }
-simplified N n v t (y ∷ ys) w =
-    let c = simplified N n (end N y) t ys w.2 in
-    let later : Each (λ x. has (y ∷ ys) x ≡ true) c.rest = λ x i. has_there y ys x (c.part x i) in
-    let long = positive N n y w.0 in
-    elim (cases_Bool (has (end N y ∷ map (end N) c.rest) v)) [
-      | inl on ↦
-          let r = behind N (end N y) v t c.rest c.route c.simple on in
-          record {
-            rest = r.rest;
-            route = r.route;
-            simple = r.simple;
-            part = λ x i. later x (r.part x i);
-            shorter = inr (grind (arith, c.shorter, long, r.least));
-          }
-      | inr off ↦ record {
-        rest = y ∷ c.rest;
-        route = (w.0, w.1, c.route);
-        simple = and_from (not (has (end N y ∷ map (end N) c.rest) v)) (none_twice (end N y ∷ map (end N) c.rest)) (ap not off) c.simple;
-        part = Each-cons (λ x. has (y ∷ ys) x ≡ true) y c.rest (has_here y ys) later;
-        shorter = grind (arith, c.shorter);
-      }
-    ]
+use Rattle.olr_spec.proofs.ElsewhereLemmas.{from_line, in_reach, longer_by, OnlyShortest}
 
 -- ---- roads
 
@@ -389,12 +307,6 @@ chains_within g M N chain c (x ∷ xs) w h =
     (within_more N (allowed g (line_at M x).frc) (allowed g c) (chain x) (allowed_more g (line_at M x).frc c w.0) (h x (has_here x xs)))
     (chains_within g M N chain c xs w.1 (λ y i. h y (has_there x xs y i)))
 
-once_left : (xs ys : List ℕ) → none_twice (xs ++ ys) ≡ true → none_twice xs ≡ true
-once_left [] ys once = refl
-once_left (x ∷ xs) ys once =
-    let parts = and_parts (not (has (xs ++ ys) x)) (none_twice (xs ++ ys)) once in
-    grind (arith, parts.0, once_left xs ys parts.1, and_from, list_any-append, cases_Bool (has xs x))
-
 twice_apart : (x y : ℕ) (xs : List ℕ) → none_twice (x ∷ (xs ++ y ∷ [])) ≡ true → x ≢ y
 twice_apart x y xs once e =
     let parts = and_parts (not (has (xs ++ y ∷ []) x)) (none_twice (xs ++ y ∷ [])) once in
@@ -432,11 +344,6 @@ module _ (g : Margin) (M N : Map) (m : IsMap M) (n : IsMap N) (a b : ℕ) (enoug
   on_part : (p q : ℕ) → from ≤ p → p ≤ q → q ≤ to → Each On (stretch ls p q)
   on_part p q f h t = part_of On ls from to p q f h t (λ x i. i)
 
-  on_line : (p : ℕ) → from ≤ p → p < to → p < length ls → On (slice_index ls p)
-  on_line p f lt h =
-      Each-head On (slice_index ls p) (stretch ls (p + 1) to)
-      (subst (Each On) (stretch_first ls p to lt h) (on_part p to f (omega arith) (omega arith)))
-
   on_M : (p : ℕ) → p < length ls → IsTrue (has_line M (slice_index ls p))
   on_M p h = known (slice_index ls p) (has_index ls p h)
 
@@ -457,7 +364,7 @@ module _ (g : Margin) (M N : Map) (m : IsMap M) (n : IsMap N) (a b : ℕ) (enoug
   part_is : (p q k t : ℕ) → from ≤ p → p < k → k ≤ q → q ≤ to → q ≤ length ls → IsNode M t → PartHasRoads g b M N chain ls p q k t → PartIs p q k t
   part_is p q k t f lt up below h node has_roads =
       let x = slice_index ls p in
-      let on_x = on_line p f (omega (arith, lt, up, below)) (omega (arith, lt, up, h)) in
+      let on_x = line_on ls from to p f (omega (arith, lt, up, below)) (omega (arith, lt, up, h)) in
       let begin = first_is (chain x) (along.some x on_x) in
       let later = chains chain (stretch ls (p + 1) k) in
       let parts : stretch ls p k ≡ x ∷ stretch ls (p + 1) k = stretch_first ls p k lt (omega (arith, lt, up, h)) in
@@ -511,7 +418,7 @@ module _ (g : Margin) (M N : Map) (m : IsMap M) (n : IsMap N) (a b : ℕ) (enoug
   leg_to p q f lt t h has_roads w =
       let l = part_is p q q (end M (slice_index ls (q - 1))) f lt (omega arith) (omega arith) (omega arith) (last_node q (omega (arith, lt)) (omega arith)) has_roads in
       let y = slice_index ls q in
-      let on_y = on_line q (omega (arith, f, lt)) t h in
+      let on_y = line_on ls from to q (omega (arith, f, lt)) t h in
       let begin = first_is (chain y) (along.some y on_y) in
       let route : IsRoute N (start M y) (end M y) (first (chain y) ∷ begin.0) = subst (IsRoute N (start M y) (end M y)) begin.1 (along.routes y on_y) in
       let next : end M (slice_index ls (q - 1)) ≡ start M y =
@@ -525,7 +432,7 @@ module _ (g : Margin) (M N : Map) (m : IsMap M) (n : IsMap N) (a b : ℕ) (enoug
   leg_whole p q f lt t h has_roads w =
       let l = part_is p q q (end M (slice_index ls (q - 1))) f lt (omega arith) t h (last_node q (omega (arith, lt)) h) has_roads in
       let y = slice_index ls (q - 1) in
-      let on_y = on_line (q - 1) (omega (arith, f, lt)) (omega (arith, lt, t)) (omega (arith, lt, h)) in
+      let on_y = line_on ls from to (q - 1) (omega (arith, f, lt)) (omega (arith, lt, t)) (omega (arith, lt, h)) in
       let finish = last_is (chain y) (along.some y on_y) in
       let near = stretch ls p (q - 1) in
       let parts : stretch ls p q ≡ near ++ y ∷ [] =
@@ -557,7 +464,7 @@ module _ (g : Margin) (M N : Map) (m : IsMap M) (n : IsMap N) (a b : ℕ) (enoug
       let inside : Within N (Class p q) (x' ∷ (l.rest ++ y' ∷ [])) = subst (Within N (Class p q)) all (leg_within p q f (omega (arith, lt)) t) in
       let end_inside = within_parts N (Class p q) l.rest (y' ∷ []) inside.1 in
       let route : IsRoute N (start M y) (end M y) (y' ∷ []) =
-      subst (IsRoute N (start M y) (end M y)) one (along.routes y (on_line (q - 1) (omega (arith, f, lt)) (omega (arith, lt, t)) (omega (arith, lt, h)))) in
+      subst (IsRoute N (start M y) (end M y)) one (along.routes y (line_on ls from to (q - 1) (omega (arith, f, lt)) (omega (arith, lt, t)) (omega (arith, lt, h)))) in
       let only = subst (λ v. OnlyShortest N (Class p q) (end N x') v l.rest) (sym route.1) l.only in
       let finish : y' ≡ last (chain y) = sym (ap last one) in
       subst (λ v. RecoversLast N (Class p q) x' v w ↔ (w ≡ chains chain (stretch ls p q))) finish
@@ -568,35 +475,18 @@ module _ (g : Margin) (M N : Map) (m : IsMap M) (n : IsMap N) (a b : ℕ) (enoug
   leg_last p q f lt t h (inl has_roads) w = leg_whole p q f lt t h has_roads w
   leg_last p q f lt t h (inr r) w = leg_before p q f r.1 t h r.0 r.2 w
 
-  recovers_roads : (ks : List ℕ) → LinkedWith g M ls ks → Each (λ k. from ≤ k) ks → Each (λ k. k ≤ to) ks →
-      LegsHaveRoads g b M N chain ls ks → RecoversRoads g M N chain ls ks
-  recovers_roads [] l above below roads = tt
-  recovers_roads (p ∷ []) l above below roads = tt
-  recovers_roads (p ∷ q ∷ []) l above below roads =
-      leg_last p q (above p (has_here p (q ∷ []))) l.0.after (below q (has_there p (q ∷ []) q (has_here q []))) l.0.upto roads
-  recovers_roads (p ∷ q ∷ r ∷ ks) l above below roads =
-      let next : q < r = l.1.0.after in
-      let upto : r ≤ length ls = l.1.0.upto in
-      let t = below r (has_there p (q ∷ r ∷ ks) r (has_there q (r ∷ ks) r (has_here r ks))) in (
-        leg_to p q (above p (has_here p (q ∷ r ∷ ks))) l.0.after (omega (arith, next, t)) (omega (arith, next, upto)) roads.0,
-        recovers_roads (q ∷ r ∷ ks) l.1 (Each-tail (λ k. from ≤ k) p (q ∷ r ∷ ks) above) (Each-tail (λ k. k ≤ to) p (q ∷ r ∷ ks) below) roads.1,
-      )
-
 pub recovered_on_roads : (g : Margin) → LawOf (λ (l : AnswerLaws g). l.recovered_on_roads)
 recovered_on_roads g M N m n a b enough chain P is r e along roads =
     let x = by_answer M P r e in
     let p = x.1 in
     let E = extended_path M P p.before p.after in
     let s = extended_sound M P is x.0 p.before p.after p.tried in
-    let ans = answered g M E p.points r p.holds in
-    let from = first_kept (legs M E.lines) E.pos p.points in
-    let to = last_kept (legs M E.lines) E.neg p.points in
-    let kept = has_filter (between from to) (0 ∷ p.points) in
+    let joined = extended_joined M P is x.0 p.before p.after p.tried in
+    let here = path_at m is x.0 p along in
     path_also p (
-      ans.1,
-      recovers_roads g M N m n a b enough chain E.lines s.known (extended_joined M P is x.0 p.before p.after p.tried) from to
-          (path_at m is x.0 p along) (kept_points (legs M E.lines) E.pos E.neg p.points)
-          (kept_linked_with g M E.lines from to (0 ∷ p.points) (follow_linked_with g M E.lines 0 p.points p.follow))
-          (λ k h. grind (arith, kept k h, between_is from to k)) (λ k h. grind (arith, kept k h, between_is from to k))
+      (answered g M E p.points r p.holds).1,
+      of_kept p (LegHasRoads g b M N chain E.lines) (RecoversLeg g M N chain E.lines) (LastHasRoads g b M N chain E.lines) (RecoversLastLeg g M N chain E.lines)
+          (λ i j f t h c. leg_to g M N m n a b enough chain E.lines s.known joined (From p) (To p) here i j f c.after t h)
+          (λ i j f t c. leg_last g M N m n a b enough chain E.lines s.known joined (From p) (To p) here i j f c.after t c.upto)
           (path_at m is x.0 p roads),
     )

@@ -11,6 +11,7 @@
 --     HasOurs b M N c s most      each line in reach is ours; all others of N may be anything
 --     LegHasOurs g b M N ls p q      so it is for the leg from position p to position q: in reach are the lines of at least
 --         its LFRCNP that begin where a route from the end of line p isn't yet as long as the rest of the leg
+--     OfLegs Q L ks      Q holds of the positions of each two neighbouring LRPs, and L of those of the last two
 --     KeptLines g M P Q      Q holds of the lines from the first remaining LRP of the path to the last
 --     KeptLegs g M P Q      Q holds of the positions of each two neighbouring LRPs that remain
 --     RecoversLegs g M N ls ks      from the path's own line at each LRP to the next, the shortest route on N over lines
@@ -72,13 +73,14 @@ abbrev pub LegHasOurs : Margin → ℕ → Map → Map → List ℕ → ℕ → 
 LegHasOurs g b M N ls p q =
     HasOurs b M N (attrs_with g (legs M ls) p q).lfrc (end N (slice_index ls p)) (dm_of N (stretch ls (p + 1) q))
 
-abbrev pub EachLeg : (ℕ → ℕ → Type 0) → List ℕ → Type 0
-EachLeg Q (p ∷ q ∷ ks) = Q p q × EachLeg Q (q ∷ ks)
-EachLeg Q _ = ⊤
+abbrev pub OfLegs : (ℕ → ℕ → Type 0) → (ℕ → ℕ → Type 0) → List ℕ → Type 0
+OfLegs Q L (p ∷ q ∷ []) = L p q
+OfLegs Q L (p ∷ q ∷ r ∷ ks) = Q p q × OfLegs Q L (q ∷ r ∷ ks)
+OfLegs Q L _ = ⊤
 
 abbrev pub KeptLegs : Margin → Map → Path → (List ℕ → ℕ → ℕ → Type 0) → Type 0
 KeptLegs g M P Q =
-    OfPathWith g M P (λ E _ _ js. EachLeg (Q E.lines) (kept_points (legs M E.lines) E.pos E.neg js))
+    OfPathWith g M P (λ E _ _ js. OfLegs (Q E.lines) (Q E.lines) (kept_points (legs M E.lines) E.pos E.neg js))
 
 abbrev pub KeptLines : Margin → Map → Path → (List ℕ → Type 0) → Type 0
 KeptLines g M P Q =
@@ -86,13 +88,10 @@ KeptLines g M P Q =
     Q (stretch E.lines (first_kept (legs M E.lines) E.pos js) (last_kept (legs M E.lines) E.neg js)))
 
 abbrev pub RecoversLegs : Margin → Map → Map → List ℕ → List ℕ → Type 0
-RecoversLegs g M N ls (p ∷ q ∷ []) =
-    (w : List ℕ) → RecoversLast N (attrs_with g (legs M ls) p q).lfrc (slice_index ls p) (slice_index ls (q - 1)) w
-    ↔ (w ≡ stretch ls p q)
-RecoversLegs g M N ls (p ∷ q ∷ r ∷ ks) =
-    ((w : List ℕ) → RecoversTo N (attrs_with g (legs M ls) p q).lfrc (slice_index ls p) (slice_index ls q) w
-    ↔ (w ≡ stretch ls p q)) × RecoversLegs g M N ls (q ∷ r ∷ ks)
-RecoversLegs g M N ls _ = ⊤
+RecoversLegs g M N ls =
+    let class = λ (p q : ℕ). (attrs_with g (legs M ls) p q).lfrc in
+    OfLegs (λ p q. (w : List ℕ) → RecoversTo N (class p q) (slice_index ls p) (slice_index ls q) w ↔ (w ≡ stretch ls p q))
+    (λ p q. (w : List ℕ) → RecoversLast N (class p q) (slice_index ls p) (slice_index ls (q - 1)) w ↔ (w ≡ stretch ls p q))
 
 abbrev pub suffices : Margin → ℕ → ℕ → Bool
 suffices g a b = nat_le ((1000 + a) * 1000) ((1000 - b) * (1000 + g.routes))

@@ -12,9 +12,10 @@
 --         the unique shortest path from its first line on, or, if that line isn't split, from the end of that line on
 --     LastHasRoads g b M N chain ls p q      so it is for the last leg, or for what is before its last line, if that isn't split
 --     HasKeptRoads g b M N chain P      so it is for each leg of a path
+--     RecoversLeg g M N chain ls p q, RecoversLastLeg      so it is for one leg, and for the last one
 --     RecoversRoads g M N chain ls ks      from the first line of the path's own road at each LRP to the next, or to the last
 --         line of the road at the last LRP, the shortest route on N recovers the roads of the leg, and nothing else
-use Rattle.std.specs.Prelude.{◌≡◌, ℕ, ◌+◌, ◌-◌, ◌*◌, ◌<◌, ◌≤◌, List, [], ◌∷◌, ◌++◌, length, slice_index, ◌↔◌, ⊤, ◌⊎◌, IsTrue}
+use Rattle.std.specs.Prelude.{◌≡◌, ℕ, ◌+◌, ◌-◌, ◌*◌, ◌<◌, ◌≤◌, List, [], ◌∷◌, ◌++◌, length, slice_index, ◌↔◌, ◌⊎◌, IsTrue}
 use Rattle.olr_spec.specs.Map.{Map, has_line, line_at, start, end, dm, has}
 use Rattle.olr_spec.specs.Extension.{Path, first, last, none_twice}
 use Rattle.olr_spec.specs.Points.{stretch, OfPathWith}
@@ -22,7 +23,7 @@ use Rattle.olr_spec.specs.Reference.{attrs_with, legs, kept_points}
 use Rattle.olr_spec.specs.Receiver.{RecoversTo, RecoversLast, Within}
 use Rattle.olr_spec.specs.Routes.{IsRoute, dm_of, UniqueShortest}
 use Rattle.olr_spec.specs.Margins.{Margin, counted, allowed}
-use Rattle.olr_spec.specs.Elsewhere.{InReach}
+use Rattle.olr_spec.specs.Elsewhere.{InReach, OfLegs}
 
 abbrev pub chains : (ℕ → List ℕ) → List ℕ → List ℕ
 chains chain [] = []
@@ -71,20 +72,21 @@ LastHasRoads g b M N chain ls p q =
     LegHasRoads g b M N chain ls p q
     ⊎ ((chain y ≡ first (chain y) ∷ []) × (p + 1 < q) × PartHasRoads g b M N chain ls p q (q - 1) (start M y))
 
-abbrev pub LegsHaveRoads : Margin → ℕ → Map → Map → (ℕ → List ℕ) → List ℕ → List ℕ → Type 0
-LegsHaveRoads g b M N chain ls (p ∷ q ∷ []) = LastHasRoads g b M N chain ls p q
-LegsHaveRoads g b M N chain ls (p ∷ q ∷ r ∷ ks) = LegHasRoads g b M N chain ls p q × LegsHaveRoads g b M N chain ls (q ∷ r ∷ ks)
-LegsHaveRoads g b M N chain ls _ = ⊤
-
 abbrev pub HasKeptRoads : Margin → ℕ → Map → Map → (ℕ → List ℕ) → Path → Type 0
 HasKeptRoads g b M N chain P =
-    OfPathWith g M P (λ E _ _ js. LegsHaveRoads g b M N chain E.lines (kept_points (legs M E.lines) E.pos E.neg js))
+    OfPathWith g M P (λ E _ _ js.
+    OfLegs (LegHasRoads g b M N chain E.lines) (LastHasRoads g b M N chain E.lines) (kept_points (legs M E.lines) E.pos E.neg js))
 
-abbrev pub RecoversRoads : Margin → Map → Map → (ℕ → List ℕ) → List ℕ → List ℕ → Type 0
-RecoversRoads g M N chain ls (p ∷ q ∷ []) =
+-- the roads of one leg, and of the last one
+abbrev pub RecoversLeg : Margin → Map → Map → (ℕ → List ℕ) → List ℕ → ℕ → ℕ → Type 0
+RecoversLeg g M N chain ls p q =
+    (w : List ℕ) → RecoversTo N (attrs_with g (legs M ls) p q).lfrc (first (chain (slice_index ls p))) (first (chain (slice_index ls q))) w
+    ↔ (w ≡ chains chain (stretch ls p q))
+
+abbrev pub RecoversLastLeg : Margin → Map → Map → (ℕ → List ℕ) → List ℕ → ℕ → ℕ → Type 0
+RecoversLastLeg g M N chain ls p q =
     (w : List ℕ) → RecoversLast N (attrs_with g (legs M ls) p q).lfrc (first (chain (slice_index ls p))) (last (chain (slice_index ls (q - 1)))) w
     ↔ (w ≡ chains chain (stretch ls p q))
-RecoversRoads g M N chain ls (p ∷ q ∷ r ∷ ks) =
-    ((w : List ℕ) → RecoversTo N (attrs_with g (legs M ls) p q).lfrc (first (chain (slice_index ls p))) (first (chain (slice_index ls q))) w
-    ↔ (w ≡ chains chain (stretch ls p q))) × RecoversRoads g M N chain ls (q ∷ r ∷ ks)
-RecoversRoads g M N chain ls _ = ⊤
+
+abbrev pub RecoversRoads : Margin → Map → Map → (ℕ → List ℕ) → List ℕ → List ℕ → Type 0
+RecoversRoads g M N chain ls = OfLegs (RecoversLeg g M N chain ls) (RecoversLastLeg g M N chain ls)
