@@ -8,7 +8,7 @@ use olr_commands::Entry;
 use std::alloc::{AllocError, Global};
 
 impl PathList {
-    ghost use Rattle.std.specs.Prelude.{◌≡◌, ◌≢◌, [], Some, map, length, IfOk, OnErr};
+    ghost use Rattle.std.specs.Prelude.{◌≢◌, [], Some, map, length, OnErr};
     ghost use Rattle.olr_spec.specs.Encoding.{Answer};
     ghost use Rattle.olr_paths.specs.Items.{items, answer_in};
     ghost use Rattle.olr_paths.specs.Changes.{AreEncoded, Reported};

@@ -23,7 +23,7 @@ pub struct Finder {
 }
 
 impl Finder {
-    ghost use Rattle.std.specs.Prelude.{◌≡◌, OnOk, OnErr};
+    ghost use Rattle.std.specs.Prelude.{OnOk, OnErr};
     ghost use Rattle.olr_paths.specs.Finders.{IsNoted, Grows, Spares, keys_in};
 
     /// A finder without entries. Takes no memory.
@@ -112,7 +112,7 @@ fn is_among<T: Numbered>(items: &[T], number: u32) -> bool
 }
 
 impl Index {
-    ghost use Rattle.std.specs.Prelude.{IsTrue, OnOk};
+    ghost use Rattle.std.specs.Prelude.{OnOk};
     ghost use Rattle.std.specs.List.Sorted.{IsStrictlyIncreasing};
     ghost use Rattle.olr_paths.specs.Finders.{AllNoted, AddsOnly, ChangesOnly};
 

@@ -45,9 +45,7 @@ impl Drop for Index {
 }
 
 impl Index {
-    ghost use Rattle.std.specs.Prelude.{◌≡◌, ◌||◌, ◌==◌, ◌&&◌, not, ℕ, [], IsTrue, OnOk, OnErr};
-    ghost use Rattle.std.specs.List.Sorted.{IsStrictlyIncreasing};
-    ghost use Rattle.olr_spec.specs.Map.{has};
+    ghost use Rattle.std.specs.Prelude.{[], IsTrue};
     ghost use Rattle.olr_paths.specs.PathIds.{path_ids_of, holds};
 
     /// An index in which no number has a path id. Allocates nothing.

@@ -1,6 +1,5 @@
 //! Changes of a list of named paths, held until all of them are made at once.
-ghost use Rattle.std.specs.Prelude.{◌≡◌, List, [], ◌∷◌, ◌++◌, map, take, length, false, is_some, IsFalse, IfOk, OnOk};
-ghost use Rattle.std.specs.Prelude.{OnErr};
+ghost use Rattle.std.specs.Prelude.{◌≡◌, List, [], ◌∷◌, ◌++◌, map, take, length, false, is_some, IsFalse, IfOk, OnOk, OnErr};
 ghost use Rattle.olr_commands.specs.State.{NamesDiffer, path_named};
 ghost use Rattle.olr_paths.specs.Items.{Item, items, item_of, all_named};
 ghost use Rattle.olr_paths.specs.Overlaid.{RemovesNone, changes_in, overlay_changes, change_at, under_change};
@@ -93,10 +92,8 @@ impl Drop for Overlay {
 }
 
 impl Overlay {
-    ghost use Rattle.std.specs.Prelude.{◌≡◌, [], ◌∷◌, ◌++◌, List, map, filter, not, true, false, None, is_some};
-    ghost use Rattle.std.specs.Prelude.{string_bytes, IsFalse, IfOk, OnOk, OnErr};
-    ghost use Rattle.olr_commands.specs.State.{NamesDiffer, path_named, same_name};
-    ghost use Rattle.olr_paths.specs.Items.{Item, items, all_named};
+    ghost use Rattle.std.specs.Prelude.{filter, not, true, None, string_bytes};
+    ghost use Rattle.olr_commands.specs.State.{same_name};
     ghost use Rattle.olr_paths.specs.Changes.{set_item};
 
     /// No changes. Takes no memory.

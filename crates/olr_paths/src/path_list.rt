@@ -22,7 +22,6 @@ pub struct NamedPath {
 }
 
 impl NamedPath {
-    ghost use Rattle.std.specs.Prelude.{◌≡◌, IfOk, option_map};
     ghost use Rattle.olr_paths.specs.Items.{results_of, results_of_named};
     ghost use Rattle.olr_paths.specs.Finders.{keys_in, named_keys};
 
@@ -96,8 +95,8 @@ impl Drop for PathList {
 }
 
 impl PathList {
-    ghost use Rattle.std.specs.Prelude.{◌≡◌, [], ◌∷◌, ◌++◌, true, false, not, None, map, filter, take, length, is_some};
-    ghost use Rattle.std.specs.Prelude.{slice_get, string_bytes, option_map, IfOk, OnOk, OnErr};
+    ghost use Rattle.std.specs.Prelude.{[], ◌∷◌, ◌++◌, true, false, not, map, filter, take, is_some};
+    ghost use Rattle.std.specs.Prelude.{slice_get, string_bytes, OnOk, OnErr};
     ghost use Rattle.olr_commands.specs.State.{NamesDiffer, path_named, same_name};
     ghost use Rattle.olr_paths.specs.Items.{items, item_of, results_of, results_of_named, all_named, results_in};
     ghost use Rattle.olr_paths.specs.Changes.{AreEncoded, set_item};
@@ -160,6 +159,7 @@ impl PathList {
     }
 
     /// What is published of the path of that name. None if there is none, or if it is not encoded yet.
+    #[tactic(auto, using(crate::proofs::NamedEntries::looked_up))]
     pub fn published_of(&self, name: &str) -> Option<&Published>
         ensures { option_map (λ p. results_of p.now) result ≡ results_in (items self.now) name.now }
     {
@@ -167,6 +167,7 @@ impl PathList {
     }
 
     /// The path of that name. None if there is none.
+    #[tactic(auto, using(crate::proofs::NamedEntries::paths_named))]
     pub fn path(&self, name: &str) -> Option<&Path>
         ensures { option_map (λ p. p.now) result ≡ path_named (all_named (items self.now)) name.now }
     {
@@ -224,7 +225,7 @@ impl PathList {
         self.paths.reserve(1)?;
         self.path_ids.reserve(1)?;
         self.finder.replace(path_id, Keys::none(), named.keys())?;
-        self.held = self.held || named.published.is_none();
+        self.held |= named.published.is_none();
         match self.paths.insert(name, named) {
             Ok(_) => (),
             Err(_) => unreachable!(),
@@ -252,7 +253,7 @@ impl PathList {
         };
         let path_id = self.path_ids[position];
         self.finder.replace(path_id, current.keys(), named.keys())?;
-        self.held = self.held || named.published.is_none();
+        self.held |= named.published.is_none();
         let place = self.paths.get_index_mut(position).unwrap();
         *place = named;
         Ok(())

@@ -48,9 +48,7 @@ fn tidy(list: &mut PathList, earlier: &[(usize, NamedPath)])
 }
 
 impl PathList {
-    ghost use Rattle.std.specs.Prelude.{◌≡◌, IfOk};
     ghost use Rattle.olr_paths.specs.Finders.{AreNoted};
-    ghost use Rattle.olr_paths.specs.Items.{items};
 
     /// The index entries of all paths.
     #[inline(never)]

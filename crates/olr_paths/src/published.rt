@@ -22,7 +22,7 @@ pub struct Published {
 }
 
 impl Published {
-    ghost use Rattle.std.specs.Prelude.{◌↔◌, IsTrue};
+    ghost use Rattle.std.specs.Prelude.{◌↔◌, ◌∷◌, [], map, IsTrue};
     ghost use Rattle.olr_commands.specs.Reply.{entry};
     ghost use Rattle.olr_commands.specs.Words.{entry_of};
     ghost use Rattle.olr_paths.specs.Items.{results_of};
@@ -127,5 +127,14 @@ impl Published {
             Err(refusal) => Err(*refusal),
         };
         Ok(Entry { name, published })
+    }
+
+    /// The list of that entry alone.
+    pub fn entry_alone(&self, alloc: Global, name: &str) -> Result<Vec<Entry>, AllocError>
+        ensures { IfOk result (λ es. map entry_of es.items ≡ entry name.now (results_of self.now).answer ∷ []) }
+    {
+        let mut entries = Vec::new(alloc);
+        entries.push(self.entry(alloc, name)?)?;
+        Ok(entries)
     }
 }

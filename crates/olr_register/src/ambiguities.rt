@@ -128,24 +128,6 @@ fn all_ambiguities(
     Ok(all)
 }
 
-/// The ambiguities of the string of a path of this name.
-fn own_ambiguity(
-    alloc: Global,
-    roads: &RoadMap,
-    name: &str,
-    path: &Path,
-    margin: Margin,
-    search: &mut Dijkstra,
-) -> Result<Vec<NamedObstacle>, AllocError>
-    ensures { IfOk result (λ own. Ambiguity margin (map_of roads.now) (record { name = name.now; path = path.now })
-        (list_map named_obstacle_of own.items)) }
-{
-    let found = found_on(alloc, roads, None, path, margin, &[], search)?;
-    let mut own = Vec::new(alloc);
-    push_found(alloc, &mut own, name, &found)?;
-    Ok(own)
-}
-
 impl Register {
     ghost use Rattle.std.specs.Prelude.{Some, None, string_bytes};
     ghost use Rattle.olr_commands.specs.State.{Ambiguous};
@@ -191,8 +173,11 @@ impl Register {
         let Some(path) = self.paths.path(name) else {
             return Err(CommandFault::NoPath);
         };
+        let (alloc, roads, margin) = (self.alloc, &self.roads, self.margin);
         let search = &mut self.searches.query;
-        let own = own_ambiguity(self.alloc, &self.roads, name, path, self.margin, search)?;
+        let found = found_on(alloc, roads, None, path, margin, &[], search)?;
+        let mut own = Vec::new(alloc);
+        push_found(alloc, &mut own, name, &found)?;
         Ok(Reply::Obstacles(own))
     }
 }

@@ -1,20 +1,10 @@
 //! Commands that ask and change nothing.
-ghost use Rattle.std.specs.Prelude.{◌≡◌, [], ◌∷◌, IfOk};
+ghost use Rattle.std.specs.Prelude.{◌≡◌};
 ghost use Rattle.olr_commands.specs.Words.{command_fault_of, text_fault_of};
 
 use crate::register::Register;
 use olr_binary::{TextFault, V3Fault, from_text};
-use olr_commands::{CommandFault, Entry, Reply};
-use std::alloc::{AllocError, Global};
-
-/// The list of one entry.
-fn one_entry(alloc: Global, entry: Entry) -> Result<Vec<Entry>, AllocError>
-    ensures { IfOk result (λ v. v.items ≡ entry ∷ []) }
-{
-    let mut entries = Vec::new(alloc);
-    entries.push(entry)?;
-    Ok(entries)
-}
+use olr_commands::{CommandFault, Reply};
 
 /// The fault of a text that encodes no reference, or `Memory` if the text was not decoded because an allocation failed.
 fn text_fault(fault: TextFault) -> CommandFault
@@ -38,8 +28,7 @@ impl Register {
         let Some(published) = self.paths.published_of(name) else {
             return Err(CommandFault::NoPath);
         };
-        let entry = published.entry(self.alloc, name)?;
-        Ok(Reply::Paths(one_entry(self.alloc, entry)?))
+        Ok(Reply::Paths(published.entry_alone(self.alloc, name)?))
     }
 
     /// What is published of every path, in order.

@@ -1,10 +1,11 @@
 -- The lines around nodes, and lists that are sorted without duplicates.
 use Rattle.olr_renewal.proofs.Common.{◌≡◌, ℕ, ◌+◌, ◌<◌, List, ◌++◌, length, take, get_or, eqb, IsTrue, ◌||◌, Bool, arith}
 use Rattle.olr_renewal.proofs.Common.{◌==◌, ◌↔◌, sym, ap, ◌∙◌, eq-eqb, eqb-true, Map, end, has, IsPermutation}
-use Rattle.olr_renewal.proofs.Common.{IsStrictlyIncreasing, Option, is_some, dedup, IsSorted, Line}
+use Rattle.olr_renewal.proofs.Common.{IsStrictlyIncreasing, Option, Some, is_some, dedup, IsSorted, Line}
 use Rattle.olr_renewal.proofs.Common.{has_line, start, lines_in, lines_out, no_line, IsLineAround, has_from, in_from, unwrap_or}
 use Rattle.olr_renewal.proofs.Common.{list_any-append, list_any_more, Contains-dedup_nat, Contains-from_dedup}
 use Rattle.std.specs.Ordering.{nat_cmp}
+use Rattle.std.specs.FinMap.{get}
 use Rattle.std.proofs.lemmas.Map.Keys.{IsStrictlyIncreasing-dedup}
 use Rattle.std.proofs.lemmas.List.Sorted.{Contains-permutation, IsPermutation-sym}
 use Rattle.olr_spec.proofs.OrderLemmas.{exactly_in, exactly_out}
@@ -29,21 +30,23 @@ either_way : (A I O L S E s e : Bool) → IsTrue A ↔ (IsTrue L × IsTrue (S ||
 either_way A I O L S E s e a i o = grind arith
 
 module _ (M : Map) where
+  -- a line of the map with this end at a node
+  ends_there : (end_of : Line → ℕ) (v x : ℕ) (l : Line) → get M.lines x ≡ Some l → end_of l ≡ v →
+      IsTrue (has_line M x) × IsTrue (v == end_of (unwrap_or (get M.lines x) no_line))
+  ends_there end_of v x l is at = (
+    ap (λ (o : Option Line). is_some o) is,
+    eq-eqb v _ (sym (ap (λ (o : Option Line). end_of (unwrap_or o no_line)) is ∙ at)),
+  )
+
   enters : (v x : ℕ) → IsTrue (has (lines_in M v) x) ↔ (IsTrue (has_line M x) × IsTrue (v == end M x))
   enters v x = (
-    (λ h. let l = (exactly_in M v x).0 h in (
-      ap (λ (o : Option Line). is_some o) l.1.0,
-      eq-eqb v (end M x) (sym (ap (λ (o : Option Line). (unwrap_or o no_line).to) l.1.0 ∙ l.1.1)),
-    )),
+    (λ h. let l = (exactly_in M v x).0 h in ends_there (λ k. k.to) v x l.0 l.1.0 l.1.1),
     (λ a. entering M v x a.0 (sym (eqb-true v (end M x) a.1))),
   )
 
   leaves : (v x : ℕ) → IsTrue (has (lines_out M v) x) ↔ (IsTrue (has_line M x) × IsTrue (v == start M x))
   leaves v x = (
-    (λ h. let l = (exactly_out M v x).0 h in (
-      ap (λ (o : Option Line). is_some o) l.1.0,
-      eq-eqb v (start M x) (sym (ap (λ (o : Option Line). (unwrap_or o no_line).from) l.1.0 ∙ l.1.1)),
-    )),
+    (λ h. let l = (exactly_out M v x).0 h in ends_there (λ k. k.from) v x l.0 l.1.0 l.1.1),
     (λ a. leaving M v x a.0 (sym (eqb-true v (start M x) a.1))),
   )
 

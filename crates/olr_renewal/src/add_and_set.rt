@@ -1,8 +1,6 @@
 //! Paths that are added or replaced one at a time, and encoded at once.
-ghost use Rattle.std.specs.Prelude.{◌≡◌, is_some, false, string_bytes, IfOk, OnErr, map as list_map, Some, ◌∷◌, []};
+ghost use Rattle.std.specs.Prelude.{◌≡◌, is_some, false, string_bytes, IfOk, OnErr, Some, []};
 ghost use Rattle.olr_commands.specs.State.{path_named};
-ghost use Rattle.olr_commands.specs.Reply.{entry};
-ghost use Rattle.olr_commands.specs.Words.{entry_of};
 ghost use Rattle.olr_paths.specs.Items.{items, all_named, results_of, results_of_named};
 ghost use Rattle.olr_renewal.specs.Encoded.{IsAdded, IsSet};
 
@@ -35,15 +33,6 @@ fn renewed_alone(
     })
 }
 
-/// The entries that name a path which was not registered.
-fn entry_alone(alloc: Global, name: &str, published: &Published) -> Result<Vec<Entry>, AllocError>
-    ensures { IfOk result (λ es. list_map entry_of es.items ≡ entry name.now (results_of published.now).answer ∷ []) }
-{
-    let mut entries = Vec::new(alloc);
-    entries.push(published.entry(alloc, name)?)?;
-    Ok(entries)
-}
-
 /// The path with what is published of it.
 fn named(alloc: Global, path: Path, published: Rc<Published>) -> Result<NamedPath, AllocError>
     ensures path { IfOk result (λ n. n.path.value ≡ path) }
@@ -71,7 +60,7 @@ pub fn add<M: MapRead>(
     ensures err { OnErr result (items list.new ≡ items list.old) }
 {
     let published = encode(alloc, map, &path, margin, &[], query)?;
-    let entries = entry_alone(alloc, name.as_str(), &published)?;
+    let entries = published.entry_alone(alloc, name.as_str())?;
     let renewed = renewed_alone(alloc, entries, &published)?;
     list.push(name, named(alloc, path, published)?)?;
     Ok(renewed)

@@ -29,9 +29,8 @@ pub struct ChangeSet {
 }
 
 impl ChangeSet {
-    ghost use Rattle.std.specs.Prelude.{◌≡◌, ◌==◌, ◌||◌, ◌++◌, ℕ, [], OnOk};
+    ghost use Rattle.std.specs.Prelude.{◌++◌, [], OnOk};
     ghost use Rattle.std.specs.Option.{option_to_list};
-    ghost use Rattle.olr_spec.specs.Map.{has};
     ghost use Rattle.olr_renewal.specs.ChangeSets.{nodes_of, lines_of, changed_of, changed_between, HasRoom};
 
     /// Nothing touched. Takes no memory.

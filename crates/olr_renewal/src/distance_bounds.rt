@@ -153,11 +153,8 @@ impl DistanceBounds {
     pub fn forget(&mut self)
         ensures { IsFalse self.new.valid }
     {
-        self.sources = HashMap::with_hasher(self.alloc, BuildHasherDefault::new());
-        self.bounds = Frontier::new(self.alloc);
-        self.opened = Vec::new(self.alloc);
+        *self = DistanceBounds::new(self.alloc);
         self.valid = false;
-        self.wasted_labels = 0;
     }
 
     /// Adds labels of a search that found no affected path; nothing else changes. True if the bounds are to begin from

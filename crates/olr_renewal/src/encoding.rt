@@ -12,26 +12,6 @@ use olr_search::Dijkstra;
 use std::alloc::{AllocError, Global};
 use std::rc::Rc;
 
-/// What is published of an encoding.
-fn published_of(alloc: Global, encoding: Encoding) -> Result<Published, AllocError>
-    ensures { IfOk result (λ p. results_of p ≡ record {
-      answer = answer_of encoding.answer;
-      traversed = encoding.traversed;
-      queries = encoding.queries.items;
-      known = encoding.known.items;
-    }) }
-{
-    let Encoding {
-        answer,
-        own,
-        traversed,
-        queries,
-        known,
-    } = encoding;
-    drop(own);
-    Published::new(alloc, answer, traversed, queries, known)
-}
-
 /// Encodes a path, without searches for the coverage queries that are known.
 pub(crate) fn encode<M: MapRead>(
     alloc: Global,
@@ -44,7 +24,14 @@ pub(crate) fn encode<M: MapRead>(
     requires { AreKnownWith margin (M.map map.now) path.now.lines known.now }
     ensures { IfOk result (λ p. IsEncodingOf margin (M.map map.now) path.now (results_of p.value)) }
 {
-    let encoding = encode_again(alloc, map, path, margin, known, query)?;
-    let published = Rc::new(alloc, published_of(alloc, encoding)?)?;
-    Ok(published)
+    let Encoding {
+        answer,
+        own,
+        traversed,
+        queries,
+        known,
+    } = encode_again(alloc, map, path, margin, known, query)?;
+    drop(own);
+    let published = Published::new(alloc, answer, traversed, queries, known)?;
+    Ok(Rc::new(alloc, published)?)
 }

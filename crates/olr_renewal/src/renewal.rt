@@ -69,7 +69,7 @@ pub struct Renewal {
 }
 
 impl Renewal {
-    ghost use Rattle.std.specs.Prelude.{◌≡◌, []};
+    ghost use Rattle.std.specs.Prelude.{[]};
     ghost use Rattle.olr_search.specs.Counts.{no_work};
 
     /// Of a list without affected paths. Takes no memory.

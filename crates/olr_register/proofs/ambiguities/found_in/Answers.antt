@@ -1,30 +1,28 @@
-use Rattle.olr_register.proofs.Common.{map_of}
+use Rattle.olr_register.proofs.Common.{map_of, All, IsTrue, has_line, length, ◌≡◌, ◌+◌}
+use Rattle.olr_spec.specs.Receiver.{last_number}
 use Rattle.olr_register.proofs.Ambiguous.{own_lines}
+use Rattle.olr_register.proofs.ambiguities.found_in.Goals.{In-Points}
 use Rattle.olr_register.proofs.ambiguities.found_in.Goals as goal
 
-pub obstacles-requires-clause-own : goal.obstacles-requires-clause-own
-obstacles-requires-clause-own c =
+-- the own lines are on the map, one at each LRP
+own : (c : In-Points) → All (λ x. IsTrue (has_line (map_of c.args.roads.now) x)) c.as_slice-own.result.now
+    × (length c.as_slice-own.result.now ≡ last_number c.in-Points.reference + 1)
+own c =
     let e = c.requires.encoding in
     rw c.as_slice-own.ensures.value (own_lines e.0 (map_of c.args.roads.now) e.1 c.args.encoding.now e.3 c.args.roads.now.kept.sound e.2
-    c.in-Points.reference c.in-Points.is).0
+    c.in-Points.reference c.in-Points.is)
+
+pub obstacles-requires-clause-own : goal.obstacles-requires-clause-own
+obstacles-requires-clause-own c = (own (goal.at.obstacles-requires-clause-own c).In-Points).0
 
 pub obstacles-requires-clause-count : goal.obstacles-requires-clause-count
-obstacles-requires-clause-count c =
-    let e = c.requires.encoding in
-    rw c.as_slice-own.ensures.value (own_lines e.0 (map_of c.args.roads.now) e.1 c.args.encoding.now e.3 c.args.roads.now.kept.sound e.2
-    c.in-Points.reference c.in-Points.is).1
+obstacles-requires-clause-count c = (own (goal.at.obstacles-requires-clause-count c).In-Points).1
 
 pub obstacles_near-requires-clause-own : goal.obstacles_near-requires-clause-own
-obstacles_near-requires-clause-own c =
-    let e = c.requires.encoding in
-    rw c.as_slice-own.ensures.value (own_lines e.0 (map_of c.args.roads.now) e.1 c.args.encoding.now e.3 c.args.roads.now.kept.sound e.2
-    c.in-Points.reference c.in-Points.is).0
+obstacles_near-requires-clause-own c = (own (goal.at.obstacles_near-requires-clause-own c).In-Points).0
 
 pub obstacles_near-requires-clause-count : goal.obstacles_near-requires-clause-count
-obstacles_near-requires-clause-count c =
-    let e = c.requires.encoding in
-    rw c.as_slice-own.ensures.value (own_lines e.0 (map_of c.args.roads.now) e.1 c.args.encoding.now e.3 c.args.roads.now.kept.sound e.2
-    c.in-Points.reference c.in-Points.is).1
+obstacles_near-requires-clause-count c = (own (goal.at.obstacles_near-requires-clause-count c).In-Points).1
 
 pub returns-in-Refused : goal.returns-in-Refused
 returns-in-Refused c = rw (c.new.ensures.items, c.in-Refused.is)

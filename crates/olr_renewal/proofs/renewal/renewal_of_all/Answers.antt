@@ -1,4 +1,4 @@
-use Rattle.olr_renewal.proofs.Common.{◌≡◌, Some, Item, List, ap, arith, to_renew, items, length, option_map, shown_item}
+use Rattle.olr_renewal.proofs.Common.{◌≡◌, Some, Item, List, ap, arith, to_renew, length, option_map, shown_item}
 use Rattle.olr_renewal.proofs.Common.{shown_items, inl, refl, slice_get, take_all, without_answer, ◌∙◌, map, true, length-map}
 use Rattle.olr_renewal.proofs.Common.{slice_get-map, Encode}
 use Rattle.olr_renewal.proofs.Following.{follows_without}

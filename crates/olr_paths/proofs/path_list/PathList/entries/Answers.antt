@@ -1,4 +1,4 @@
-use Rattle.olr_paths.proofs.Common.{[], map, refl, append-nil, entry_of, items}
+use Rattle.olr_paths.proofs.Common.{[], map, refl, append-nil, entry_of}
 use Rattle.olr_paths.proofs.path_list.PathList.entries.Goals as goal
 
 pub returns-clause-reported : goal.returns-clause-reported

@@ -1,9 +1,9 @@
-use Rattle.olr_paths.proofs.Common.{insert_entry, ascends_push, length_push, map-append, true≢false, string_eq, IsNoted, arith, ℕ}
-use Rattle.olr_paths.proofs.Common.{subst, false, None, List, ◌++◌, ◌≢◌, ◌∙◌, ◌∷◌, ◌≡◌, sym, [], ap}
+use Rattle.olr_paths.proofs.Common.{insert_entry, ascends_push, length_push, map-append, string_eq, IsNoted, arith, ℕ}
+use Rattle.olr_paths.proofs.Common.{subst, None, List, ◌++◌, ◌≢◌, ◌∙◌, ◌∷◌, [], ap}
 use Rattle.olr_paths.proofs.NamedEntries.{Entries, item_of}
 use Rattle.olr_paths.proofs.PathIdLemmas.{NamedNoted, insert_last, noted_below, each_push}
 use Rattle.olr_paths.proofs.NotedPositions.{is_published}
-use Rattle.olr_paths.proofs.path_list.PathList.push.Goals.{then-self, else-self}
+use Rattle.std.proofs.lemmas.Bool.{or_parts}
 use Rattle.olr_paths.proofs.path_list.PathList.push.Goals as goal
 
 pub returns-clause-ok : goal.returns-clause-ok
@@ -47,12 +47,7 @@ invariant_of-self-2 c =
           rw (entries, ids) (each_push (NamedNoted g) es ms name n path_id l.long
           (noted_below l g path_id below c.replace.ensures.spares) (subst (IsNoted g path_id) c.keys.ensures c.in_ok-replace.ensures.noted));
       encoded = λ off.
-          let was : (l.held ≡ false) × (n.published ≢ None) = elim c.if-self.branch [
-            | then-self w ↦ absurd (true≢false (sym w.if-self.true ∙ sym w.self-is ∙ off))
-            | else-self w ↦ (
-              w.if-self.false,
-              is_published n.published w.is_none-self.result w.is_none-self.ensures (sym w.self-is ∙ off),
-            )
-          ] in
-          rw entries (each_push (λ _ m. m.published ≢ None) es ms name n path_id l.long (l.encoded was.0) was.1);
+          let was = or_parts l.held c.is_none.result off in
+          rw entries (each_push (λ _ m. m.published ≢ None) es ms name n path_id l.long (l.encoded was.0)
+          (is_published n.published _ c.is_none.ensures was.1));
     }

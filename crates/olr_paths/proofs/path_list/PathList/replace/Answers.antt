@@ -1,9 +1,9 @@
-use Rattle.olr_paths.proofs.Common.{length-set_value_at, slice_get_within, true≢false, IsNoted, length, arith, subst, false, None}
-use Rattle.olr_paths.proofs.Common.{◌≢◌, ◌<◌, sym, ◌∙◌, ◌≡◌}
+use Rattle.olr_paths.proofs.Common.{length-set_value_at, slice_get_within, IsNoted, length, arith, subst, None}
+use Rattle.olr_paths.proofs.Common.{◌≢◌, ◌<◌, sym, ◌∙◌}
 use Rattle.olr_paths.proofs.NamedEntries.{first_at, names_differ, set_absent, set_items}
 use Rattle.olr_paths.proofs.PathIdLemmas.{each_set, noted_at, noted_but, noted_set}
 use Rattle.olr_paths.proofs.NotedPositions.{is_published}
-use Rattle.olr_paths.proofs.path_list.PathList.replace.Goals.{then-self, else-self}
+use Rattle.std.proofs.lemmas.Bool.{or_parts}
 use Rattle.olr_paths.proofs.path_list.PathList.replace.Goals as goal
 
 pub returns-in_default-clause-ok : goal.returns-in_default-clause-ok
@@ -42,14 +42,9 @@ invariant_of-self-2 c =
       noted = noted_set l c.replace.new.self q _ within c.index-path_id.ensures c.replace.ensures.spares n
           (subst (IsNoted c.replace.new.self c.index-path_id.result.now) c.keys-2.ensures c.in_ok-replace.ensures.noted);
       encoded = λ off.
-          let was : (l.held ≡ false) × (n.published ≢ None) = elim c.if-self.branch [
-            | then-self w ↦ absurd (true≢false (sym w.if-self.true ∙ sym w.self-is ∙ off))
-            | else-self w ↦ (
-              w.if-self.false,
-              is_published n.published w.is_none-self.result w.is_none-self.ensures (sym w.self-is ∙ off),
-            )
-          ] in
-          each_set (λ _ m. m.published ≢ None) es q n (λ k e ne. l.encoded was.0 k e) was.1;
+          let was = or_parts l.held c.is_none.result off in
+          each_set (λ _ m. m.published ≢ None) es q n (λ k e ne. l.encoded was.0 k e)
+          (is_published n.published _ c.is_none.ensures was.1);
     }
 
 pub returns-clause-ok : goal.returns-clause-ok

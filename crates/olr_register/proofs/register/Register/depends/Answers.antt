@@ -1,10 +1,11 @@
 use Rattle.olr_register.proofs.Common.{refl, sym, ◌∙◌, map_of, items, ByState, nodes_of, lines_of, changed_of, No_memory}
-use Rattle.olr_register.proofs.Common.{Lacks_memory}
+use Rattle.olr_register.proofs.Common.{Lacks_memory, AreBoundsOf, slot_of}
 use Rattle.olr_register.proofs.Bounded.{settled_bounds}
 use Rattle.olr_register.proofs.Touched.{touched_idle, is_before}
 use Rattle.olr_register.proofs.Renewed.{encoded_if_any}
 use Rattle.olr_register.proofs.Shown.{dependents}
 use Rattle.olr_register.proofs.WithoutBatch.{open_refused, shut_answered, shut_refused, shut_right}
+use Rattle.olr_register.proofs.register.Register.depends.Goals.{After-settle}
 use Rattle.olr_register.proofs.register.Register.depends.Goals as goal
 
 pub returns-then-is_some : goal.returns-then-is_some
@@ -29,34 +30,31 @@ affected_names-requires-clause-before c =
     (touched_idle (map_of r.roads) (nodes_of t) (lines_of t) (changed_of t) c.in_ok-around.ensures.changed)
     h.content.map h.content.paths (encoded_if_any r.margin (map_of r.roads) (items r.paths) h.encoded)
 
-pub affected_names-requires-clause-bounds : goal.affected_names-requires-clause-bounds
-affected_names-requires-clause-bounds c =
+-- the bounds, which are settled
+settled : (c : After-settle) →
+    AreBoundsOf (map_of c.self.inside.roads) (slot_of c.self.inside.roads) c.settle.new.self (items c.self.inside.paths)
+settled c =
     let h = (shut_right c.self.inside c.if-is_some.ensures c.self.invariant).bounded in
     record {
       right = c.settle.ensures.right h.under_way;
       sources = λ l on. c.settle.ensures.sources l.from l.within (h.sources l on);
     }
 
+pub affected_names-requires-clause-bounds : goal.affected_names-requires-clause-bounds
+affected_names-requires-clause-bounds c = settled (goal.at.affected_names-requires-clause-bounds c).After-settle
+
 pub invariant_of-self : goal.invariant_of-self
 invariant_of-self c =
-    let h = (shut_right c.self.inside c.if-is_some.ensures c.self.invariant).bounded in
     rw c.affected_names.ensures.bounds (record {
       register = c.self.invariant.register;
-      bounded = settled_bounds (record {
-        right = c.settle.ensures.right h.under_way;
-        sources = λ l on. c.settle.ensures.sources l.from l.within (h.sources l on);
-      });
+      bounded = settled_bounds (settled (goal.at.invariant_of-self c).After-settle);
     })
 
 pub invariant_of-self-2 : goal.invariant_of-self-2
 invariant_of-self-2 c =
-    let h = (shut_right c.self.inside c.if-is_some.ensures c.self.invariant).bounded in
     rw c.affected_names.ensures.bounds (record {
       register = c.self.invariant.register;
-      bounded = settled_bounds (record {
-        right = c.settle.ensures.right h.under_way;
-        sources = λ l on. c.settle.ensures.sources l.from l.within (h.sources l on);
-      });
+      bounded = settled_bounds (settled (goal.at.invariant_of-self-2 c).After-settle);
     })
 
 pub returns-in_err-names : goal.returns-in_err-names

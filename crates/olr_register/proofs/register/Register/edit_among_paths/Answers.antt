@@ -12,6 +12,7 @@ use Rattle.olr_register.proofs.Singles.{refused_now, same_map, edit_lacks_now, s
 use Rattle.olr_register.proofs.Singles.{renewed_made, left_made, right_now, done_now}
 use Rattle.olr_register.proofs.States.{of_parts}
 use Rattle.olr_register.proofs.Touched.{edit_before}
+use Rattle.olr_register.proofs.register.Register.edit_among_paths.Goals.{In_ok-make_kept}
 use Rattle.olr_register.proofs.register.Register.edit_among_paths.Goals as goal
 
 pub returns-in-Err : goal.returns-in-Err
@@ -81,31 +82,32 @@ returns-in_err-make_kept c =
     edit_lacks_now r c.self.view_is c.requires.open c.requires.some c.in-Ok.ensures.plan.accepted
     (same_map r c.self.view_is c.requires.open c.make_kept.new.self c.in_err-make_kept.ensures.same) c.from_residual.ensures.1
 
-pub invariant_of-self-then-is_unaffected : goal.invariant_of-self-then-is_unaffected
-invariant_of-self-then-is_unaffected c =
+-- the edit is made, and the bounds are right
+stays : (c : In_ok-make_kept) →
+    IsMadeNow c.self.inside c.self.view_is c.requires.open c.self.inside.margin (On_map (edit_of c.args.edit))
+    c.make_kept.new.self (items c.self.inside.paths) [] c.self.inside.work
+    × HasBounds c.make_kept.new.self [] (items c.self.inside.paths) c.self.inside.searches.bounds
+stays c =
     let r = c.self.inside in
     let new = c.make_kept.new.self in
     let line = lines_of_one c.in-Ok.plan.line c.as_slice-lines.result.now c.as_slice-lines.ensures in
     let far = c.if-is_unaffected.ensures.bounds refl (map_of new) (slot_of new) in
     let left = c.if-is_unaffected.ensures.paths refl r.margin (map_of r.roads) (map_of new) (slot_of new)
-    (changes_of (map_of r.roads) (edit_of c.args.edit)) in
-    right_now r c.self.view_is c.requires.open c.self.invariant
-    (made r c.self.view_is c.requires.open c.self.invariant (edit_of c.args.edit) c.in-Ok.plan c.in-Ok.ensures.plan new
-    c.make_kept.ensures.slots c.in_ok-make_kept.ensures.done c.as_slice-lines.result.now line far left)
-    (has_bounds r c.self.view_is c.requires.open c.self.invariant (edit_of c.args.edit) c.in-Ok.plan c.in-Ok.ensures.plan new
-    c.make_kept.ensures.slots c.in_ok-make_kept.ensures.done c.as_slice-lines.result.now line far)
+    (changes_of (map_of r.roads) (edit_of c.args.edit)) in (
+      made r c.self.view_is c.requires.open c.self.invariant (edit_of c.args.edit) c.in-Ok.plan c.in-Ok.ensures.plan new
+          c.make_kept.ensures.slots c.in_ok-make_kept.ensures.done c.as_slice-lines.result.now line far left,
+      has_bounds r c.self.view_is c.requires.open c.self.invariant (edit_of c.args.edit) c.in-Ok.plan c.in-Ok.ensures.plan new
+          c.make_kept.ensures.slots c.in_ok-make_kept.ensures.done c.as_slice-lines.result.now line far,
+    )
+
+pub invariant_of-self-then-is_unaffected : goal.invariant_of-self-then-is_unaffected
+invariant_of-self-then-is_unaffected c =
+    let s = stays (goal.at.invariant_of-self-then-is_unaffected c).In_ok-make_kept in
+    right_now c.self.inside c.self.view_is c.requires.open c.self.invariant s.0 s.1
 
 pub returns-then-is_unaffected : goal.returns-then-is_unaffected
 returns-then-is_unaffected c =
-    let r = c.self.inside in
-    let new = c.make_kept.new.self in
-    let line = lines_of_one c.in-Ok.plan.line c.as_slice-lines.result.now c.as_slice-lines.ensures in
-    let far = c.if-is_unaffected.ensures.bounds refl (map_of new) (slot_of new) in
-    let left = c.if-is_unaffected.ensures.paths refl r.margin (map_of r.roads) (map_of new) (slot_of new)
-    (changes_of (map_of r.roads) (edit_of c.args.edit)) in
-    done_now r c.self.view_is c.requires.open
-    (made r c.self.view_is c.requires.open c.self.invariant (edit_of c.args.edit) c.in-Ok.plan c.in-Ok.ensures.plan new
-    c.make_kept.ensures.slots c.in_ok-make_kept.ensures.done c.as_slice-lines.result.now line far left)
+    done_now c.self.inside c.self.view_is c.requires.open (stays (goal.at.returns-then-is_unaffected c).In_ok-make_kept).0
     (rw c.new.ensures.items)
 
 -- ---- otherwise

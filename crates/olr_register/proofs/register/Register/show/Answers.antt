@@ -15,8 +15,8 @@ returns-in_default c =
     c.self.invariant.register.encoded ∙ ap (λ (o : Option Results). is_some o) (sym c.in_default.ensures) in
     rw (← c.self.view_is) (refused_same _ _ _ _ refl (λ o. ByState (rw there)))
 
-pub returns-in_err-entry : goal.returns-in_err-entry
-returns-in_err-entry c =
+pub returns-in_err-entry_alone : goal.returns-in_err-entry_alone
+returns-in_err-entry_alone c =
     let r = c.self.inside in
     let there = found_if_there r.margin (accepted_map r.roads r.batch) (items r.paths) c.args.name.now
     c.self.invariant.register.encoded ∙ ap (λ (o : Option Results). is_some o) (sym c.in-Some.ensures) in
@@ -35,14 +35,6 @@ returns c =
         A,
         (answer_held r.margin (accepted_map r.roads r.batch) (items r.paths) h.content h.encoded c.args.name.now A).1
             (ap (option_map (λ (m : Results). m.answer)) (sym c.in-Some.ensures)),
-        rw (c.in_ok-one_entry.ensures, c.in_ok-entry.ensures),
+        rw c.in_ok-entry_alone.ensures,
       ),
     )))
-
-pub returns-in_err-one_entry : goal.returns-in_err-one_entry
-returns-in_err-one_entry c =
-    let r = c.self.inside in
-    let there = found_if_there r.margin (accepted_map r.roads r.batch) (items r.paths) c.args.name.now
-    c.self.invariant.register.encoded ∙ ap (λ (o : Option Results). is_some o) (sym c.in-Some.ensures) in
-    rw (← c.self.view_is) (refused_same _ _ _ Memory c.from_residual-in_err-one_entry.ensures.1
-    (λ o. Lacks refl (rw there)))
