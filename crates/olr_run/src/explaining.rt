@@ -5,13 +5,11 @@ ghost use Rattle.olr_input.specs.Buffers.{pending, written};
 ghost use Rattle.olr_run.specs.Explains.{ExplainsFault, Shows};
 
 use crate::arguments::OptionsFault;
+use crate::statuses::WRONG_ARGUMENTS;
 use olr_input::{Buffered, RunFault, report_fault, write_all};
 use std::alloc::Global;
 use std::fmt::Display;
 use std::io::Write;
-
-/// The exit status for invalid arguments.
-pub const WRONG_ARGUMENTS: u8 = 2;
 
 /// Writes a text as it is, help or the version, and sends it.
 fn show<D: Display, W: Write + Drop>(

@@ -9,28 +9,16 @@ ghost use Rattle.olr_run.specs.Runs.{Records};
 ghost use Rattle.olr_input.specs.Buffers.{pending};
 ghost use Rattle.olr_input.specs.Sessions.{most_pending};
 
-use crate::explaining::WRONG_ARGUMENTS;
 use crate::loader::RestoreFault;
 use crate::logged::run_with_log;
 use crate::starts::{StartFault, begin_with};
+use crate::statuses::{IN_USE, OPEN_BATCH, REJECTED, UNUSABLE, WRONG_ARGUMENTS};
 use olr_input::{Buffered, Gate, LogFault, RunFault, Source, Status, end_status, report_fault};
 use olr_log::{Folder, LogFile, OpenError};
 use sqlite_disk::Disk;
 use std::alloc::Global;
 use std::io::{self, Write};
 use std::mem;
-
-/// The exit status if a log can't be used.
-const NO_LOG: u8 = 3;
-
-/// The exit status if a log is rejected.
-const REJECTED: u8 = 5;
-
-/// The exit status if the input ended in a batch.
-const OPEN_BATCH: u8 = 6;
-
-/// The exit status if another process uses the log.
-const IN_USE: u8 = 7;
 
 /// What is said of a log whose last run was cut off.
 const CUT_OFF: &str =
@@ -59,7 +47,7 @@ fn report_unopened<E: Write>(name: &str, error: OpenError, errors: &mut E) -> u8
         }
         OpenError::Lock(error) => {
             let _ = writeln!(errors, "olr-keep: the lock file of {name}: {error}");
-            NO_LOG
+            UNUSABLE
         }
         OpenError::Io(error) => report_unusable(name, error, errors),
     }
@@ -73,7 +61,7 @@ fn report_unusable<E: Write>(name: &str, error: io::Error, errors: &mut E) -> u8
         return report_fault(RunFault::Memory, errors);
     }
     let _ = writeln!(errors, "olr-keep: {name}: {error}");
-    NO_LOG
+    UNUSABLE
 }
 
 /// Reports why a run can't begin with a log, and returns the exit status. The line of a rejected record's fault has its own

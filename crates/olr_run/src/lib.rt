@@ -14,11 +14,12 @@ mod logged;
 mod records;
 mod sizes;
 mod starts;
+mod statuses;
 mod streams;
 
 pub use arguments::{Options, OptionsFault};
 pub use command_line::options;
-pub use explaining::{WRONG_ARGUMENTS, explain};
+pub use explaining::explain;
 pub use files::open_file;
 pub use from_log::OpenLog;
 pub use loader::{Progress, RestoreFault, restore};
@@ -28,4 +29,5 @@ pub use olr_input::{
 };
 pub use records::{Scratch, run, run_bytes, run_session, run_source};
 pub use sizes::compaction_length;
+pub use statuses::WRONG_ARGUMENTS;
 pub use streams::program;

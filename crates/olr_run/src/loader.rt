@@ -14,8 +14,10 @@ ghost use Rattle.olr_run.specs.Output.{records_of};
 ghost use Rattle.olr_run.specs.declared.loader.RestoreFault.TheVariants as restore;
 
 use csv::ByteRecord;
+use olr_binary::{TextFault, V3Fault};
 use olr_commands::{Command, CommandFault};
 use olr_input::{InMemory, RunFault, Source};
+use olr_model::EditFault;
 use olr_records::{ReadFault, fault_text, read_command, read_fault_text};
 use olr_register::{Building, Register};
 use std::alloc::Global;
@@ -72,11 +74,12 @@ fn restore_fault(fault: CommandFault) -> RestoreFault
     ensures memory { is_rejection result ≡ true → command_fault_of fault ≡ state.Memory → ⊥ }
     ensures few { is_too_many result ≡ false }
 {
-    let line = fault_text(fault);
-    if line == fault_text(CommandFault::Memory) {
-        return RestoreFault::Memory;
+    match fault {
+        CommandFault::Memory
+        | CommandFault::Map(EditFault::Memory)
+        | CommandFault::NotAReference(TextFault::Bytes(V3Fault::Memory)) => RestoreFault::Memory,
+        rejected => RestoreFault::Rejected(fault_text(rejected)),
     }
-    RestoreFault::Rejected(line)
 }
 
 impl Loader {

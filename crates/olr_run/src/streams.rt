@@ -12,13 +12,14 @@ ghost use Rattle.olr_input.specs.Sessions.{JoinedLeft, Known, most_pending};
 
 use crate::arguments::Options;
 use crate::command_line::options;
-use crate::explaining::{WRONG_ARGUMENTS, explain};
+use crate::explaining::explain;
 use crate::files::open_file;
 use crate::from_log::{LogRun, OpenLog, with_log};
 use crate::inputs::both_sources;
 use crate::logged::end_sent;
 use crate::records::{Scratch, run_source};
 use crate::sizes::compaction_length;
+use crate::statuses::{UNUSABLE, WRONG_ARGUMENTS};
 use olr_input::{Buffered, Input, Joined, RunFault, Source, end_status, report_fault};
 use olr_log::{Folder, LogFile};
 use olr_register::Register;
@@ -27,9 +28,6 @@ use std::alloc::Global;
 use std::convert::AsStr;
 use std::io::{Read, Write};
 use std::{io, mem};
-
-/// The exit status if the command file can't be opened.
-const NO_FILE: u8 = 3;
 
 /// Runs the records of a source on an empty register, sends the answers, and returns the exit status. The register is not
 /// dropped: its memory is left to the end of the process.
@@ -87,7 +85,7 @@ fn sources<F: Read + Drop, O: FnOnce(&str) -> io::Result<F>, R: Read + Drop, E: 
                 errors,
                 "olr-keep: cannot open the command file {name}: {error}"
             );
-            return Err(NO_FILE);
+            return Err(UNUSABLE);
         }
     };
     let Some(from) = compaction_length(options.compact_at) else {
