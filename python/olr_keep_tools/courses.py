@@ -14,10 +14,11 @@ import functools
 import itertools
 import math
 from collections import defaultdict
-from typing import (Callable, Collection, Dict, FrozenSet, Iterable, Iterator, List, Mapping, NamedTuple, Optional, Protocol,
-                    Sequence, Set, Tuple, Union)
+from typing import (Callable, Dict, FrozenSet, Iterable, Iterator, List, Mapping, NamedTuple, Optional, Protocol,
+                    Sequence, Tuple, Union)
 
 from .geo import METRES, between, onto_segment, scale
+from .grid import CELL, Cell, segments
 from .routes import Waiting
 
 SNAP = 1.0  # metres along a line between an end of the course and a node that are taken as none
@@ -30,8 +31,6 @@ SAME = 1e-6  # costs that differ by less are equal
 MISSED = 100.0  # the cost of another end than one at a junction, where the road has a price
 NEARNESS = 0.2  # what a metre from the course costs there
 FORCED = 1e9  # the cost of an end along a line where an end at a junction is sought
-CELL = 0.002  # degrees of the cells by which the lines near a place are found
-MOST_CELLS = 500  # of one straight segment, a degree of a map: a longer one is an error, and is near its ends alone
 START, END = "start", "end"
 
 Place = Tuple[float, float]
@@ -40,7 +39,7 @@ Label = Union[str, Tuple[int, float]]
 Step = Tuple[Optional[int], float, float]
 
 
-class Line(Protocol):
+class Edge(Protocol):
     """A line of the map: its nodes, a name that its stretch of road shares with others, its coordinates, its length in
     decimetres, and what kind of road it is, as far as that matters."""
 
@@ -105,19 +104,6 @@ class Lost(NamedTuple):
     place: Optional[Place]
 
 
-def cells_along(a: Place, b: Place, cell: float) -> Collection[Tuple[int, int]]:
-    """The cells in which a segment has points, and perhaps some beside them."""
-    x, y, right, top = int(a[0] // cell), int(a[1] // cell), int(b[0] // cell), int(b[1] // cell)
-    if x == right and y == top:
-        return ((x, y),)
-    if abs(right - x) <= 1 and abs(top - y) <= 1:
-        return (x, y), (x, top), (right, y), (right, top)
-    if max(abs(right - x), abs(top - y)) > MOST_CELLS:
-        return (x, y), (right, top)
-    middle = (a[0] + b[0]) / 2, (a[1] + b[1]) / 2
-    return {*cells_along(a, middle, cell), *cells_along(middle, b, cell)}
-
-
 def reach(course: Sequence[Place], tolerance: float) -> Place:
     """Somewhat more than the tolerance, in degrees east and north of a course."""
     high = 1.1 * tolerance / METRES
@@ -125,7 +111,7 @@ def reach(course: Sequence[Place], tolerance: float) -> Place:
 
 
 @functools.lru_cache(maxsize=4)
-def cells_near(course: Tuple[Place, ...], tolerance: float, cell: float = CELL) -> FrozenSet[Tuple[int, int]]:
+def cells_near(course: Tuple[Place, ...], tolerance: float, cell: float = CELL) -> FrozenSet[Cell]:
     """The cells of this size in which lines near a course may have points."""
     wide, high = reach(course, tolerance)
     places = list(course[:1])
@@ -210,36 +196,17 @@ class Plane:
 
 
 class Strip(Polyline):
-    """A polyline with a grid, by which its segments near a point are found: each cell has those in it."""
+    """A polyline with a grid of its segments, by which those near a point are found."""
 
     def __init__(self, points: List[Place], cell: float) -> None:
         super().__init__(points)
-        self.cell = cell
-        self.cells: Dict[Tuple[float, float], List[int]] = defaultdict(list)
-        places = [(x // cell, y // cell) for x, y in points]
-        for k, it in enumerate(zip(places, places[1:])):
-            if it[0] == it[1]:
-                self.cells[it[0]].append(k)
-            else:
-                for place in cells_along(points[k], points[k + 1], cell):
-                    self.cells[place].append(k)
+        self.grid = segments(points, cell)
 
-    def segments_near(self, point: Place, metres: Optional[float] = None) -> Sequence[int]:
-        """The segments near a point: all up to this distance from it, or, without one, up to the size of a cell."""
-        (x, y), cell, cells = point, self.cell, self.cells
-        far = cell if metres is None else metres
-        low, right, bottom, top = (x - far) // cell, (x + far) // cell, (y - far) // cell, (y + far) // cell
-        if right - low <= 1 and top - bottom <= 1:
-            four = cells.get((low, bottom)), cells.get((low, top)), cells.get((right, bottom)), cells.get((right, top))
-            return sorted({k for it in four if it for k in it}) if any(four) else ()
-        found: Set[int] = set()
-        while low <= right:
-            high = bottom
-            while high <= top:
-                found.update(cells.get((low, high), ()))
-                high += 1
-            low += 1
-        return sorted(found)
+    def segments_near(self, point: Place, metres: float) -> Sequence[int]:
+        """The segments up to this distance from a point, and perhaps some beside them."""
+        x, y = point
+        found = self.grid.within(x - metres, y - metres, x + metres, y + metres)
+        return sorted(set().union(*found)) if found else ()
 
     def is_near(self, point: Place, metres: float) -> bool:
         """Whether a point is within this distance."""
@@ -250,40 +217,30 @@ class Network:
     """Lines of a map, by which searches find those that leave a node and those near a place. Further ones than those near a
     course don't change what is found for it."""
 
-    def __init__(self, lines: Mapping[int, Line]) -> None:
-        self.known: Dict[int, Line] = {}
-        self.lines: Mapping[int, Line] = self.known
+    def __init__(self, lines: Mapping[int, Edge]) -> None:
+        self.known: Dict[int, Edge] = {}
+        self.lines: Mapping[int, Edge] = self.known
         self.leaving: Dict[int, List[Tuple[int, int]]] = defaultdict(list)  # the lines and the nodes where they end
         self.nodes: Dict[int, Place] = {}
         self.boxes: Dict[int, Box] = {}
-        self.cells: Dict[Tuple[float, float], List[int]] = defaultdict(list)
         self.add(lines)
 
-    def add(self, lines: Mapping[int, Line]) -> None:
+    def add(self, lines: Mapping[int, Edge]) -> None:
         """Adds lines."""
-        known, leaving, nodes, boxes, cells = self.known, self.leaving, self.nodes, self.boxes, self.cells
+        known, leaving, nodes, boxes = self.known, self.leaving, self.nodes, self.boxes
         for number, line in lines.items():
             if number not in known:
                 known[number], points, start, end = line, line.points, line.start, line.end
                 leaving[start].append((number, end))
                 nodes[start], nodes[end] = points[0], points[-1]
                 lons, lats = zip(*points)
-                boxes[number] = west, south, east, north = min(lons), min(lats), max(lons), max(lats)
-                low, bottom = west // CELL, south // CELL
-                if low == east // CELL and bottom == north // CELL:
-                    cells[low, bottom].append(number)
-                else:
-                    for it in set().union(*(cells_along(a, b, CELL) for a, b in zip(points, points[1:]))):
-                        cells[it].append(number)
+                boxes[number] = min(lons), min(lats), max(lons), max(lats)
 
     def near(self, place: Place, east: float, north: float) -> List[int]:
         """The lines whose boxes are within these degrees of a place on both axes."""
         lon, lat = place
         w, s, e, n = lon - east, lat - north, lon + east, lat + north
-        low, high, bottom, top = (int(it // CELL) for it in (w, e, s, n))
-        found = set().union(*(self.cells.get((x, y), ()) for x in range(low, high + 1) for y in range(bottom, top + 1)))
-        boxes = ((it, self.boxes[it]) for it in found)
-        return sorted(it for it, box in boxes if box[0] <= e and box[2] >= w and box[1] <= n and box[3] >= s)
+        return sorted(it for it, box in self.boxes.items() if box[0] <= e and box[2] >= w and box[1] <= n and box[3] >= s)
 
 
 class Ends(NamedTuple):
@@ -320,7 +277,7 @@ class Wish(NamedTuple):
         return FORCED if self.ends[side] else 0.0
 
 
-def course_of(lines: Sequence[Line], start: int, end: int) -> Tuple[Place, ...]:
+def course_of(lines: Sequence[Edge], start: int, end: int) -> Tuple[Place, ...]:
     """The coordinates of lines in order, without these decimetres at their start and end."""
     points = list(lines[0].points)
     for it in lines[1:]:
@@ -610,7 +567,7 @@ class Follower:
         return found._replace(rival=Rival(self.name(taken), self.name(other), self.plane.degrees(middle)))
 
 
-def follow(course: Sequence[Tuple[float, float]], lines: Union[Network, Mapping[int, Line]], tolerance: float = 20.0,
+def follow(course: Sequence[Tuple[float, float]], lines: Union[Network, Mapping[int, Edge]], tolerance: float = 20.0,
            wish: Wish = Wish()) -> Union[Found, Lost]:
     """The lines that follow a course, or why there are none: `Found` or `Lost`."""
     if not course:

@@ -6,8 +6,9 @@ from collections import defaultdict
 from typing import Callable, Collection, Dict, FrozenSet, Iterable, Iterator, List, NamedTuple, Sequence, Set, Tuple
 
 from .extent import connected
-from .geo import METRES, direction, distance
-from .receiver import CELL, Box, Cell, Road, RoadMap, bearing, cell_of, is_wide, pieces, place, project, shape_length
+from .geo import METRES, between, direction, distance
+from .grid import CELL, Grid, cell_of
+from .receiver import Box, Road, RoadMap, bearing, is_wide, place, project, shape_length
 from .refound import SHORT, are_twins
 from .strings import SECTOR, STEP_16, STEP_24
 
@@ -91,7 +92,7 @@ class TooMany(Exception):
 
 
 class Budget:
-    """How many cells and nodes a search may look at: far more than on any map of roads."""
+    """How many boxes and nodes a search may look at: far more than on any map of roads."""
 
     def __init__(self, lines: int):
         self.left = 1_000_000 + 500 * lines
@@ -155,12 +156,12 @@ class Leaving(NamedTuple):
 def nodes_beside(roads: RoadMap, ends: Collection[int], found: Set[Tuple[int, int]]) -> None:
     """Finds pairs of a node and a line that may pass it: a box of the line, with a margin, contains the node, and the node is one
     of these ends of roads, or a line with the same class and form leaves it."""
-    cells: Dict[Cell, List[Leaving]] = defaultdict(list)
+    grid: Grid[Leaving] = Grid(CELL)
     budget = Budget(len(roads.lines))
     near: Dict[Tuple[int, int, float, float], List[Leaving]] = {}
     for node, (lon, lat) in roads.nodes.items():
         kinds = frozenset(roads.lines[it][2:4] for it in roads.leaving.get(node, ()))
-        cells[cell_of((lon, lat))].append(Leaving(lon, lat, node, kinds))
+        grid.add((lon, lat), Leaving(lon, lat, node, kinds))
     for number, road in roads.lines.items():
         if is_wide(road):
             continue
@@ -168,25 +169,20 @@ def nodes_beside(roads: RoadMap, ends: Collection[int], found: Set[Tuple[int, in
         # The two directions of a road have the same points, and their sums are exact.
         key = (min(road[:2]), max(road[:2]), math.fsum(lons), math.fsum(lats))
         if key not in near:
-            near[key] = nodes_in(cells, boxes(road, lons, lats), road[:2], functools.partial(budget.spend, line=number))
+            near[key] = nodes_in(grid, boxes(road, lons, lats), road[:2], functools.partial(budget.spend, line=number))
         kind = road[2:4]
         beside = [(it.node, number) for it in near[key] if kind in it.kinds or it.node in ends]
         budget.spend(20 * len(beside), number)
         found.update(beside)
 
 
-def nodes_in(cells: Dict[Cell, List[Leaving]], found_boxes: Iterable[Box], ends: Sequence[int],
-             spend: Callable[[int], None]) -> List[Leaving]:
-    """The nodes within these boxes, but for a line's ends. How many nodes and cells it looks at is counted."""
+def nodes_in(grid: Grid[Leaving], found_boxes: Iterable[Box], ends: Sequence[int], spend: Callable[[int], None]) -> List[Leaving]:
+    """The nodes within these boxes, but for a line's ends. How many nodes and boxes it looks at is counted."""
     found = []
     for west, south, east, north in found_boxes:
-        for x in range(int(west // CELL), int(east // CELL) + 1):
-            for y in range(int(south // CELL), int(north // CELL) + 1):
-                here = cells.get((x, y), ())
-                spend(1 + len(here))
-                for it in here:
-                    if south <= it.lat <= north and west <= it.lon <= east and it.node not in ends:
-                        found.append(it)
+        here = list(itertools.chain.from_iterable(grid.within(west, south, east, north)))
+        spend(1 + len(here))
+        found += [it for it in here if south <= it.lat <= north and west <= it.lon <= east and it.node not in ends]
     return found
 
 
@@ -199,9 +195,10 @@ def boxes(road: Road, lons: Sequence[float], lats: Sequence[float]) -> List[Box]
     if east - west <= 2 * CELL and north - south <= 2 * CELL:
         return [(west - aside, south - up, east + aside, north + up)]
     found = []
-    for a, b in zip(road.points, road.points[1:]):
-        for (x, y), (u, v) in pieces(a[1:], b[1:]):
-            found.append((min(x, u) - aside, min(y, v) - up, max(x, u) + aside, max(y, v) + up))
+    for (_, *a), (_, *b) in zip(road.points, road.points[1:]):
+        count = max(1, math.ceil(max(abs(b[0] - a[0]), abs(b[1] - a[1])) / CELL))
+        stops = [between(a, b, k / count) for k in range(count + 1)]
+        found += [(min(x, u) - aside, min(y, v) - up, max(x, u) + aside, max(y, v) + up) for (x, y), (u, v) in zip(stops, stops[1:])]
     return found
 
 
@@ -229,19 +226,18 @@ def nodes_near(roads: RoadMap, point: int) -> Iterator[Finding]:
     the least cosine of the map, less than three times the decoding error apart. Then another node may be as near to a
     decoded coordinate as the right one."""
     width = 3 * decoding_error(point)
-    cells: Dict[Cell, List[int]] = defaultdict(list)
+    grid: Grid[int] = Grid(width)
     least = min((math.cos(math.radians(lat)) for _, lat in roads.nodes.values()), default=1.0)
     for number, (lon, lat) in sorted(roads.nodes.items()):
-        column, row = math.floor(lon * least / width), math.floor(lat / width)
-        for cell in itertools.product((column - 1, column, column + 1), (row - 1, row, row + 1)):
-            for other in cells.get(cell, ()):
-                there = roads.nodes[other]
-                if max(abs(there[0] - lon) * least, abs(there[1] - lat)) < width:
-                    is_same = there == (lon, lat)
-                    text = f"nodes {other} and {number}, {distance(there, (lon, lat)):.1f} m apart"
-                    yield Finding("same-coordinate" if is_same else "near-nodes", (), (other, number), text)
-        if len(cells[column, row]) < CROWD:
-            cells[column, row].append(number)
+        here = lon * least, lat
+        for other in grid.beside(here):
+            there = roads.nodes[other]
+            if max(abs(there[0] - lon) * least, abs(there[1] - lat)) < width:
+                is_same = there == (lon, lat)
+                text = f"nodes {other} and {number}, {distance(there, (lon, lat)):.1f} m apart"
+                yield Finding("same-coordinate" if is_same else "near-nodes", (), (other, number), text)
+        if len(grid.cells[cell_of(here, width)]) < CROWD:
+            grid.add(here, number)
 
 
 def dead_ends(roads: RoadMap) -> Iterator[Finding]:

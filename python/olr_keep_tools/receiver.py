@@ -10,20 +10,18 @@ import functools
 import itertools
 import math
 from collections import defaultdict
-from typing import Callable, Dict, Iterable, Iterator, List, NamedTuple, Optional, Sequence, Set, Tuple, TypeVar, Union
+from typing import Callable, Dict, Iterable, Iterator, List, NamedTuple, Optional, Sequence, Set, Tuple, Union
 
 from .geo import METRES, Degrees, angle_between, between, direction, distance, on_piece, scale
+from .grid import CELL, Grid, Points
 from .records import State
 from .routes import Search, Step
 from .strings import Onward, Point, Reference
 
-CELL = 0.002  # degrees, the width of a cell of the grid
-WIDEST = 1.0  # degrees; a line over more than these is in no cell, and a segment over more is an error, and near its ends alone
+WIDEST = 1.0  # degrees; a line over more than these is in no cell
 
-Cell = Tuple[int, int]
 Box = Tuple[float, float, float, float]  # west, south, east, north
 Shape = Sequence[Tuple[float, float, float]]  # distance along a line, longitude and latitude
-Content = TypeVar("Content")
 
 
 # ---- the map
@@ -41,7 +39,7 @@ class Road(NamedTuple):
 
 
 class RoadMap:
-    """Lines by number, those that leave and enter each node, and a grid over both, which is made when it is first asked for."""
+    """Lines by number, those that leave and enter each node, and a grid of both, which is made when it is first asked for."""
 
     def __init__(self, nodes: Dict[int, Degrees], lines: Dict[int, Road]):
         self.nodes, self.lines = nodes, lines
@@ -52,26 +50,19 @@ class RoadMap:
             self.entering[road.end].append(number)
 
     @functools.cached_property
-    def node_cells(self) -> Dict[Cell, List[int]]:
-        """The nodes in each cell of the grid."""
-        cells = defaultdict(list)
-        for number, place in self.nodes.items():
-            cells[cell_of(place)].append(number)
-        return cells
+    def points(self) -> Points:
+        """The nodes, by which those near a coordinate are found."""
+        return Points(self.nodes, self.nodes.__getitem__)
 
     @functools.cached_property
-    def line_cells(self) -> Dict[Cell, Dict[int, Box]]:
-        """The lines in each cell of the grid, each with its box; a line with a coordinate that is far off is in none."""
-        cells: Dict[Cell, Dict[int, Box]] = defaultdict(dict)
+    def line_grid(self) -> Grid[Tuple[int, Box]]:
+        """The lines, each with its box; without those that have a coordinate that is far off."""
+        grid: Grid[Tuple[int, Box]] = Grid(CELL)
         for number, road in self.lines.items():
-            if is_wide(road):
-                continue
-            _, lons, lats = zip(*road.points)
-            box = min(lons), min(lats), max(lons), max(lats)
-            for a, b in zip(road.points, road.points[1:]):
-                for cell in cells_along(a[1:], b[1:]):
-                    cells[cell][number] = box
-        return cells
+            if not is_wide(road):
+                _, lons, lats = zip(*road.points)
+                grid.add_along(list(zip(lons, lats)), (number, (min(lons), min(lats), max(lons), max(lats))))
+        return grid
 
     @classmethod
     def of_state(cls, state: State) -> "RoadMap":
@@ -83,30 +74,14 @@ class RoadMap:
             nodes[number] = float(lon), float(lat)
         return cls(nodes, {number: road_of(text, nodes) for number, text in state.lines.text.items()})
 
-    def near(self, cells: Dict[Cell, Content], lon: float, lat: float, radius: float) -> Iterator[Content]:
-        """The contents of each cell within a radius of a coordinate."""
-        east, north = radius / scale(lat), radius / METRES
-        columns = range(int((lon - east) // CELL), int((lon + east) // CELL) + 1)
-        rows = range(int((lat - north) // CELL), int((lat + north) // CELL) + 1)
-        if len(columns) * CELL > WIDEST:  # beside a pole
-            return (it for (x, y), it in cells.items() if x in columns and y in rows)
-        return (cells[it] for it in itertools.product(columns, rows) if it in cells)
-
-    def nodes_near(self, lon: float, lat: float, radius: float) -> List[Tuple[int, float]]:
-        """The nodes within a radius of a coordinate, each with its distance, in ascending order."""
-        numbers = sorted(it for cell in self.near(self.node_cells, lon, lat, radius) for it in cell)
-        pairs = ((it, distance((lon, lat), self.nodes[it])) for it in numbers)
-        return [(it, far) for it, far in pairs if far <= radius]
-
     def lines_near(self, lon: float, lat: float, radius: float) -> List[Tuple[int, float, float]]:
         """The lines within a radius of a coordinate, each with its distance and the position of its nearest point, in ascending
         order."""
         east, north = radius / scale(lat), radius / METRES
         found: Dict[int, Tuple[float, float]] = {}
-        for cell in self.near(self.line_cells, lon, lat, radius):
-            for it, (west, south, other_east, other_north) in cell.items():
-                if west - east <= lon <= other_east + east and south - north <= lat <= other_north + north and it not in found:
-                    found[it] = project(self.lines[it], lon, lat)
+        for it, (west, south, other_east, other_north) in self.line_grid.near((lon, lat), radius):
+            if west - east <= lon <= other_east + east and south - north <= lat <= other_north + north and it not in found:
+                found[it] = project(self.lines[it], lon, lat)
         return [(it, far, at) for it, (far, at) in sorted(found.items()) if far <= radius]
 
 
@@ -118,32 +93,9 @@ def road_of(text: str, nodes: Dict[int, Degrees]) -> Road:
     return Road(first, last, int(frc), int(fow), metres, ((0.0, *nodes[first]), *inner, (metres, *nodes[last])))
 
 
-def cell_of(place: Degrees) -> Cell:
-    """The cell of the grid that has a coordinate."""
-    return int(place[0] // CELL), int(place[1] // CELL)
-
-
 def is_wide(road: Road) -> bool:
     """Whether the segments of a line together are wider or higher than any road."""
     return sum(max(abs(b[1] - a[1]), abs(b[2] - a[2])) for a, b in zip(road.points, road.points[1:])) > WIDEST
-
-
-def pieces(a: Degrees, b: Degrees) -> Iterable[Tuple[Degrees, Degrees]]:
-    """The parts of a straight segment, none wider or higher than a cell of the grid, as pairs of coordinates."""
-    count = max(1, math.ceil(max(abs(b[0] - a[0]), abs(b[1] - a[1])) / CELL))
-    if count == 1:
-        return ((a, b),)
-    if count * CELL > WIDEST:
-        return ((a, a), (b, b))
-    stops = [between(a, b, k / count) for k in range(count + 1)]
-    return zip(stops, stops[1:])
-
-
-def cells_along(a: Degrees, b: Degrees) -> Iterator[Cell]:
-    """The cells of the grid that a straight segment passes, and some neighbours."""
-    for p, q in pieces(a, b):
-        (x, right), (y, top) = (sorted((int(p[k] // CELL), int(q[k] // CELL))) for k in (0, 1))
-        yield from itertools.product(range(x, right + 1), range(y, top + 1))
 
 
 # ---- geometry of roads
@@ -262,7 +214,7 @@ def candidates(roads: RoadMap, point: Point, is_last: bool, rules: Rules) -> Tup
 def by_nodes(roads: RoadMap, point: Point, is_last: bool, rules: Rules) -> Iterator[Position]:
     """Lines that leave (for the last point: enter) a node within the radius."""
     sides = roads.entering if is_last else roads.leaving
-    for node, far in roads.nodes_near(point.lon, point.lat, rules.radius):
+    for node, far in roads.points.near((point.lon, point.lat), rules.radius).items():
         for line in sides[node]:
             yield Position(line, roads.lines[line].length if is_last else 0.0, far)
 

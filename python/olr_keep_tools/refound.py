@@ -5,7 +5,8 @@ from typing import Callable, Dict, Iterator, List, NamedTuple, Optional, Sequenc
 
 from .courses import MOST_SAMPLES, SAMPLE
 from .geo import METRES, Degrees, between, distance, on_piece, scale
-from .receiver import Cell, Decoded, Failed, Road, RoadMap, Rules, cells_along, decode, place, shape_length, within
+from .grid import CELL, segments
+from .receiver import Decoded, Failed, Road, RoadMap, Rules, decode, place, shape_length, within
 from .records import Path
 from .strings import Reference
 
@@ -82,15 +83,11 @@ def is_same(roads: RoadMap, reference: Reference, found: Decoded, location: Loca
 
 def farthest(coordinates: Sequence[Degrees], others: Sequence[Degrees]) -> float:
     """The greatest distance of a shape from another one, sampled every 10 m."""
-    cells: Dict[Cell, List[int]] = {}
-    worst = 0.0
-    for k, (a, b) in enumerate(zip(others, others[1:])):
-        for cell in cells_along(a, b):
-            cells.setdefault(cell, []).append(k)
+    grid, worst = segments(others, CELL), 0.0
     for a, b in zip(coordinates, coordinates[1:]):
         count = max(1, min(MOST_SAMPLES, math.ceil(distance(a, b) / SAMPLE)))
         for lon, lat in (between(a, b, k / count) for k in range(count + 1)):
-            near = {k for cell in cells_along((lon - 4e-4, lat - 4e-4), (lon + 4e-4, lat + 4e-4)) for k in cells.get(cell, ())}
+            near = {k for cell in grid.within(lon - 4e-4, lat - 4e-4, lon + 4e-4, lat + 4e-4) for k in cell}
             worst = max(worst, min((on_piece(others[k], others[k + 1], lon, lat)[0] for k in near), default=math.inf))
     return worst
 

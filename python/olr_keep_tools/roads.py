@@ -16,10 +16,11 @@ import functools
 import json
 import math
 from collections import Counter, defaultdict
-from typing import Any, Dict, FrozenSet, Iterable, Iterator, List, Mapping, NamedTuple, Optional, Sequence, Set, Tuple, Union
+from typing import Any, Dict, FrozenSet, Iterable, List, Mapping, NamedTuple, Optional, Sequence, Set, Tuple, Union
 
-from .courses import Follower, Found, Ground, Line, Lost, Network, Plane, Polyline, Rival, Wish, course_of
+from .courses import Edge, Follower, Found, Ground, Lost, Network, Plane, Polyline, Rival, Wish, cells_near, course_of
 from .geo import METRES, angle_between, direction
+from .grid import CELL, cells_along
 
 STEP = 10.0  # metres between two sections
 GONE = 20.0  # metres along the course for which a road has to be gone
@@ -27,8 +28,9 @@ BESIDE = 40.0  # metres for which another road has to run along it, and to be as
 TWIN = 2.0  # metres up to which lines beside each other are the same road, if ids don't tell them apart
 REACH = 40.0  # metres on both sides of the course in which roads of the last map are
 WIDER = 60.0  # the same of the map as it is now
-GRID = 40.0  # metres of the cells by which the sections near a segment are found
-LEFTS = range(-60, 61, 20)  # metres to the left of the course: each place of a section is within a quarter of a cell of one
+NEAR = CELL / 4  # degrees of the cells by which the lines near a course are kept
+GRID = 60.0  # metres of the cells by which the sections near a segment are found
+LEFTS = range(-60, 61, 30)  # metres to the left of the course: each place of a section is within a quarter of a cell of one
 SLANT = 0.7  # the least cosine of the angle between a road and the course
 SAME_ID = 5.0  # metres that a pair with the same id costs less
 ALONE = 20.0  # metres that a road of the last map without a pair costs
@@ -59,20 +61,19 @@ class LastMap(NamedTuple):
     """The map on which a path was last as given: the lines near its course by number, the path's own ones in order, and the
     decimetres of these that were cut off at the start and the end."""
 
-    lines: Mapping[int, Line]
+    lines: Mapping[int, Edge]
     own: Sequence[int]
     cuts: Tuple[int, int] = (0, 0)
 
 
 def nearby(last: LastMap, course: Sequence[Place]) -> LastMap:
-    """The part of a last map that matters for a course: the lines at the nodes of the path's own ones, and those along it."""
+    """The part of a last map that matters for a course: the lines at the nodes of the path's own ones, and those near it."""
     ends = {it for number in last.own for it in (last.lines[number].start, last.lines[number].end)}
     kept = {number for number, it in last.lines.items() if it.start in ends or it.end in ends}
-    rest = {number: it for number, it in last.lines.items() if number not in kept}
-    if rest:
-        plane = Plane(course[0][1])
-        across = Sections(Polyline(plane.course(course))).crossings(rest, plane, REACH)
-        kept |= {it.number for several in across for it in several}
+    near = cells_near(tuple(course), REACH, NEAR)
+    for number, it in last.lines.items():
+        if number not in kept and any(cell in near for a, b in zip(it.points, it.points[1:]) for cell in cells_along(a, b, NEAR)):
+            kept.add(number)
     return last._replace(lines={number: last.lines[number] for number in sorted(kept)})
 
 
@@ -89,7 +90,7 @@ def stored(last: LastMap) -> str:
 
 def restored(text: Mapping[str, Any]) -> LastMap:
     """A last map that was stored."""
-    lines: Dict[int, Line] = {}
+    lines: Dict[int, Edge] = {}
     for number, start, end, street, length, points in text["lines"]:
         places = lines[points].points[::-1] if isinstance(points, int) else tuple((lon, lat) for lon, lat in points)
         lines[number] = Ground(start, end, street, places, length)
@@ -141,6 +142,9 @@ class Crossing(NamedTuple):
     street: str
 
 
+Hit = Tuple[int, float]  # a section, and how many metres to the left of the course it is crossed
+
+
 class Sections:
     """The sections across a course, in a grid."""
 
@@ -149,34 +153,47 @@ class Sections:
         self.step = course.length / count
         self.at = [(k + 0.5) * self.step for k in range(count)]
         self.tangents: List[Tuple[float, float, float, float]] = []
-        self.cells: Dict[Tuple[int, int], List[int]] = defaultdict(list)
+        self.cells: Dict[Tuple[float, float], List[int]] = defaultdict(list)
+        self.hits: Dict[Tuple[Place, ...], List[Hit]] = {}
+        cells = self.cells
         places = course.every(self.step / 2, 2 * count)
         for k, (a, (x, y), b) in enumerate(zip(places[::2], places[1::2], places[2::2])):
             far = math.dist(a, b) or 1.0
             east, north = (b[0] - a[0]) / far, (b[1] - a[1]) / far
             self.tangents.append((x, y, east, north))
             for left in LEFTS:
-                self.cells[int((x - left * north) // GRID), int((y + left * east) // GRID)].append(k)
+                cells[(x - left * north) // GRID, (y + left * east) // GRID].append(k)
 
     @functools.cached_property
     def box(self) -> Tuple[int, int, int, int]:
         """The least and the greatest of the cells."""
         xs, ys = zip(*self.cells)
-        return min(xs), min(ys), max(xs), max(ys)
+        return int(min(xs)), int(min(ys)), int(max(xs)), int(max(ys))
 
-    def crossings(self, lines: Mapping[int, Line], plane: Plane, reach: float) -> List[List[Crossing]]:
+    def crossings(self, lines: Mapping[int, Edge], plane: Plane, reach: float) -> List[List[Crossing]]:
         """The lines that cross each section in its direction, from right to left."""
         found: List[List[Crossing]] = [[] for _ in self.at]
         for number, line in lines.items():
-            points = plane.course(line.points)
-            for a, b in zip(points, points[1:]):
-                near = self.near(a, b)
-                for k, left in self.crossed(near, a, b) if near else ():
-                    if abs(left) <= reach:
-                        found[k].append(Crossing(left, number, line.street))
+            hits = self.hits.get(line.points)
+            for k, left in self.hit(line.points, plane) if hits is None else hits:
+                if abs(left) <= reach:
+                    found[k].append(Crossing(left, number, line.street))
         for it in found:
             it.sort()
         return found
+
+    def hit(self, points: Sequence[Place], plane: Plane) -> List[Hit]:
+        """The sections that a line with these coordinates crosses, which are remembered, also those for the other direction."""
+        places = plane.course(points)
+        forward: List[Hit] = []
+        backward: List[Hit] = []
+        for a, b in zip(places, places[1:]):
+            near = self.near(a, b)
+            if near:
+                self.add_crossed(near, a, b, (forward, backward))
+        self.hits[tuple(points[::-1])] = backward
+        self.hits[tuple(points)] = forward
+        return forward
 
     def near(self, a: Place, b: Place) -> Set[int]:
         """The sections that a segment may cross."""
@@ -192,18 +209,19 @@ class Sections:
                 found.update(self.cells.get((x, y), ()))
         return found
 
-    def crossed(self, near: Iterable[int], a: Place, b: Place) -> Iterator[Tuple[int, float]]:
-        """Those of some sections that a segment crosses along the course, and how far to the left of this."""
+    def add_crossed(self, near: Iterable[int], a: Place, b: Place, found: Tuple[List[Hit], List[Hit]]) -> None:
+        """Adds those of some sections that a segment crosses along the course, or against it, and how far to the left of this."""
         (x, y), (east, north), least = a, (b[0] - a[0], b[1] - a[1]), SLANT * math.dist(a, b)
         for k in near:
             from_x, from_y, along_x, along_y = self.tangents[k]
             along = east * along_x + north * along_y
-            if along < least:
+            if -least < along < least or along == 0:
                 continue
             far, up = x - from_x, y - from_y
             before = far * along_x + up * along_y
-            if before <= 0 < before + along:
-                yield k, up * along_x - far * along_y - before / along * (north * along_x - east * along_y)
+            after = before + along
+            if before <= 0 < after or after <= 0 < before:
+                found[along < 0].append((k, up * along_x - far * along_y - before / along * (north * along_x - east * along_y)))
 
 
 Costs = List[List[float]]
@@ -303,8 +321,6 @@ class Section(NamedTuple):
 
 def without_twins(old: List[Crossing], own: int, new: List[Crossing]) -> Tuple[List[Crossing], int]:
     """The old ones without those that are the same road as the own one, and the index of this."""
-    if len(old) == 1:
-        return old, own
     there = {it.street for it in new}
     if old[own].street in there:
         return old, own
@@ -314,6 +330,8 @@ def without_twins(old: List[Crossing], own: int, new: List[Crossing]) -> Tuple[L
 
 def section(old: List[Crossing], own: int, new: List[Crossing], shift: float) -> Section:
     """What crosses a section, with its costs."""
+    if len(old) == 1:
+        return Section(old, own, new, shift, [pair_cost(old[0], it, shift) for it in new], ALONE)
     old, own = without_twins(old, own, new)
     left, right, count = table(old[:own], new, shift)[-1], table(old[:own:-1], new[::-1], shift)[-1], len(new)
     costs = [left[j] + pair_cost(old[own], it, shift) + right[count - j - 1] for j, it in enumerate(new)]
@@ -380,7 +398,7 @@ class Roads:
     """The decision for one path: `near` are the lines near its given course by number, of a network. Without a last map the road
     was where the course is. `name` is what has the ids."""
 
-    def __init__(self, given: Given, last: Optional[LastMap], near: Mapping[int, Line], network: Network, tolerance: float,
+    def __init__(self, given: Given, last: Optional[LastMap], near: Mapping[int, Edge], network: Network, tolerance: float,
                  name: str = "street") -> None:
         self.given, self.near, self.network, self.tolerance, self.name = given, near, network, tolerance, name
         self.last = last if last and last.own and all(it in last.lines for it in last.own) else None
@@ -512,7 +530,7 @@ def stub(street: str, points: Sequence[Place]) -> Stub:
     return street, round(direction(points[0], points[1]))
 
 
-def stubs(lines: Mapping[int, Line], nodes: Set[int]) -> Dict[int, Set[Stub]]:
+def stubs(lines: Mapping[int, Edge], nodes: Set[int]) -> Dict[int, Set[Stub]]:
     """The roads that meet at nodes."""
     found: Dict[int, Set[Stub]] = defaultdict(set)
     for it in lines.values():

@@ -9,13 +9,12 @@ The number of a line takes the place of a street's id.
 from __future__ import annotations
 
 import functools
-import itertools
 from typing import Dict, Iterable, Iterator, List, Mapping, NamedTuple, Optional, Sequence, Set, Tuple
 
 from .courses import Found, Ground, Network, cells_near, course_of
 from .drawn import courses
 from .geo import Degrees, degrees, distance
-from .receiver import Cell, cells_along
+from .grid import CELL, Cell, Grid, around, cells_of
 from .records import Path, State
 from .roads import WIDER, Answer, Given, LastMap, Roads, Verdict
 
@@ -28,26 +27,24 @@ class Nearby:
     """The lines of a map that pass some cells of a grid."""
 
     def __init__(self, state: State, cells: Set[Cell]):
-        self.state, self.cells = state, cells
-        self.lines: Dict[Cell, List[int]] = {}
+        self.state = state
+        self.grid: Grid[int] = Grid(CELL)
         self.grounds: Dict[int, Ground] = {}
         if cells:
             places = {number: degrees(it) for number, it in state.nodes.items()}
             for number in state.lines:
-                for cell in cells.intersection(self.cells_of(number, places)):
-                    self.lines.setdefault(cell, []).append(number)
+                for cell in cells & cells_of(self.course(number, places), CELL):
+                    self.grid.cells[cell].append(number)
 
-    def cells_of(self, number: int, places: Mapping[int, Degrees]) -> Iterator[Cell]:
-        """The cells that a line passes."""
+    def course(self, number: int, places: Mapping[int, Degrees]) -> List[Degrees]:
+        """The course of a line, of a map with its nodes at these places."""
         start, end, _, _, _, *rest = self.state.lines.text[number].split(",")
         inner = zip(map(float, rest[1::3]), map(float, rest[2::3]))
-        points = [places[int(start)], *inner, places[int(end)]]
-        return itertools.chain.from_iterable(cells_along(a, b) for a, b in zip(points, points[1:]))
+        return [places[int(start)], *inner, places[int(end)]]
 
     def near(self, course: Sequence[Degrees]) -> Dict[int, Ground]:
         """The lines near a course, by number."""
-        numbers = {it for cell in cells_around(course) for it in self.lines.get(cell, ())}
-        return {it: self.ground(it) for it in sorted(numbers)}
+        return {it: self.ground(it) for it in sorted({*self.grid.at(cells_around(course))})}
 
     def ground(self, number: int) -> Ground:
         """A line as a search for a course has it."""
@@ -59,8 +56,7 @@ class Nearby:
 
 def cells_around(course: Sequence[Degrees]) -> Set[Cell]:
     """The cells of a course and those beside them."""
-    cells = {cell for a, b in zip(course, course[1:]) for cell in cells_along(a, b)}
-    return {(x + i, y + j) for x, y in cells for i in (-1, 0, 1) for j in (-1, 0, 1)}
+    return {it for cell in cells_of(course, CELL) for it in around(cell)}
 
 
 def are_connected(state: State, lines: Sequence[int]) -> bool:
@@ -96,8 +92,7 @@ def changed_cells(old: State, new: State) -> Set[Cell]:
         lines = Nearby(state, set())
         for number in state.lines:
             if not is_unchanged(state, other, number):
-                points = lines.ground(number).points
-                found.update(*(cells_along(a, b) for a, b in zip(points, points[1:])))
+                found |= cells_of(lines.ground(number).points, CELL)
     return found
 
 
@@ -141,9 +136,9 @@ class TwoMaps:
         found.near_old, found.near_new = self.near_new, self.near_old
         return found
 
-    def roads(self, path: Path) -> Optional[Roads]:
-        """The decision for a path of the old map, or None if it isn't on connected lines, nothing of it is left, or two points of
-        its course are very far apart, which a wrong coordinate brings about."""
+    def roads(self, path: Path, is_sought: bool = True) -> Optional[Roads]:
+        """The decision for a path of the old map, which may be sought on the new one; None if it isn't on connected lines, nothing of it
+        is left, or two points of its course are very far apart, which a wrong coordinate brings about."""
         if not are_connected(self.old, path.lines):
             return None
         positive, negative, lines = without_cut(self.old, path)
@@ -153,14 +148,14 @@ class TwoMaps:
         course = course_of(own, positive, negative)
         if is_far_off(course):
             return None
-        old, new = ({it: numbered(nearby, it) for cell in cells_near(course, WIDER) for it in nearby.lines.get(cell, ())}
-                    for nearby in (self.near_old, self.near_new))
+        cells = cells_near(course, WIDER)
+        old, new = ({it: numbered(nearby, it) for it in nearby.grid.at(cells)} for nearby in (self.near_old, self.near_new))
         last = LastMap({**old, **dict(zip(lines, own))}, lines, (positive, negative))
-        return Roads(Given(course, not positive, not negative), last, new, Network(new), FAR, "line")
+        return Roads(Given(course, not positive, not negative), last, new, Network(new if is_sought else {}), FAR, "line")
 
     def judged(self, path: Path, now: Path) -> OnRoad:
         """Whether a path of the new map is on the road of one of the old map."""
-        roads = self.roads(path) if are_connected(self.new, now.lines) else None
+        roads = self.roads(path, is_sought=False) if are_connected(self.new, now.lines) else None
         if roads is None:
             return OnRoad(now)
         positive, negative, lines = without_cut(self.new, now)

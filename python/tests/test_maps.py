@@ -184,7 +184,7 @@ class Shapes(unittest.TestCase):
         self.assertAlmostEqual(project(ROADS.lines[1], 6.0005, 49.0001)[0], 0.0001 * METRES, 3)
         self.assertGreater(shape_length(road.points), 111)
         self.assertEqual([it for it, _, _ in ROADS.lines_near(6.0, 49.0, 30.0)], [1, 2])
-        self.assertEqual([it for it, _ in ROADS.nodes_near(6.0, 49.0, 100.0)], [1, 2])
+        self.assertEqual(list(ROADS.points.near((6.0, 49.0), 100.0)), [1, 2])
 
     def test_waves(self) -> None:
         """Points next to each other are off alike, so that distances stay as they are, nearly."""

@@ -1,11 +1,12 @@
 """Sections across a course, every few metres as in `roads`, and where lines pass them."""
 from __future__ import annotations
 
+import itertools
 import math
-from collections import defaultdict
-from typing import Dict, Iterable, List, NamedTuple, Sequence, Tuple
+from typing import Iterator, List, NamedTuple, Sequence, Tuple
 
 from ..courses import Polyline
+from ..grid import Grid
 from ..roads import SLANT, STEP
 
 CELL = 64.0  # metres
@@ -28,22 +29,17 @@ class Across:
         count = max(4, round(course.length / step))
         self.step = course.length / count
         self.at = [(k + 0.5) * self.step for k in range(count)]
-        both = places(course, [k * self.step / 2 for k in range(2 * count + 1)])
+        both = course.every(self.step / 2, 2 * count)
         self.points, self.directions = both[1::2], list(map(unit, both[:-1:2], both[2::2]))
-        self.cells: Dict[Tuple[float, float], List[int]] = defaultdict(list)
-        for k, (x, y) in enumerate(self.points):
-            self.cells[x // CELL, y // CELL].append(k)
+        self.grid: Grid[int] = Grid(CELL)
+        for k, it in enumerate(self.points):
+            self.grid.add(it, k)
 
-    def near(self, a: Place, b: Place, reach: float) -> Iterable[int]:
+    def near(self, a: Place, b: Place, reach: float) -> Iterator[int]:
         """The sections that a segment may pass."""
         low, right = sorted((a[0], b[0]))
         bottom, top = sorted((a[1], b[1]))
-        columns = range(int((low - reach) // CELL), int((right + reach) // CELL) + 1)
-        rows = range(int((bottom - reach) // CELL), int((top + reach) // CELL) + 1)
-        if len(columns) * len(rows) > len(self.cells):
-            return range(len(self.at))
-        cells = self.cells
-        return [k for x in columns for y in rows for k in cells.get((x, y), ())]
+        return itertools.chain.from_iterable(self.grid.within(low - reach, bottom - reach, right + reach, top + reach))
 
     def passes(self, line: Polyline, reach: float) -> List[Pass]:
         """Where a line passes the sections within a distance."""
@@ -70,22 +66,6 @@ def unit(a: Place, b: Place) -> Place:
     """The direction from one point to another."""
     far = math.dist(a, b) or 1.0
     return (b[0] - a[0]) / far, (b[1] - a[1]) / far
-
-
-def places(course: Polyline, positions: Iterable[float]) -> List[Place]:
-    """The points at positions in ascending order, as `Polyline.at` has them."""
-    found, k, far, last = [], 0, course.far, len(course.far) - 1
-    begin = end = x = y = east = north = 0.0
-    for it in positions:
-        if it > end or not k:
-            while k < last and (far[k] < it or not k):
-                k += 1
-            begin, end, (x, y), (to_x, to_y) = far[k - 1], far[k], course.points[k - 1], course.points[k]
-            east, north = ((to_x - x) / (end - begin), (to_y - y) / (end - begin)) if end > begin else (0.0, 0.0)
-            end = end if k < last else math.inf
-        metres = min(it, far[k]) - begin
-        found.append((x + metres * east, y + metres * north))
-    return found
 
 
 def chain(passes: Sequence[Pass], most: float, step: float) -> List[Pass]:

@@ -9,18 +9,17 @@ import json
 import os
 import random
 from collections import Counter, defaultdict
-from typing import Callable, Dict, Iterable, Iterator, List, Mapping, NamedTuple, Optional, Sequence, Set, Tuple
+from typing import Callable, Dict, Iterable, Iterator, List, Mapping, NamedTuple, Optional, Sequence, Tuple
 
 from ..courses import Plane, Polyline
 from ..drawn import Course, Junctions, courses
 from ..fields import as_json, location
-from ..files import FileFailure, beside
+from ..files import new_folder
 from ..geo import Degrees, degrees, distance
 from ..records import Path, State
 from ..roads import BESIDE, REACH, STEP, TWIN
 from ..strings import STEP as STEP_METRES
 from ..strings import Reference, read_reference
-from ..swap.publish import refuse_existing
 from ..twomaps import Nearby, cells_around
 from .across import Across
 from .ours import ABOUT, STRINGS, Beside, Mark, Ours, lines_of
@@ -262,17 +261,12 @@ def about(records: str, state: State, count: int) -> str:
 
 def write_round(folder: str, found: Sequence[Ours], text: str) -> None:
     """Makes the folder with all its files, or nothing."""
-    try:
-        with beside(folder.rstrip("/")) as part:
-            for it in ("", "/partner", "/ours"):
-                os.mkdir(part + it)
-            fields = as_json({"name": it.name, "string": it.string, **it.fields} for it in found)
-            files = {"partner/strings.csv": [strings_csv(found)], "partner/fields.json": fields, "partner/README.txt": [FOR_PARTNER],
-                     ABOUT: [text], STRINGS: lines_of(found)}
-            for name, texts in files.items():
-                with open(f"{part}/{name}", "w", encoding="utf-8") as file:
-                    file.writelines(texts)
-            refuse_existing(folder)
-            os.rename(part, folder)
-    except OSError as error:
-        raise FileFailure(f"{folder}: {error.strerror}") from None
+    with new_folder(folder) as part:
+        for it in ("partner", "ours"):
+            os.mkdir(f"{part}/{it}")
+        fields = as_json({"name": it.name, "string": it.string, **it.fields} for it in found)
+        files = {"partner/strings.csv": [strings_csv(found)], "partner/fields.json": fields, "partner/README.txt": [FOR_PARTNER],
+                 ABOUT: [text], STRINGS: lines_of(found)}
+        for name, texts in files.items():
+            with open(f"{part}/{name}", "w", encoding="utf-8") as file:
+                file.writelines(texts)

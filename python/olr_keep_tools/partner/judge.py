@@ -13,7 +13,7 @@ import bisect
 import enum
 import functools
 from collections import Counter
-from typing import Any, Callable, Dict, Iterator, List, Mapping, NamedTuple, Optional, Sequence, Tuple, TypeVar
+from typing import Any, Callable, Iterator, List, Mapping, NamedTuple, Optional, Sequence, Tuple, TypeVar
 
 from ..courses import Plane, Polyline
 from ..forked import in_order

@@ -7,6 +7,7 @@ from collections import defaultdict
 from typing import Dict, Iterable, Iterator, List, NamedTuple, Tuple
 
 from ..geo import METRES, Degrees, scale
+from ..grid import Cell, around
 
 CELLS = 250.0, 1000.0, 4000.0, 64000.0  # metres of the cells in which shifts are alike: larger ones where there are few courses
 COURSES = 5  # that have to be in a place
@@ -30,9 +31,9 @@ class Shifts:
     """The shift at each place, in metres east and north."""
 
     def __init__(self) -> None:
-        self.left: List[Dict[Tuple[int, int], List[List[float]]]] = [{} for _ in CELLS]
-        self.courses: List[Dict[Tuple[int, int], int]] = [defaultdict(int) for _ in CELLS]
-        self.found: Dict[Tuple[int, int], Vector] = {}
+        self.left: List[Dict[Cell, List[List[float]]]] = [{} for _ in CELLS]
+        self.courses: List[Dict[Cell, int]] = [defaultdict(int) for _ in CELLS]
+        self.found: Dict[Cell, Vector] = {}
 
     def add(self, seen: Iterable[Seen]) -> None:
         """Adds what was seen along one course."""
@@ -67,13 +68,12 @@ class Shifts:
     def of(self, place: Degrees) -> Vector:
         """The shift around a place, from the smallest cells that have enough courses; none if there are too few."""
         for level, size in enumerate(CELLS):
-            x, y = cell_of(place, size)
-            around = [(x + i, y + j) for i in (-1, 0, 1) for j in (-1, 0, 1)]
-            if sum(self.courses[level].get(it, 0) for it in around) >= COURSES:
-                return solved(self.medians(level, around))
+            cells = around(cell_of(place, size))
+            if sum(self.courses[level].get(it, 0) for it in cells) >= COURSES:
+                return solved(self.medians(level, cells))
         return 0.0, 0.0
 
-    def medians(self, level: int, cells: List[Tuple[int, int]]) -> Iterator[Tuple[Vector, float, float]]:
+    def medians(self, level: int, cells: List[Cell]) -> Iterator[Tuple[Vector, float, float]]:
         """For each direction its vector, the median in these cells, and how much it counts."""
         for sector in range(SECTORS):
             left = [it for cell in cells if cell in self.left[level] for it in self.left[level][cell][sector]]
@@ -82,8 +82,8 @@ class Shifts:
                 yield (math.cos(angle), math.sin(angle)), statistics.median(left), float(min(len(left), 50))
 
 
-def cell_of(place: Degrees, size: float) -> Tuple[int, int]:
-    """The cell of a place."""
+def cell_of(place: Degrees, size: float) -> Cell:
+    """The cell of a place, of so many metres."""
     row = int(place[1] * METRES // size)
     return int(place[0] * scale(row * size / METRES) // size), row
 
