@@ -130,7 +130,7 @@ comment on table olr_keep.release is 'Who released which hold, and when.';
 -- ---- what live writes
 
 create table if not exists olr_keep.counter (kind text primary key, last bigint not null);
-comment on table olr_keep.counter is 'The last number of a node, of a line, of a round and of a hold.';
+comment on table olr_keep.counter is 'The last number of a node, of a line, of a round and of a hold; beside: in rounds beside a bulk.';
 
 create or replace function olr_keep.lon(place bigint) returns float8 language sql immutable parallel safe
     return ((place >> 31) - 1800000000) / 1e7;

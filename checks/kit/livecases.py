@@ -548,6 +548,8 @@ def left_for_later(server):
         case.expect("select count(*) from olr_keep.waiting", 0, "what is mended still waits")
         if {name: it for name, it in case.texts().items() if name < "p7"} != {name: it for name, it in texts.items() if name < "p7"}:
             fail("left_for_later: after an undo the strings are others")
+        if case.ask("select count(*) from olr_keep.history where name < 'p7' and reason is not null") != [(0,)]:
+            fail("left_for_later: a path that is held, and will be sought later, is published without a string")
         names = case.ask("""select count(distinct round) from olr_keep.history
             where state = 'as given' and name < 'p7' and round > (select min(round) from olr_keep.history where state = 'held')""")
         if names[0][0] < 3:
@@ -566,6 +568,86 @@ def left_for_later(server):
         if rounds != [(1051,), (2,)]:
             fail(f"left_for_later: the last rounds have {rounds} streets, and small saves far from a bulk are not before it")
     print("live: many lost paths are sought in parts, and small saves go before a bulk that is elsewhere")
+
+
+MANY_STREETS = ("insert into streets (id, class, form, direction, geom) select k, 6, 3, 'both', ST_SetSRID(ST_MakeLine("
+                "ST_Point(7 + k * 0.0004, 49.6), ST_Point(7 + k * 0.0004, 49.602)), 4326) from generate_series(1, 4500) as k")
+
+
+class Slow(Case):
+    """A database whose programs begin when a file is gone."""
+
+    def __init__(self, server, name, *options):
+        self.file, self.program = f"{server.folder}/{name}.slow", f"{server.folder}/{name}.program"
+        with open(self.program, "w", encoding="utf-8") as file:
+            file.write(f"#!/bin/sh\nwhile [ -e {self.file} ]; do echo > {self.file}; sleep 0.05; done\nexec {PROGRAM} \"$@\"\n")
+        os.chmod(self.program, 0o755)
+        super().__init__(server, name, *options)
+
+    @contextlib.contextmanager
+    def bulk(self, *statements):
+        """A bulk that is computed meanwhile: the program that is loaded for it doesn't begin."""
+        with open(self.file, "w", encoding="utf-8"):
+            pass
+        try:
+            self.do(*statements)
+            self.expect_of(lambda: os.path.getsize(self.file), 1, "no program is loaded for a bulk")
+            yield
+        finally:
+            os.unlink(self.file)
+
+
+SHIFT = "geom = ST_Translate(geom, 0, 2e-5)"
+
+
+def beside(server):
+    """While a bulk is computed, small saves elsewhere are rounds of their own; what is near it, or changes a path over its streets, waits.
+    A process that ends meanwhile, or is replaced, leads to the same end."""
+    with Slow(server, "beside", "--stopped", "30") as case:
+        # A way from the streets of the bulk to others.
+        ways = [line((6.1, 49.602), (6.1, 49.61), (6.28, 49.61)), *(line((6.28 + k * 0.004, 49.61), (6.284 + k * 0.004, 49.61)) for k in (0, 1))]
+        case.save(*comb(14), *comb(5, FAR), ROW + ", ".join(f"({800001 + k}, 3, 3, 'both', {it})" for k, it in enumerate(ways)),
+                  "insert into olr_keep.path (name, streets) values ('long', '{6100000,800001,800002,800003}')")
+        with case.bulk(MANY_STREETS, "update streets set class = 6 where id between 6100000 and 6100999"):
+            case.do("update streets set class = 5 where id = 6200000")
+            case.do(f"update streets set {SHIFT} where id = 6200001", "delete from streets where id = 6200004")
+            case.do("update streets set class = 5 where id = 6100003")
+            case.do(f"update streets set {SHIFT} where id = 800002")
+            case.expect("select class from olr_keep.street where street = '6200000'", 5, "a small save waits for a bulk")
+            case.expect("select count(*) from olr_keep.street where street = '6200004'", 0, "one of two small saves waits for a bulk")
+            case.do("update streets set class = 4 where id = 6200002")
+            case.expect("select class from olr_keep.street where street = '6200002'", 4, "the next one waits for a bulk")
+            case.do("update streets set class = 4 where id = 800003")
+            time.sleep(2)
+            if case.ask("select count(*) from olr_keep.street where street in ('1', '6100000') and class = 6"
+                        " or street in ('6100003', '800003') and class <> 3") != [(0,)]:
+                fail("beside: a bulk, or what is near it, is there before it is computed")
+        case.settle()
+        rounds = case.ask("select '1' = any(streets), cardinality(streets) from olr_keep.round where round > 1 order by round")
+        if rounds[-2:] != [(True, 4514), (False, 3)] or sum(count for _, count in rounds[:-2]) != 4 or not case.verify():
+            fail(f"beside: the rounds are {rounds}")
+        for way in (signal.SIGKILL, signal.SIGSTOP):
+            replaced_beside(case, way)
+    print("live: small saves beside a bulk that is computed don't wait for it; a process that ends meanwhile leads to the same end")
+
+
+def replaced_beside(case, way):
+    """A process is killed or stopped after rounds beside a bulk, and another one takes its place."""
+    with case.bulk("update streets set class = 7 - class where id < 6200000"):
+        case.do(f"update streets set {SHIFT} where id = 6200001")
+        case.do("update streets set class = 7 - class where id = 6200003")
+        case.expect("select count(*) from olr_keep.note where source > 0", 4517, "small saves wait for a bulk")
+        first = case.processes.pop(0)
+        first.send_signal(way)
+        case.start("--stopped", "3")
+    case.settle()
+    first.send_signal(signal.SIGCONT)
+    case.save("update streets set class = 7 - class where id = 6200003")
+    time.sleep(1)
+    first.kill()
+    first.wait()
+    if not case.verify():
+        fail("beside: notes are left")
 
 
 IN_ROUND = """select count(*) from pg_stat_activity where application_name = 'olr-keep live' and datname = current_database()
@@ -1346,7 +1428,7 @@ def prepared(server):
 
 
 CASES = (rights, parts, stopped, open_editor, locked_paths, service_road, drift, two_roads, ties, one_save, held_cluster, limits,
-         during_attempt, frozen, delayed, nation, accepted, identity, left_for_later, margin, draft, ambiguous, bad_paths, expressions, named, tables, numbers, upgrade, released, forwarded, listens)
+         during_attempt, frozen, delayed, nation, accepted, identity, left_for_later, beside, margin, draft, ambiguous, bad_paths, expressions, named, tables, numbers, upgrade, released, forwarded, listens)
 
 
 def run_cases(server, times, names):

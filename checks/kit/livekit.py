@@ -103,6 +103,8 @@ def fail(text):
 class Work:
     """A database, processes of tools/live on it, and a consumer."""
 
+    program = PROGRAM
+
     def __init__(self, server, database):
         self.server, self.database = server, database
         self.log, self.processes, self.consumed, self.last, self.rounds = open(f"{server.folder}/live.log", "ab"), [], {}, 0, 0
@@ -129,7 +131,7 @@ class Work:
         options = ["--stopped", str(PATIENCE), "--quiet-ms", "0", "--elsewhere-after", "0", *arguments]
         url = self.server.url(self.database)
         url = f"{url.partition(' user=')[0]} user={user}" if user else url
-        command = [sys.executable, f"{TOP}/tools/live", *options, url, PROGRAM]
+        command = [sys.executable, f"{TOP}/tools/live", *options, url, self.program]
         self.processes.append(subprocess.Popen(command, stderr=self.log, stdout=self.log, env=environment))
 
     def said(self):
@@ -307,13 +309,17 @@ def short(lines):
 
 
 def verify_paths(cursor):
-    """Fails if a path has no lines though its streets are there in order, about as long as they were."""
+    """Fails if a path has no lines though its streets are there in order, and none of them leads far away by a wrong coordinate."""
+    cursor.execute("select distinct street from olr_keep.line where length > 50000")
+    wrong = {it for (it,) in cursor.fetchall()}
     cursor.execute("select street, along, from_node, to_node from olr_keep.line")
     edges = collections.defaultdict(set)
     for street, along, a, b in cursor.fetchall():
         edges[(">" if along else "<") + street].add((a, b))
     cursor.execute("select name, streets from olr_keep.string where lost and cardinality(streets) > 0")
     for name, streets in cursor.fetchall():
+        if wrong.intersection(it[1:] for it in streets):
+            continue
         reached = {b for _, b in edges[streets[0]]} | {a for a, _ in edges[streets[0]]}
         for street in streets:
             more, steps = set(), {b for a, b in edges[street] if a in reached}

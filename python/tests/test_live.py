@@ -14,25 +14,28 @@ import unittest.mock
 from collections import Counter
 from typing import Any, Dict, Iterator, List, Mapping, Optional, Sequence, Set, Tuple
 
-from olr_keep_tools.courses import (CELL, DRAWN, Ends, Follower, Found, Ground, Lost, Network, Polyline, Strip, Wish, cells_along,
-                                    cells_near, follow)
+from olr_keep_tools.courses import (DRAWN, Ends, Follower, Found, Ground, Lost, Network, Polyline, Strip, Wish, cells_near,
+                                    follow)
+from olr_keep_tools.grid import CELL
 from olr_keep_tools.forked import Forked, in_order
 from olr_keep_tools.live.ambiguous import Obstacle, named_places, obstacles, write_ambiguities
+from olr_keep_tools.live.attempt import Attempt
 from olr_keep_tools.live.draft import Was, verdict
 from olr_keep_tools.live.first import FirstLoad, line_rows, node_rows
 from olr_keep_tools.live.cells import cell_of, merged
 from olr_keep_tools.live.map import LAST, Affected, Numbers
 from olr_keep_tools.live.paths import PartSearch, Paths, PathsUpdate, parts_of
 from olr_keep_tools.live.program import LiveProgram, Sent
-from olr_keep_tools.live.read import Block, Change, Fate, LastRead, Reader, StreetRow, changed, fate_of, is_nameless, is_plain
-from olr_keep_tools.live.returned import has_stayed, returned
+from olr_keep_tools.live.read import (Block, Change, Fate, LastRead, Reader, StreetRow, away, changed, fate_of, is_nameless, is_plain,
+                                      near_to)
+from olr_keep_tools.live.returned import cut_otherwise, has_stayed, returned
 from olr_keep_tools.live.rounds import DROPPED, Answer, Clusters, Counts, Effect, Kind, Limits, Round, Waiting
-from olr_keep_tools.live.service import Attempt, Live, Night, words_of
+from olr_keep_tools.live.service import Live, Night, words_of
 from olr_keep_tools.live.session import Readable, Source, SourceTable, row_query
-from olr_keep_tools.pathlines import (Finder, Known, PathSearch, Row, State, Wanted, Ways, boxes_of,
+from olr_keep_tools.pathlines import (Finder, Known, PathSearch, PathState, Row, Wanted, Ways, boxes_of,
                                       consecutive, marked_street)
 from olr_keep_tools.program import ProgramFailed
-from olr_keep_tools.roads import LastMap, Sections, nearby, restored, stored
+from olr_keep_tools.roads import Hit, LastMap, Sections, nearby, restored, stored
 from olr_keep_tools.sql import copy_line, places_hex, psycopg2, text_array
 from olr_keep_tools.streets import (LONGEST, SHORT, Old, Recut, Street, Unfit, are_between, distances, first_place, is_short,
                                     place_of, street_of, stretches_of, subdivided, wkb_hex)
@@ -231,14 +234,23 @@ class Reading(unittest.TestCase):
         """Of transactions with few streets those that are nowhere near one with very many."""
         notes = [("great", 5000, False), ("far", 3, False), ("near", 3, False), ("medium", 500, False)]
         places = [("great", 5, 5), ("far", 7, 5), ("near", 6, 6), ("near", 9, 9)]
-        rows: Dict[str, Sequence[Any]] = {"group by tx": notes, "with noted": places}
+        rows: Dict[str, Sequence[Any]] = {"group by tx": notes, "distinct key, tx": [(it, it) for it, *_ in notes], "olr_keep.vertex": places}
         reader = Reader(FakeCursor(rows), [SourceTable(SOURCE, Readable.READY)], set())
         self.assertEqual(reader.small_ones(), {"far"})
         reader.is_last_split = True
-        self.assertEqual(reader.small_ones(), set())
+        self.assertEqual(reader.small_ones(), {"great", "near", "medium"})
         for other in ([("great", 5000, True), *notes[1:]], notes[:1], notes[1:]):
             reader = Reader(FakeCursor({**rows, "group by tx": other}), [SourceTable(SOURCE, Readable.READY)], set())
             self.assertEqual(reader.small_ones(), set())
+
+    def test_what_small_ones_are_away_from(self) -> None:
+        """The cells near all transactions are known if one is great."""
+        rows: Dict[str, Sequence[Any]] = {"group by tx": [("great", 5000, False), ("far", 3, False)], "distinct key, tx": [("1", "great"), ("2", "far")],
+                                          "olr_keep.vertex": [("1", 5, 5)], "ST_DumpPoints": [("2", 9, 5)]}
+        reader = Reader(FakeCursor(rows), [SourceTable(SOURCE, Readable.READY)], set())
+        reader.small_ones()
+        self.assertEqual((reader.transactions, len(reader.near or ()), reader.is_split), ({"great"}, 9, True))
+        self.assertEqual(away({"a", "b", "c"}, {"a": {(5, 5)}, "b": {(5, 7)}}, near_to({"x"}, {"x": {(5, 5)}})), {"b"})
 
     def test_merged(self) -> None:
         boxes = merged([(6.1001, 49.6001, 6.1002, 49.6002), (6.1, 49.6, 6.1049, 49.6001), (6.1049, 49.6, 6.1051, 49.6001)])
@@ -332,9 +344,9 @@ class Attempts(unittest.TestCase):
 
     def attempt(self, program: Any) -> Attempt:
         """An attempt without a database."""
-        live: Any = argparse.Namespace(cursor=FakeCursor(), settings=argparse.Namespace(is_preview=False, tolerance=20.0), stale=set(),
-                                       program=program, loaded=lambda: {"a": "loaded"}, is_split=False)
-        work: Any = argparse.Namespace(tables=[])
+        live: Any = argparse.Namespace(settings=argparse.Namespace(is_preview=False, tolerance=20.0), stale=set(), program=program, fresh={},
+                                       loaded=lambda: {"a": "loaded"}, is_split=False, look_aside=lambda: None)
+        work: Any = argparse.Namespace(tables=[], cursor=FakeCursor())
         return Attempt(live, work, False)
 
     def test_answers(self) -> None:
@@ -353,8 +365,8 @@ class Attempts(unittest.TestCase):
             attempt.numbers, change = Numbers(FakeCursor({"select kind, last": [("node", 0), ("line", 0)]})), Change()
             attempt.reader = argparse.Namespace(blocks=functools.partial(iter, [Block(rows, set(), plain)]))
             change.keys = {1: {str(k) for k in range(5000)}}
-            with unittest.mock.patch("olr_keep_tools.live.service.write_all_open_ends") as ends, \
-                    unittest.mock.patch("olr_keep_tools.live.service.MapUpdate.run", lambda _: []):
+            with unittest.mock.patch("olr_keep_tools.live.attempt.write_all_open_ends") as ends, \
+                    unittest.mock.patch("olr_keep_tools.live.attempt.MapUpdate.run", lambda _: []):
                 attempt.apply_map(change)
             self.assertEqual(ends.call_count, wanted)
 
@@ -364,7 +376,7 @@ class Attempts(unittest.TestCase):
         said: List[str] = []
         attempt.live.write_metrics = written.append
         attempt.said = time.monotonic() - 11
-        with unittest.mock.patch("olr_keep_tools.live.service.say", said.append):
+        with unittest.mock.patch("olr_keep_tools.live.attempt.say", said.append):
             attempt.tell(5, 10)
             attempt.tell(6, 10)
             attempt.said -= 11
@@ -441,7 +453,15 @@ class Writing(unittest.TestCase):
         self.assertEqual(numbers.take("node", 3), [6, 7, 8])
         self.assertEqual(numbers.take("line", 2), [3, 4])
         numbers.write()
-        self.assertEqual(sum("update olr_keep.counter" in it for it in cursor.queries), 2)
+        self.assertEqual(sum("insert into olr_keep.counter" in it for it in cursor.queries), 2)
+
+    def test_numbers_beside(self) -> None:
+        """Rounds beside another one take its numbers, and note them in rows of their own, which the next one reads."""
+        numbers = Numbers(FakeCursor({"select kind, last": [("node", 5), ("round", 3), ("round beside", 9)]}))
+        other = numbers.beside(cursor := FakeCursor())
+        self.assertEqual((other.take("round", 1), numbers.take("round", 1), other.take("node", 2)), ([10], [11], [6, 7]))
+        other.write()
+        self.assertEqual((len(cursor.queries), numbers.last), (2, {"node": 7, "round": 11}))
 
 
 # ---- paths
@@ -499,13 +519,6 @@ class Courses(unittest.TestCase):
 class Grids(unittest.TestCase):
     """What is near, by cells."""
 
-    def test_cells_along_have_each_point(self) -> None:
-        for a, b in (((0.1, 0.1), (0.9, 0.2)), ((-3.2, 1.1), (4.4, -2.7)), ((0.5, 0.5), (0.5, 7.5))):
-            cells = set(cells_along(a, b, 1.0))
-            for k in range(101):
-                at = [x + (y - x) * k / 100 for x, y in zip(a, b)]
-                self.assertIn(tuple(int(it // 1) for it in at), cells)
-
     def test_strip_has_all_segments_within_a_distance(self) -> None:
         strip = Strip([(0.0, 0.0), (90.0, 30.0), (130.0, -280.0), (-170.0, -110.0), (0.0, 10.0)], 50.0)
         for x in range(-200, 200, 9):
@@ -516,14 +529,14 @@ class Grids(unittest.TestCase):
 
     def test_strip(self) -> None:
         strip = Strip([(0.0, 0.0), (100.0, 0.0), (100.0, 300.0)], 50.0)
-        self.assertEqual(list(strip.segments_near((30.0, 40.0))), [0])
-        self.assertEqual(list(strip.segments_near((90.0, 10.0))), [0, 1])
-        self.assertEqual(list(strip.segments_near((500.0, 500.0))), [])
+        self.assertEqual(list(strip.segments_near((30.0, 40.0), 50.0)), [0])
+        self.assertEqual(list(strip.segments_near((90.0, 10.0), 50.0)), [0, 1])
+        self.assertEqual(list(strip.segments_near((500.0, 500.0), 50.0)), [])
 
     def test_long_lines_are_near(self) -> None:
         network = Network({1: ground(1, 2, "a", degrees(0), degrees(3000, 2500))})
         self.assertEqual(network.near(degrees(1500, 1250), 1e-4, 1e-4), [1])
-        self.assertEqual(network.near(degrees(2500, 0), 1e-4, 1e-4), [])
+        self.assertEqual(network.near(degrees(3500, 0), 1e-4, 1e-4), [])
 
     def test_network_near(self) -> None:
         network = Network({1: ground(1, 2, "a", degrees(0), degrees(100)), 2: ground(3, 4, "b", degrees(0, 40), degrees(100, 40))})
@@ -557,14 +570,23 @@ class Across(unittest.TestCase):
             self.assertLess(math.dist(it, course.at(k * course.length / 37)), 1e-9)
         self.assertEqual(Polyline([(1.0, 2.0), (1.0, 2.0)]).every(0.0, 2), 3 * [(1.0, 2.0)])
 
+    def crossed(self, across: Sections, a: Tuple[float, float], b: Tuple[float, float]) -> Tuple[Dict[int, float], Dict[int, float]]:
+        """The sections that a segment crosses, along the course and against it."""
+        found: Tuple[List[Hit], List[Hit]] = ([], [])
+        across.add_crossed(range(len(across.at)), a, b, found)
+        return dict(found[0]), dict(found[1])
+
     def test_crossings_are_those_of_all_sections(self) -> None:
         across, rnd, count = Sections(Polyline(list(self.COURSE))), random.Random(1), 0
         for _ in range(3000):
             far, angle = rnd.choice((1, 20, 70, 300)), rnd.uniform(0, math.tau)
             a = rnd.uniform(-150, 300), rnd.uniform(-150, 400)
             b = a[0] + far * math.cos(angle), a[1] + far * math.sin(angle)
-            near, crossed = across.near(a, b), dict(across.crossed(range(len(across.at)), a, b))
+            near, crossed, against = across.near(a, b), *self.crossed(across, a, b)
+            for it, other in zip((crossed, against), self.crossed(across, b, a)[::-1]):
+                self.assertEqual({k: round(left, 6) for k, left in it.items()}, {k: round(left, 6) for k, left in other.items()})
             count += len(crossed)
+            self.assertFalse(crossed.keys() & against.keys())
             self.assertLessEqual({k for k, left in crossed.items() if abs(left) <= 60}, near)
             for k, left in crossed.items():
                 x, y, east, north = across.tangents[k]
@@ -578,10 +600,10 @@ class Across(unittest.TestCase):
                  7: ground(8, 9, "c", degrees(0, 20), degrees(100, 20)), 8: ground(9, 8, "c", degrees(100, 20), degrees(0, 20)),
                  9: ground(6, 7, "d", degrees(0, 70), degrees(100, 70))}
         last = nearby(LastMap(lines, [4], (2, 3)), there)
-        self.assertEqual(last, LastMap({it: lines[it] for it in (4, 5, 6, 7)}, [4], (2, 3)))
+        self.assertEqual(last, LastMap({it: lines[it] for it in (4, 5, 6, 7, 8)}, [4], (2, 3)))
         again = restored(json.loads(stored(last)))
         self.assertEqual((again.own, again.cuts), ([4], (2, 3)))
-        self.assertEqual(again.lines, {number: it._replace(kind=()) for number, it in lines.items() if number < 8})
+        self.assertEqual(again.lines, {number: it._replace(kind=()) for number, it in lines.items() if number < 9})
         self.assertEqual(stored(last).count(str(degrees(50, 3)[1])), 1)
 
     def test_blocked(self) -> None:
@@ -593,7 +615,7 @@ class Across(unittest.TestCase):
 
 def known(**changes: Any) -> Known:
     """A path that was found on line 1 of street a."""
-    whole = Known([1], [">a"], 0, 0, (1, 2), (degrees(0), degrees(100)), "d", State.SAID, (degrees(0), degrees(100)),
+    whole = Known([1], [">a"], 0, 0, (1, 2), (degrees(0), degrees(100)), "d", PathState.SAID, (degrees(0), degrees(100)),
                   Ends(True, True), [">a"], LastMap({9: ground(1, 2, "a", degrees(0), degrees(100))}, [9]), 0.0)
     return whole._replace(**changes)
 
@@ -645,50 +667,50 @@ class Searches(unittest.TestCase):
 
     def test_untouched(self) -> None:
         found = PathSearch(FakeFinder(row(1, "a", 0.4)), self.COURSE, known(), None, True).run()
-        self.assertEqual((found.state, round(found.off or 0, 1)), (State.SAID, 0.4))
+        self.assertEqual((found.state, round(found.off or 0, 1)), (PathState.SAID, 0.4))
 
     def test_has_stayed(self) -> None:
         for there, stays in ((row(1, "a", 0.4), True), (row(1, "a", 0.6), False), (row(1, "b"), False), (row(2, "a"), False)):
             self.assertIs(has_stayed(FakeFinder(there), known()), stays)
-        self.assertFalse(has_stayed(FakeFinder(row(1, "a")), known(state=State.ELSEWHERE)))
+        self.assertFalse(has_stayed(FakeFinder(row(1, "a")), known(state=PathState.ELSEWHERE)))
 
     def test_other_road_is_elsewhere(self) -> None:
         for wanted in (self.COURSE, self.STREETS):
             for frc in "36":
                 there = row(2, "b", 12, frc)
                 found = self.search(wanted, known(), there, before=(row(1, "a"), there))
-                self.assertEqual((found.state, found.found.lines, found.last.own), (State.ELSEWHERE, [2], [1]))
+                self.assertEqual((found.state, found.found.lines, found.last.own), (PathState.ELSEWHERE, [2], [1]))
 
     def test_back(self) -> None:
-        was = known(lines=[2], streets=[">b"], state=State.ELSEWHERE, course=(degrees(0, 12), degrees(100, 12)))
+        was = known(lines=[2], streets=[">b"], state=PathState.ELSEWHERE, course=(degrees(0, 12), degrees(100, 12)))
         for wanted in (self.COURSE, self.STREETS):
             found = self.search(wanted, was, row(2, "b", 12), row(3, "a"))
-            self.assertEqual((found.state, found.found.lines), (State.SAID, [3]))
+            self.assertEqual((found.state, found.found.lines), (PathState.SAID, [3]))
 
     def test_new_street_is_the_same_road(self) -> None:
         there = row(3, "b", 12, "6")
         found = self.search(self.COURSE, known(), row(2, "n", 4), there, before=(row(1, "a"), there))
-        self.assertEqual((found.state, found.found.lines), (State.SAID, [2]))
+        self.assertEqual((found.state, found.found.lines), (PathState.SAID, [2]))
 
     def test_drift(self) -> None:
         found = self.search(self.COURSE, known(), row(1, "a", 15))
-        self.assertEqual((found.state, round(found.off)), (State.SAID, 15))
-        self.assertIs(self.search(self.COURSE, known(), row(1, "a", 25)).state, State.ELSEWHERE)
+        self.assertEqual((found.state, round(found.off)), (PathState.SAID, 15))
+        self.assertIs(self.search(self.COURSE, known(), row(1, "a", 25)).state, PathState.ELSEWHERE)
 
     def test_lost_places(self) -> None:
         found = self.search(self.COURSE, None)
-        self.assertEqual((found.state, found.lost_at), (State.LOST, (degrees(0),)))
+        self.assertEqual((found.state, found.lost_at), (PathState.LOST, (degrees(0),)))
         self.assertEqual(len(places_hex(found.lost_at) or ""), 2 * (13 + 21))
 
     def test_faults(self) -> None:
         for wanted in (self.STREETS._replace(streets=NULL_STREET), self.STREETS._replace(streets=[""]),
                        self.COURSE._replace(course=((6.1, 49.6), (float("nan"), 1.0))),
                        self.COURSE._replace(course=((6.1, 49.6), (100.0, 60.0)))):
-            self.assertIs(self.search(wanted, None).state, State.LOST)
+            self.assertIs(self.search(wanted, None).state, PathState.LOST)
             self.assertIsNotNone(wanted.fault())
         self.assertIsNone(self.COURSE.fault())
 
-    def returned(self, *rows: Row, state: State = State.LOST, start: int = 0, end: int = 0) -> Optional[Found]:
+    def returned(self, *rows: Row, state: PathState = PathState.LOST, start: int = 0, end: int = 0) -> Optional[Found]:
         """The lines of a path of three that was on streets a and b, with lines of 100 m, and is found again on these lines."""
         finder = FakeFinder(*rows)
         was = {k: ground(k, k + 1, it, degrees(100 * k), degrees(100 * k + 100)) for k, it in enumerate("aba")}
@@ -702,8 +724,8 @@ class Searches(unittest.TestCase):
         a, b, c = (row(7 + k, street)._replace(start=k, end=k + 1, points=(degrees(100 * k), degrees(100 * k + 100)))
                    for k, street in enumerate("aba"))
         self.assertEqual(self.returned(a, b, c), Found([7, 8, 9], 0, 0))
-        self.assertEqual(self.returned(c, a, b, state=State.ELSEWHERE, start=300, end=250), Found([7, 8, 9], 300, 250))
-        self.assertIsNone(self.returned(a, b, c, state=State.SAID))
+        self.assertEqual(self.returned(c, a, b, state=PathState.ELSEWHERE, start=300, end=250), Found([7, 8, 9], 300, 250))
+        self.assertIsNone(self.returned(a, b, c, state=PathState.SAID))
         self.assertIsNone(self.returned(a, b))
         self.assertIsNone(self.returned(a, b._replace(street="d"), c))
         self.assertIsNone(self.returned(a, b, c._replace(start=5)))
@@ -711,14 +733,34 @@ class Searches(unittest.TestCase):
         back = c._replace(number=10, end=2, length=1500, points=(degrees(200), degrees(50)))
         self.assertEqual(self.returned(a, b, back, c, end=250), Found([7, 8, 9], 0, 250))
 
+    def test_cut_otherwise(self) -> None:
+        """Lines that are cut at other places, and nothing else, need no search."""
+        places = [degrees(0), degrees(30), degrees(60), degrees(100), degrees(130), degrees(200)]
+
+        def cut(number: int, street: str, *at: int) -> Row:
+            return row(number, street)._replace(start=at[0], end=at[-1], points=tuple(places[k] for k in at), length=1000)
+
+        was = known(lines=[1, 2], streets=[">a", ">b"], course=tuple(places), given=tuple(places))
+        split = cut(1, "a", 0, 1), cut(5, "a", 1, 2, 3), cut(6, "b", 3, 4, 5)
+        cases: List[Tuple[Sequence[Row], Known, Optional[List[int]]]] = [
+            (split, was, [1, 5, 6]), (split[:2], was, None), (split, was._replace(state=PathState.ELSEWHERE), None),
+            ((*split[:2], split[2]._replace(street="c")), was, None), ((*split[:2], split[2]._replace(along=False)), was, None),
+            ((*split, split[1]._replace(number=7, length=900)), was, None),
+            (split, was._replace(course=(degrees(10), *places[1:]), start=330), [1, 5, 6]),
+            (split, was._replace(course=(degrees(10), *places[1:]), start=330, lines=[8, 2]), None),
+            (split, was._replace(course=(*places[:5], degrees(150)), end=500, lines=[1, 6]), [1, 5, 6])]
+        for rows, it, wanted in cases:
+            found = cut_otherwise(FakeFinder(*rows), it)
+            self.assertEqual(found and found.lines, wanted)
+
     def part(self, names: Sequence[str], finder: Any, wanted: Dict[str, Wanted]) -> PartSearch:
         """The search for paths that are new."""
-        return PartSearch(PathsUpdate(FakeCursor(), Affected(), 20.0, FakeCursor), (finder, None), Paths(names, wanted, {}, {}))
+        return PartSearch(PathsUpdate(FakeCursor(), Affected(), 20.0, FakeCursor), (finder, None), Paths(names, wanted, {}, {}, {}))
 
     def test_failure_is_of_one_path(self) -> None:
         update = PathsUpdate(FakeCursor(), Affected(), 20.0, FakeCursor)
         placed = update.place((NO_FINDER, None), self.COURSE, None)
-        self.assertIs(placed.state, State.LOST)
+        self.assertIs(placed.state, PathState.LOST)
         self.assertIn("can't be sought", placed.why.words if placed.why else "")
 
     def test_search_in_another_process(self) -> None:

@@ -7,7 +7,7 @@ from typing import Any, Dict, List, Mapping, NamedTuple, Optional, Sequence
 from ..files import replacing
 from ..geo import Degrees, distance
 from ..geojson import collection
-from ..pathlines import State
+from ..pathlines import PathState
 from ..qml import style
 from ..sql import coordinates, text_array
 from ..swap.report import as_json, features, text, worst_first, write_strings
@@ -70,7 +70,7 @@ def verdict(name: str, was: Optional[Was], now: Answer, placed: Optional[Placed]
     if was is None or was.answer.text is None:
         return Verdict(name, Kind.WITHOUT, answers, how, course=course)
     if now.text is None:
-        lost = placed.why if placed and placed.state is State.LOST else None
+        lost = placed.why if placed and placed.state is PathState.LOST else None
         why = lost.words if lost else "an operator removed it" if now.reason == "dropped" else "it is not encodable there"
         return Verdict(name, Kind.LOST, answers, how, why=why, place=lost.place or () if lost else (), course=was.course)
     ends = [distance(was.course[k], course[k]) for k in (0, -1)] if was.course and course else [0.0, 0.0]

@@ -2,12 +2,13 @@
 from __future__ import annotations
 
 import math
-from typing import Any, Collection, Dict, Iterable, List, Mapping, Optional, Sequence, Set, Tuple
+from copy import copy as copy_of
+from typing import Any, Callable, Collection, Dict, Iterable, List, Optional, Set, Tuple
 
 from ..geo import METRES
 from ..sql import ESCAPES, copy, copy_lines, number_array, point, point_hex, text_array, update
 from ..streets import Cut, Made, Old, Parts, Recut, Street, degrees, wkb_hex
-from .cells import Box, cell_of
+from .cells import Box, Cell, cell_of
 from .read import Block
 
 FEW = 100  # changed streets up to which each is sought among those of the paths by an index
@@ -17,6 +18,7 @@ GAP = 1.0  # metres between the end of a street and another street that are take
 LAST = (1 << 32) - 1  # the greatest number of a node or a line
 NODE_COLUMNS = "node, place, geom, is_end"
 LINE_COLUMNS = "line, street, part, k, along, from_node, to_node, nth, length, fields, geom"
+BESIDE = " beside"  # after the kind of the last number of rounds beside another one
 AHEAD = 1 << 24  # numbers of a preview beyond the last ones
 
 
@@ -25,10 +27,17 @@ class Numbers:
     `ahead` by so many, since a round that takes the same ones would wait for its end."""
 
     def __init__(self, cursor: Any, ahead: int = 0) -> None:
-        self.cursor = cursor
+        self.cursor, self.suffix = cursor, ""
         cursor.execute("select kind, last from olr_keep.counter")
-        self.last: Dict[str, int] = {kind: last + ahead for kind, last in cursor.fetchall()}
-        self.before = dict(self.last)
+        found = dict(cursor.fetchall())
+        self.before: Dict[str, int] = {kind: last for kind, last in found.items() if not kind.endswith(BESIDE)}
+        self.last = {kind: max(last, found.get(kind + BESIDE, 0)) + ahead for kind, last in self.before.items()}
+
+    def beside(self, cursor: Any) -> Numbers:
+        """The same numbers for a round beside another one. It writes the last ones in rows of its own, so that none waits."""
+        other = copy_of(self)
+        other.cursor, other.suffix, other.before = cursor, BESIDE, dict(self.last)
+        return other
 
     def take(self, kind: str, count: int) -> List[int]:
         """So many new numbers. When the greatest is reached, they are those that the map doesn't have."""
@@ -46,20 +55,23 @@ class Numbers:
         """Writes the last numbers."""
         for kind, last in self.last.items():
             if last != self.before[kind]:
-                self.cursor.execute("update olr_keep.counter set last = %s where kind = %s", (last, kind))
+                self.cursor.execute("""insert into olr_keep.counter (kind, last) values (%s, %s)
+                    on conflict (kind) do update set last = excluded.last""", (kind + self.suffix, last))
 
 
 class Affected:
     """What the blocks of a round do to the paths: their names, the streets that were edited, where they were, and the lines that
-    are gone, lie elsewhere now or are of another street."""
+    are gone, lie elsewhere now or are of another street. `tick` is called between long steps."""
 
-    def __init__(self) -> None:
+    def __init__(self, tick: Callable[[], None] = lambda: None) -> None:
+        self.tick = tick
         self.names: Set[str] = set()
         self.keys: Set[str] = set()
         self.old_cells: Dict[str, Set[Tuple[int, int]]] = {}
         self.looked: Set[int] = set()
         self.boxes: List[Box] = []
         self.has_open: Optional[bool] = None
+        self.cells: Optional[Set[Cell]] = None  # of the changed streets and of those beside them, if that is asked
 
     def are_open(self, cursor: Any) -> bool:
         """Whether some path isn't found as it was given, so that it matters where the changes are. It is asked once."""
@@ -88,9 +100,12 @@ class MapUpdate:
             self.set_attributes()
         if self.keys:
             self.read_old()
+            self.affected.tick()
             cut = self.recut()
+            self.affected.tick()
             self.find_affected(cut)
             self.write_streets()
+            self.affected.tick()
             self.write_nodes(cut)
             self.write_lines(cut)
             self.write_unfit()
@@ -164,6 +179,9 @@ class MapUpdate:
         if len(affected.keys) <= MOST_CELLS:
             affected.old_cells.update((key, {cell_of(*degrees(it)) for part in self.before[key] for it in part})
                                       for key in self.keys)
+        if affected.cells is not None:
+            several = [*self.before.values(), *(it.parts for it in self.after.values())]
+            affected.cells.update(cell_of(*degrees(place)) for parts in several for part in parts for place in part)
         looked = {*cut.dropped}
         for number, (line, old) in cut.changed.items():
             is_elsewhere = is_moved(line, old) or line.start in cut.moved or line.end in cut.moved

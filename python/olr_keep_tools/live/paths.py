@@ -9,14 +9,14 @@ from typing import Any, Callable, Container, Deque, Dict, Iterator, List, Mappin
 from ..courses import Ends, Found, Lost, Rival, course_of
 from ..forked import Forked
 from ..geo import METRES
-from ..pathlines import Finder, Known, PathSearch, Placement, Remark, State, Unread, Wanted, marked_street
+from ..pathlines import Finder, Known, PathSearch, PathState, Placement, Remark, Unread, Wanted, marked_street
 from ..reasons import in_words
 from ..roads import nearby, restored, stored
 from ..sql import Course, Place, coordinates, copy, course_hex, number_array, places_hex, point, text_array, update
 from .cells import merged
 from .map import FEW, Affected
 from .read import Change
-from .returned import has_stayed, last_streets, returned
+from .returned import cut_otherwise, has_stayed, last_streets, returned
 from .session import note_later
 
 PART, KNOWN_PART = 1000, 300  # paths that are read at once: new ones, and others, of which much more is read
@@ -31,7 +31,7 @@ MOST_BOXES = 200  # boxes of changes up to which each is looked at
 class Placed(NamedTuple):
     """The lines of a path, what is cut off them, and how the path will be found again."""
 
-    state: State
+    state: PathState
     lines: List[int]
     streets: List[str]
     start: int
@@ -155,9 +155,9 @@ class PathsUpdate:
                     or definition <> md5(concat(path.streets::text, '|', course::text))""")
             names |= {it for (it,) in self.cursor}
         near = sorted((self.open_ones() | lost if self.affected.keys else lost) - names)
-        at_once = near if self.is_preview else near[:AT_ONCE]
+        at_once = near if self.is_preview else [] if change.is_beside else near[:AT_ONCE]
         if len(near) > len(at_once):
-            note_later(self.cursor, change.users, near[AT_ONCE:])
+            note_later(self.cursor, change.users, near[len(at_once) :])
         return sorted(names), at_once + sorted(change.later - names)
 
     def open_ones(self) -> Set[str]:
@@ -186,21 +186,23 @@ class PathsUpdate:
         finder.read_streets({*(marked_street(it)[1] for several in streets for it in several),
                              *(street for it in away.values() for street in last_streets(it))})
         again = {name: found for name, it in away.items() if (found := returned(finder, it))}
+        cut = {name: now for name, it in away.items() if not self.is_untouched(finder, it) and (now := cut_otherwise(finder, it))}
+        before.update(cut)
         sought = [it for it in good if it.name not in again and not self.is_untouched(finder, before.get(it.name))]
         last = [before[it.name] for it in sought if it.name in before]
         courses = [*(it.course for it in sought), *(it.course for it in last), *(it.given for it in last)]
         finder.read_near(it for it in courses if it)
-        return PartSearch(self, (finder, self.read_before(last)), Paths(names, wanted, known, again))
+        return PartSearch(self, (finder, self.read_before(last)), Paths(names, wanted, known, again, cut))
 
     def is_untouched(self, finder: Finder, known: Optional[Known]) -> bool:
         """Whether a path is as given, and its lines are as they were before the round, or hardly moved."""
-        if known is None or known.state is not State.SAID:
+        if known is None or known.state is not PathState.SAID:
             return False
         return self.affected.looked.isdisjoint(known.lines) or has_stayed(finder, known)
 
     def read_before(self, was: Sequence[Known]) -> Optional[Finder]:
         """Reads the map before the round, where the paths are that were as given."""
-        courses = [it.given for it in was if it.state is State.SAID and it.given]
+        courses = [it.given for it in was if it.state is PathState.SAID and it.given]
         if not courses:
             return None
         finder = Finder(self.before(), self.tolerance)
@@ -225,6 +227,7 @@ class PathsUpdate:
     def tick(self) -> None:
         """Asks something, so that the session isn't taken for one that is stopped."""
         self.cursor.execute("select 1")
+        self.affected.tick()
 
     def read(self, names: Sequence[str], finder: Finder) -> Tuple[Dict[str, Wanted], Dict[str, Before]]:
         """The paths of these names as operators give them, and as they were found last, with their two offsets."""
@@ -248,7 +251,7 @@ class PathsUpdate:
         try:
             placement = PathSearch(finders[0], wanted, known, finders[1], self.is_untouched(finders[0], known)).run()
         except (ArithmeticError, AttributeError, LookupError, TypeError, ValueError) as error:
-            placement = Placement(State.LOST, None, Lost(f"it can't be sought: {type(error).__name__}: {error}", None))
+            placement = Placement(PathState.LOST, None, Lost(f"it can't be sought: {type(error).__name__}: {error}", None))
         last = known if known is not None and known.definition == wanted.definition else None
         return Placing(finders[0], wanted, last, placement).placed()
 
@@ -256,7 +259,7 @@ class PathsUpdate:
 def known_of(row: Sequence[Any], there: Container[int]) -> Known:
     """A path as it was found last, of a row."""
     _, lines, streets, start, end, a, b, course, definition, lost, elsewhere, given, given_streets, last, ends, off, *_ = row
-    state = State.LOST if lost else State.ELSEWHERE if elsewhere else State.SAID
+    state = PathState.LOST if lost else PathState.ELSEWHERE if elsewhere else PathState.SAID
     nodes = (a if a in there else None, b if b in there else None)
     return Known(lines, streets, start, end, nodes, coordinates(course), definition, state, coordinates(given),
                  Ends(*(ends or (start == 0, end == 0))), given_streets, restored(last) if last else None, off)
@@ -270,12 +273,14 @@ def parts_of(names: Sequence[str], most: int) -> List[Sequence[str]]:
 
 
 class Paths(NamedTuple):
-    """Some paths: as operators give them, as they were found last, and the lines of those whose road is there again."""
+    """Some paths: as operators give them, as they were found last, the lines of those whose road is there again, and those that are only cut
+    at other places."""
 
     names: Sequence[str]
     wanted: Dict[str, Wanted]
     known: Dict[str, Before]
     again: Mapping[str, Placement]
+    cut: Mapping[str, Known]
 
 
 class PartSearch:
@@ -283,7 +288,7 @@ class PartSearch:
 
     def __init__(self, update: PathsUpdate, finders: Finders, paths: Paths) -> None:
         self.update, self.finders = update, finders
-        self.names, self.wanted, self.known, self.again = paths
+        self.names, self.wanted, self.known, self.again, self.cut = paths
         self.forked: Optional[Forked[Dict[str, Optional[Sought]]]] = None
 
     def is_long(self) -> bool:
@@ -315,7 +320,7 @@ class PartSearch:
         if name in self.again and before:
             it = Placing(self.finders[0], wanted, before[0], self.again[name]).placed()
         else:
-            it = self.update.place(self.finders, wanted, before and before[0])
+            it = self.update.place(self.finders, wanted, self.cut.get(name) or before and before[0])
         rest = it._replace(lines=it.lines[:1], streets=[], course=None, given=None, given_streets=[], last=None)
         return Sought(rest, row_of(name, it), record_of(name, it, before))
 
@@ -363,8 +368,8 @@ class Placing:
             given, at_junctions, given_streets = known.given, known.given_ends, known.given_streets
         last = placement.last or (known and known.last)
         if last and given and (known is None or last is not known.last):
-            last = nearby(last, given) if placement.state is not State.SAID else None
-        text = stored(last) if last and placement.state is not State.SAID else None
+            last = nearby(last, given) if placement.state is not PathState.SAID else None
+        text = stored(last) if last and placement.state is not PathState.SAID else None
         offsets = (ends[0] + self.cuts[0], ends[1] + self.cuts[1]) if lines else (0, 0)
         off = None if placement.off is None else round(placement.off, 1)
         return Placed(placement.state, lines, streets, *ends, *offsets, nodes, course, self.wanted.definition, given,
@@ -390,7 +395,7 @@ def record_of(name: str, placed: Placed, before: Optional[Before]) -> str:
 def row_of(name: str, it: Placed) -> Tuple[object, ...]:
     """The row of a path."""
     return (name, number_array(it.lines), text_array(it.streets), it.positive, it.negative, it.start, it.end, *it.nodes, it.definition,
-            it.state is State.LOST, it.state is State.ELSEWHERE, course_hex(it.course), course_hex(it.given),
+            it.state is PathState.LOST, it.state is PathState.ELSEWHERE, course_hex(it.course), course_hex(it.given),
             text_array(it.given_streets), it.last, places_hex(it.lost_at), None if it.ends is None else number_array(it.ends), it.off)
 
 
@@ -421,7 +426,7 @@ class Cause(NamedTuple):
 def write_path_problems(cursor: Any, paths: PathsUpdate, names: Set[str], cause: Cause) -> None:
     """Writes which of these paths have no string, are found elsewhere, or have two roads near their course, and why. Of paths
     that were not looked at, only the first changes. A problem that is still there keeps its time and its cause."""
-    shifts = write_shifts(cursor, [name for name, it in paths.found.items() if it.state is State.ELSEWHERE])
+    shifts = write_shifts(cursor, [name for name, it in paths.found.items() if it.state is PathState.ELSEWHERE])
     cursor.execute("""delete from olr_keep.problem where path = any(%s::text[]) and (kind <> 'two roads' or path <> all(%s::text[]))
             and (kind <> all(%s::text[]) or path <> all(%s::text[])) or path = any(%s::text[]) and kind = 'no string'
         returning path, kind, since::text, round, users::text""",
@@ -436,7 +441,7 @@ def write_path_problems(cursor: Any, paths: PathsUpdate, names: Set[str], cause:
 
 def with_rivals_as_before(paths: PathsUpdate) -> Set[str]:
     """The paths near whose course there still may be two roads."""
-    return {name for name, it in paths.found.items() if it.state is State.LOST or it.has_rival} | paths.again
+    return {name for name, it in paths.found.items() if it.state is PathState.LOST or it.has_rival} | paths.again
 
 
 def path_problems(cursor: Any, paths: PathsUpdate, names: Set[str]) -> Iterator[Tuple[str, str, str, Optional[str]]]:
@@ -450,7 +455,7 @@ def path_problems(cursor: Any, paths: PathsUpdate, names: Set[str]) -> Iterator[
         start = None if lon is None else (lon, lat)
         if reason is not None and not is_text:
             yield ("no string", name, *why_no_string(reason, placed, start))
-        elif placed and placed.state is State.ELSEWHERE and placed.why:
+        elif placed and placed.state is PathState.ELSEWHERE and placed.why:
             yield "found elsewhere", name, f"found elsewhere: {placed.why.words}", point(placed.why.place or start)
         if placed and placed.rival:
             words = f"two roads follow its course: it is on {placed.rival.taken}, and {placed.rival.other} is near it too"
@@ -486,6 +491,6 @@ def write_shifts(cursor: Any, names: Sequence[str]) -> Dict[str, Tuple[float, st
 
 def why_no_string(reason: str, placed: Optional[Placed], start: Optional[Place]) -> Tuple[str, Optional[str]]:
     """Why a path has no string, in words, and where."""
-    if placed and placed.why and placed.state is State.LOST:
+    if placed and placed.why and placed.state is PathState.LOST:
         return placed.why.words, point(placed.why.place or start)
     return "no lines follow it" if reason == "lost" else in_words(reason), point(start)

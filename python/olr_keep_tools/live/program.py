@@ -96,6 +96,7 @@ class Sent:
     def flush(self) -> None:
         """Sends what was added, when the block before is carried out."""
         self.program.accepted(self.waiting)
+        self.program.tick()
         text = b"".join(self.parts)
         self.parts, self.size, self.waiting = [], 0, text.count(b"\n")
         self.program.begin(text)
@@ -105,3 +106,11 @@ class Sent:
         self.flush()
         self.program.accepted(self.waiting)
         self.waiting = 0
+
+
+def end(program: LiveProgram) -> None:
+    """Ends a program at once."""
+    program.kill()
+    for stream in (program.process.stdin, program.process.stdout):
+        if stream:
+            stream.close()

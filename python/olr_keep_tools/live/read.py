@@ -70,6 +70,7 @@ class Change:
         self.street_group: Dict[str, str] = {}
         self.path_group: Dict[str, str] = {}
         self.margin, self.is_margin_new = "0,0", False
+        self.is_beside = False  # whether it is beside a bulk: paths that it doesn't change itself are left for later then
 
     @property
     def count(self) -> int:
@@ -86,7 +87,9 @@ class Reader:
         self.sources = {it.source.source: it.source for it in tables if it.state is Readable.READY}
         self.change, self.has_streets = Change(), True
         self.first: Set[str] = set()  # the only transactions that are read in this round, if there are some
-        self.is_last_split = False  # whether the last round had such ones: then this one has all
+        self.is_split, self.is_last_split = False, False  # whether this round has small ones before a great one, and the last one had
+        self.transactions: Set[str] = set()  # with a great one, those that aren't small and elsewhere
+        self.near: Optional[Set[Cell]] = None  # the cells near their streets
 
     def read(self) -> Change:
         """What there is to do."""
@@ -131,42 +134,58 @@ class Reader:
         return list(self.cursor.fetchall())
 
     def small_ones(self) -> Set[str]:
-        """The transactions with few notes that are a round before one with very many, if they are nowhere near it."""
+        """The transactions with few notes that are a round before one with very many, if they are nowhere near it; after such a round all
+        others. Nothing means all."""
         self.cursor.execute("""select tx::text, count(*), bool_or(key is null and source >= 0) from olr_keep.note
             where source <> %s group by tx""", (LATER,))
         rows = self.cursor.fetchall()
         great = {tx for tx, count, _ in rows if count > VERY_MANY}
-        small = {tx for tx, count, _ in rows if count <= FEW}
-        if not great or not small or self.is_preview or self.stale or self.is_last_split or any(is_whole for *_, is_whole in rows):
+        if not great or self.is_preview or self.stale or any(is_whole for *_, is_whole in rows):
             return set()
+        self.transactions = {tx for tx, *_ in rows}
+        cells = self.cells_of(self.transactions)
+        if cells is None:
+            return set()
+        small = away({tx for tx, count, _ in rows if count <= FEW}, cells, near_to(great, cells))
+        self.is_split = bool(small) and not self.is_last_split
+        self.transactions -= small
+        self.near = near_to(self.transactions, cells)
+        return small if self.is_split else self.transactions if small else set()
+
+    def cells_of(self, transactions: Set[str]) -> Optional[Dict[str, Set[Cell]]]:
+        """The cells of the streets that transactions have noted, as they were read last and as they are now; None if they can't be read."""
         cells: Dict[str, Set[Cell]] = {}
         try:
             for source in self.sources.values():
                 with Savepoint(self.cursor, source.search_path):
-                    self.add_cells(source, great | small, cells)
+                    self.add_cells(source, transactions, cells)
         except psycopg2.Error:
             if self.cursor.connection.closed:
                 raise
-            return set()
-        near: Set[Cell] = set().union(*(around(cell) for tx in great for cell in cells.get(tx, ())))
-        return {tx for tx in small if not cells.get(tx, near) & near}
+            return None
+        return cells
 
     def add_cells(self, source: Source, transactions: Set[str], cells: Dict[str, Set[Cell]]) -> None:
-        """Adds the cells of the streets that transactions have noted, as they were read last and as they are now."""
+        """Adds those of one table."""
+        self.cursor.execute("select distinct key, tx::text from olr_keep.note where source = %s and tx = any(%s::text[]::xid8[])",
+                            (source.source, text_array(transactions)))
+        noted: Dict[str, List[str]] = {}
+        for key, tx in self.cursor:
+            if key is not None and not is_nameless(key):
+                noted.setdefault(key, []).append(tx)
+        self.cursor.execute(f"""select distinct substr(street, %s), floor(olr_keep.lon(place) / {NEAR})::int,
+                floor(olr_keep.lat(place) / {NEAR})::int
+            from olr_keep.vertex where street = any(%s::text[])""", (len(source.prefix) + 1, text_array(source.prefix + it for it in noted)))
+        found = self.cursor.fetchall()
         geom, streets = f"olr_keep.degrees({source.geom})".replace("%", "%%"), source.streets.replace("%", "%%")
         key = f"({source.id})::text".replace("%", "%%")
-        self.cursor.execute(f"""with noted as materialized (
-                select distinct tx::text as tx, key from olr_keep.note where source = %(source)s and tx::text = any(%(tx)s::text[])
-            )
-            select distinct tx, floor(olr_keep.lon(place) / {NEAR})::int, floor(olr_keep.lat(place) / {NEAR})::int
-            from noted join olr_keep.vertex on street = %(prefix)s || key
-            union select distinct tx, floor(x / {NEAR})::int, floor(y / {NEAR})::int
-            from noted join (select {key} as key, {geom} as geom from {streets}) as it using (key)
-                cross join lateral (values (ST_XMin(geom), ST_YMin(geom)), (ST_XMax(geom), ST_YMax(geom)), (ST_XMin(geom), ST_YMax(geom)),
-                    (ST_XMax(geom), ST_YMin(geom))) as corner(x, y) where x between -180 and 180 and y between -90 and 90""",
-                            {"source": source.source, "tx": text_array(transactions), "prefix": source.prefix})
-        for tx, x, y in self.cursor:
-            cells.setdefault(tx, set()).add((x, y))
+        self.cursor.execute(f"""select distinct key, floor(ST_X(it) / {NEAR})::int, floor(ST_Y(it) / {NEAR})::int
+            from (select {key} as key, {geom} as geom from {streets} {where_ids(source)}) as one
+                cross join lateral (select (ST_DumpPoints(geom)).geom as it) as vertex
+            where ST_X(it) between -180 and 180 and ST_Y(it) between -90 and 90""", {"ids": text_array(noted)})
+        for key, x, y in found + self.cursor.fetchall():
+            for tx in noted.get(key, ()):
+                cells.setdefault(tx, set()).add((x, y))
 
     def fail(self, source: Source, error: Exception) -> None:
         """Leaves a table out of this round, since it can't be read; its notes stay."""
@@ -396,6 +415,16 @@ class Reader:
         for street, rows in taken.items():
             self.cursor.execute("insert into olr_keep.problem (kind, source, street, words, geom) values ('same id', %s, %s, %s, %s)",
                                 (source.source, street, words, point(place_in(rows[0]))))
+
+
+def near_to(transactions: Iterable[str], cells: Mapping[str, Set[Cell]]) -> Set[Cell]:
+    """The cells near the streets of transactions."""
+    return set().union(*(around(cell) for cell in set().union(*(cells.get(tx, ()) for tx in transactions))))
+
+
+def away(small: Iterable[str], cells: Mapping[str, Set[Cell]], near: Set[Cell]) -> Set[str]:
+    """Those of some transactions whose streets are in no cell of these. One that has no street may be anywhere."""
+    return {tx for tx in small if cells.get(tx) and near.isdisjoint(cells[tx])}
 
 
 def fate_of(source: int, known: Optional[LastRead], rows: Sequence[StreetRow]) -> Fate:

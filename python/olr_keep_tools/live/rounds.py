@@ -11,6 +11,7 @@ from .cells import NEAR, Cell, around, cell_of
 from .map import MOST_CELLS, Affected, Numbers
 from .paths import Cause, PathsUpdate, write_path_problems
 from .read import Change
+from .session import LATER
 
 MOST_NAMED = 1000  # streets that a hold names
 NEARBY, LEAST_NEARBY = 0.25, 5  # the share of the paths in the cells of a cluster, and their number, that are held
@@ -199,8 +200,9 @@ class Round:
 
     def waiting_with(self, names: Set[str]) -> Set[str]:
         """The paths of released holds, those that wait in a hold with one of these, and those that are due."""
-        holds = {it.hold for name, it in self.waited.items() if it.hold and (it.is_open or name in names)}
-        return {name for name, it in self.waited.items() if it.hold in holds or it.kind is Kind.DELAYED and it.is_open}
+        due = {name for name, it in self.waited.items() if it.is_open and not self.change.is_beside}
+        holds = {it.hold for name, it in self.waited.items() if it.hold and (name in due or name in names)}
+        return {name for name, it in self.waited.items() if it.hold in holds or it.kind is Kind.DELAYED and name in due}
 
     def read_published(self, names: Set[str]) -> Dict[str, Published]:
         """What is published of these paths; a path that is new in this round has no answer yet."""
@@ -243,7 +245,7 @@ class Round:
         return frozen
 
     def held_before(self, differing: Mapping[str, Answer], limits: Limits) -> Dict[str, Waiting]:
-        """The answers of paths that still wait: those of holds that are not released, and still too many."""
+        """The answers of paths that still wait: those of holds that are not released, and still too many, or of which a path is sought later."""
         holds: Dict[int, Dict[str, Waiting]] = {}
         for name, it in differing.items():
             known = self.waited.get(name)
@@ -251,8 +253,10 @@ class Round:
                 holds.setdefault(known.hold, {})[name] = Waiting(Kind.HELD, it, self.effect(name, it), known.hold)
         self.cursor.execute("select hold, nearby from olr_keep.hold where hold = any(%s::bigint[])", (number_array(holds),))
         nearby = dict(self.cursor.fetchall())
-        exceeded = [held for hold, held in holds.items()
-                    if limits.are_exceeded(Counts.of([it.effect for it in held.values()]), self.count, nearby.get(hold))]
+        self.cursor.execute("select key from olr_keep.note where source = %s", (LATER,))
+        later = {name for (name,) in self.cursor}
+        exceeded = [held for hold, held in holds.items() if not later.isdisjoint(held)
+                    or limits.are_exceeded(Counts.of([it.effect for it in held.values()]), self.count, nearby.get(hold))]
         return {name: it for held in exceeded for name, it in held.items()}
 
     def held_now(self, fresh: Mapping[str, Answer], limits: Limits) -> List[Hold]:

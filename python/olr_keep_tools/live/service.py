@@ -2,29 +2,22 @@
 from __future__ import annotations
 
 import collections
-import enum
-import functools
 import os
 import select
-import sys
 import time
 import traceback
-from typing import Any, Dict, List, Mapping, NamedTuple, Optional, Sequence, Set, Tuple
+from typing import Any, Dict, List, Mapping, Optional, Sequence, Set, Tuple
 
 from ..command import STREAM, USAGE, Failure, say
 from ..files import replaced
 from ..program import ProgramFailed
-from ..records import Margin
 from ..sql import psycopg2
 from . import session
 from .ambiguous import write_ambiguities
-from .draft import Draft, DraftSettings, write_report
-from .first import FirstLoad, is_first
-from .map import AHEAD, LAST, Affected, MapUpdate, Numbers, write_all_open_ends
-from .paths import PathsUpdate
-from .program import LiveProgram
-from .read import BLOCK, Change, Reader
-from .rounds import Limits, Round
+from .aside import Aside
+from .attempt import Attempt, Bulk, Ending, Settings
+from .program import LiveProgram, end
+from .read import Change
 from .session import Busy, Readable, Stale
 
 POLL = 1.0  # seconds without a notification after which the notes are read all the same
@@ -34,47 +27,7 @@ WATCH = 5.0  # seconds between two looks at the tables
 MINUTE = 60.0
 LONGEST_WAIT = 60.0  # seconds between two attempts after failures
 LOGINS = 5  # that are refused before it ends
-MANY = 1000  # streets after which the statistics of the tables are made, and again when they have doubled
-NAMED = 20  # paths that the log names
 PATHS = 0  # the number that the table of paths has among the tables
-METRE = 1 / 100_000  # degrees that are more than a metre of latitude
-
-
-class Settings(NamedTuple):
-    """What the command line says."""
-
-    database: str
-    command: List[str]
-    limits: Limits
-    tolerance: float
-    quiet: float
-    compare_at: int
-    idle: int
-    stopped: int
-    metrics: str
-    is_once: bool
-    is_preview: bool
-    draft: Optional[DraftSettings] = None
-    margin: Optional[Margin] = None  # of a preview
-    elsewhere_after: float = 0.0  # seconds
-
-    @property
-    def patience(self) -> float:
-        """For how many seconds an answer is delayed. One that is shown, or the last one of a run, isn't."""
-        return 0.0 if self.is_once or self.is_preview else self.elsewhere_after
-
-    @property
-    def schema(self) -> str:
-        """The schema of the draft, or nothing."""
-        return self.draft.schema if self.draft else ""
-
-
-class Ending(enum.Enum):
-    """How an attempt ends: nothing was there to read, a round was published or all was as before, or it was shown."""
-
-    NOTHING = "nothing"
-    DONE = "done"
-    SHOWN = "shown"
 
 
 class Night:
@@ -89,123 +42,6 @@ class Night:
             return False
         self.last = now.tm_yday
         return True
-
-
-class Attempt:
-    """One round, in steps."""
-
-    def __init__(self, live: Live, work: session.Transaction, every_path: bool) -> None:
-        self.live, self.work, self.cursor, self.settings = live, work, live.cursor, live.settings
-        self.began = time.monotonic()
-        self.records: List[str] = []
-        self.fresh: Dict[str, str] = {}
-        self.reader = Reader(self.cursor, work.tables, live.stale, self.settings.is_preview)
-        self.reader.is_last_split = live.is_split
-        self.every_path, self.affected = every_path, Affected()
-
-    def run(self) -> Ending:
-        """Reads, applies, asks the program, and publishes."""
-        if self.settings.margin:
-            self.cursor.execute("update olr_keep.margin set (routes, classes) = (%s, %s)", self.settings.margin)
-        change = self.reader.read()
-        self.live.is_split = bool(self.reader.first)
-        change.every_path |= self.every_path or self.live.program is None
-        self.records += [f"margin,{change.margin}"] if change.is_margin_new and self.live.program else []
-        self.numbers = Numbers(self.cursor, AHEAD if self.settings.is_preview else 0)
-        if self.settings.is_preview:
-            self.fresh = self.live.loaded()
-            self.draft = Draft(self.cursor, self.live.program) if self.settings.draft and self.live.program else None
-        elif change.count > BLOCK:
-            self.live.drop_program()
-        self.apply_map(change)
-        self.paths = PathsUpdate(self.cursor, self.affected, self.settings.tolerance, self.live.before, self.settings.is_preview)
-        self.paths.run(change, functools.partial(self.tell, what="paths"))
-        self.live.progress = 0, 0
-        self.round = Round(self.cursor, change, self.affected, self.paths, self.numbers)
-        self.outcome = self.round.judge(self.answers(), self.settings.limits, self.settings.patience)
-        return self.show() if self.settings.is_preview else self.publish(change)
-
-    def apply_map(self, change: Change) -> None:
-        """Changes the map, block by block."""
-        count, done, self.said = change.count, 0, time.monotonic()
-        analyzed, is_cut = max(MANY, session.analyzed_streets(self.cursor)), False
-        first = FirstLoad(self.cursor, self.numbers, self.affected) if self.is_first_load(count) else None
-        self.reader.has_streets = not first or len(change.keys) > 1
-        margin = max(30, 2 * self.settings.tolerance) * METRE
-        for block in self.reader.blocks():
-            if first:
-                first.read(block)
-            else:
-                records = MapUpdate(self.cursor, block, self.numbers, self.affected, margin, count <= BLOCK).run()
-                self.records += records if self.live.program else []
-            is_cut |= bool(block.keys() - block.plain)
-            done = min(count, done + BLOCK)
-            self.tell(done // 2 if first else done, count)
-            if done > 2 * analyzed:
-                analyzed = done
-                self.cursor.execute("analyze olr_keep.street, olr_keep.vertex, olr_keep.node, olr_keep.line")
-        if first:
-            first.cut(lambda cut: self.tell((count + cut) // 2, count))
-        if count > BLOCK and is_cut:
-            write_all_open_ends(self.cursor)
-
-    def is_first_load(self, count: int) -> bool:
-        """Whether there are many streets and no map yet, and no program that has to follow. Numbers have to be left."""
-        are_left = all(self.numbers.last[it] + 100 * count < LAST for it in ("node", "line"))
-        return count > BLOCK and self.live.program is None and are_left and is_first(self.cursor)
-
-    def tell(self, done: int, count: int, what: str = "streets") -> None:
-        """Says how far a long round is, every few seconds."""
-        if what == "streets":
-            self.live.progress = done, count
-        if time.monotonic() - self.said > 10:
-            self.said = time.monotonic()
-            say(f"{done} of {count} {what}")
-            self.live.write_metrics(False)
-
-    def answers(self) -> Dict[str, str]:
-        """The answers that the round changes; all answers if the program is started for it."""
-        if self.live.program is None:
-            return self.live.loaded()
-        records = self.records + self.paths.records
-        return {**self.fresh, **(self.live.program.answers(records) if records else {})}
-
-    def publish(self, change: Change) -> Ending:
-        """Publishes the round, and commits."""
-        number, elsewhere = self.round.publish(self.outcome, time.monotonic() - self.began)
-        self.work.commit()
-        self.live.has_read(change)
-        if number:
-            self.live.count_round(time.monotonic() - self.began)
-        late = f", late of round {', '.join(map(str, sorted(self.outcome.causes)))}" if self.outcome.causes else ""
-        if self.outcome.published or self.outcome.holds or late:
-            say(f"round {number}{late}: {len(self.affected.keys)} streets, {len(self.outcome.published)} answers; {self.outcome.counts.text()}")
-        if elsewhere:
-            more = f" and {len(elsewhere) - NAMED} more" if len(elsewhere) > NAMED else ""
-            say(f"round {number}: elsewhere are now {', '.join(elsewhere[:NAMED])}{more}")
-        for it in self.outcome.holds:
-            say(f"hold {it.number} of {len(it.names)} paths: {it.counts.text()}; select olr_keep.release({it.number}) publishes them")
-        return Ending.DONE if number else Ending.NOTHING
-
-    def show(self) -> Ending:
-        """Prints what would be published, and what would wait or waits; or the report of a draft."""
-        held = {**{name: it.answer for name, it in self.round.waited.items() if name not in self.outcome.ended},
-                **{name: it.answer for name, it in self.outcome.waiting.items()}}
-        shown = {**{name: after for name, (_, after) in self.outcome.published.items()}, **held}
-        self.live.would_hold = bool(held)
-        if self.draft and self.settings.draft:
-            verdicts = self.draft.verdicts(shown, self.paths)
-            self.work.rollback()
-            self.live.would_hold |= write_report(verdicts, self.settings.draft)
-        else:
-            before = self.round.read_published(set(shown))
-            self.work.rollback()
-            for name, answer in sorted(shown.items()):
-                was = [f"-{name},{before[name].answer.written()}"] if name in before else []
-                print(*was, f"+{name},{answer.written()}", sep="\n")
-        words = f"; {len(held)} paths would be held" if held else ""
-        print(f"live: {len(self.outcome.published)} answers; {self.outcome.counts.text()}{words}", file=sys.stderr)
-        return Ending.SHOWN
 
 
 class Live:
@@ -223,6 +59,8 @@ class Live:
         self.progress, self.failed, self.would_hold, self.unwritten = (0, 0), 0, False, ""
         self.is_announced = False
         self.is_split = False  # whether the last round was of small transactions that went before a great one
+        self.aside: Optional[Aside] = None  # of small saves beside the round that is computed
+        self.fresh: Dict[str, str] = {}  # answers that the next round publishes
         self.forget()
 
     def forget(self) -> None:
@@ -250,8 +88,9 @@ class Live:
         return self.other.cursor()
 
     def close(self) -> None:
-        """Ends the sessions and the program."""
+        """Ends the sessions and the programs."""
         self.drop_program()
+        self.end_aside()
         for it in (self.connection, self.other):
             if it:
                 it.close()
@@ -262,6 +101,22 @@ class Live:
         if self.program:
             end(self.program)
         self.program = None
+
+    def leave_program(self, bulk: Optional[Bulk]) -> None:
+        """Leaves the program to small saves beside a bulk, or ends it if there may be none."""
+        if bulk and self.program:
+            self.aside, self.program = Aside(self, self.program, bulk), None
+        self.drop_program()
+
+    def look_aside(self) -> None:
+        """Makes a round of small saves beside one that is computed, if there are some."""
+        if self.aside:
+            self.aside.look()
+
+    def end_aside(self) -> List[str]:
+        """Ends the rounds beside another one. Returns their records."""
+        aside, self.aside = self.aside, None
+        return aside.end() if aside else []
 
     def loaded(self) -> Dict[str, str]:
         """Starts the program with the map and the paths of the tables, and returns all answers."""
@@ -280,6 +135,7 @@ class Live:
             raise SystemExit(128 + self.stopping[0])
         if not self.connection.info.transaction_status == psycopg2.extensions.TRANSACTION_STATUS_ACTIVE:
             self.cursor.execute("select 1")
+        self.look_aside()
 
     def lock(self) -> None:
         """Waits until no other process works on the database."""
@@ -291,6 +147,8 @@ class Live:
             if session.end_stopped(self.cursor, self.settings.stopped):
                 say(f"ended the session of a process that had not asked for {self.settings.stopped} s")
             time.sleep(POLL)
+        while not self.stopping and session.end_beside(self.cursor):
+            time.sleep(BUSY)
 
     def wait(self, seconds: float) -> bool:
         """Waits for a notification, and returns whether one came."""
@@ -329,10 +187,17 @@ class Live:
             if every_path or self.work() is not session.Work.NOTHING:
                 attempt = Attempt(self, work, every_path)
                 ending = attempt.run()
+                self.rejoin()
                 broken.update(attempt.reader.change.broken)
                 self.unread.update((it, Readable.BROKEN) for it in attempt.reader.change.broken)
+        self.progress = 0, 0
         self.report(work.tables, broken)
         return ending
+
+    def rejoin(self) -> None:
+        """Gives the program that was loaded for a round the records of those beside it. What they change is published in the next."""
+        records = self.end_aside()
+        self.fresh = self.program.answers(records) if self.program and records else {}
 
     def refuse_unreadable(self, tables: Sequence[session.SourceTable]) -> None:
         """Fails if a draft has no table of streets, or one that can't be read."""
@@ -348,7 +213,7 @@ class Live:
 
     def work(self) -> session.Work:
         """What there is to read."""
-        if self.program is None or self.stale - self.unread.keys():
+        if self.program is None or self.fresh or self.stale - self.unread.keys():
             return session.Work.COMMITTED
         return session.work(self.cursor, self.unread, self.settings.patience > 0)
 
@@ -528,14 +393,6 @@ class Live:
             if words != self.unwritten:
                 say(words)
             self.unwritten = words
-
-
-def end(program: LiveProgram) -> None:
-    """Ends a program at once."""
-    program.kill()
-    for stream in (program.process.stdin, program.process.stdout):
-        if stream:
-            stream.close()
 
 
 def words_of(error: Exception) -> str:

@@ -7,7 +7,8 @@ from typing import Any, Dict, Iterable, List, NamedTuple, Optional, Sequence, Se
 
 from ..sql import psycopg2, text_array
 
-LOCK = 7165_0029  # of pg_try_advisory_lock
+LOCK, BESIDE = 7165_0029, 7165_0030  # of advisory locks: of the session that works, and of those beside it
+LONGEST_LOCK = 200  # milliseconds for which a session beside another one waits for a lock
 LATER = -2  # the source of notes of paths that are sought when no other note is left
 LONGEST_ID = 1000  # bytes of the id of a street: an index takes 2,700
 TRIGGERS = "'olr_keep_row', 'olr_keep_row_note', 'olr_keep_statement', 'olr_keep_truncate'"
@@ -87,6 +88,19 @@ def connect(database: str, idle: int) -> Any:
     return connection
 
 
+def connect_beside(database: str, idle: int, holder: int) -> Any:
+    """Opens a session beside the one that has the lock, as long as that has it. It waits for no lock, since that one may have it."""
+    connection = connect(database, idle)
+    with connection.cursor() as cursor:
+        cursor.execute("set lock_timeout = %s; select pg_advisory_lock_shared(%s)", (f"{LONGEST_LOCK}ms", BESIDE))
+        cursor.execute("select exists (select from pg_locks where locktype = 'advisory' and objid = %s and classid = 0 and granted and pid = %s)",
+                       (LOCK, holder))
+        if not cursor.fetchone()[0]:
+            connection.close()
+            raise Stale("another process works")
+    return connection
+
+
 def check_schema(cursor: Any) -> None:
     """Fails if the schema is missing, or that of another version."""
     cursor.execute("select not exists (select from pg_attribute where attrelid = to_regclass('olr_keep.street') and attname = 'name')")
@@ -110,6 +124,14 @@ def end_stopped(cursor: Any, seconds: float) -> bool:
             and (state like 'idle%%' and state_change < clock_timestamp() - make_interval(secs => %s)
                 or wait_event_type = 'Client' and state_change < clock_timestamp() - make_interval(secs => 20 * %s))""",
         (LOCK, seconds, seconds))
+    return bool(cursor.rowcount > 0)
+
+
+def end_beside(cursor: Any) -> bool:
+    """Ends the sessions beside another one that had the lock before. Returns whether there were some."""
+    cursor.execute("""select pg_terminate_backend(pid) from pg_locks
+        where locktype = 'advisory' and objid = %s and classid = 0 and granted
+            and database = (select oid from pg_database where datname = current_database())""", (BESIDE,))
     return bool(cursor.rowcount > 0)
 
 
