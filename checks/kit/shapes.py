@@ -3,12 +3,16 @@
     checks/kit/shapes.py FILE..
 
 A function has at most 40 lines and seven parameters, besides its object; one assignment sets at most five fields of an object;
-no result is None, a text or a number.
+no result is None, a text or a number. No class of a package has the name of another one there, and no module imports what it doesn't
+name.
 """
 import ast
+import os
+import re
 import sys
 
 LINES, PARAMETERS, FIELDS = 40, 7, 5
+TEXT = re.compile(r"[A-Za-z_]\w*")
 NUMBERS, TEXTS = {"int", "float"}, {"str", "bytes"}
 
 
@@ -52,18 +56,45 @@ def of_assignment(it):
         yield f"sets {fields} fields at once"
 
 
-def faults(name):
-    """What is wrong in a file."""
+def tree_of(name):
+    """The syntax of a file; nothing if it isn't of Python."""
     with open(name, encoding="utf-8") as file:
         text = file.read()
-    if not name.endswith(".py") and "python3" not in text.partition("\n")[0]:
-        return
-    for it in ast.walk(ast.parse(text)):
+    return ast.parse(text if name.endswith(".py") or "python3" in text.partition("\n")[0] else "")
+
+
+def unused(tree):
+    """What a file imports, and doesn't name: neither as it stands nor in a text, as a type may be; each with its line."""
+    named = {part for it in ast.walk(tree) for part in (getattr(it, "id", ""), *TEXT.findall(str(getattr(it, "value", ""))))}
+    for it in ast.walk(tree):
+        if isinstance(it, (ast.Import, ast.ImportFrom)) and getattr(it, "module", "") != "__future__":
+            names = [(one.asname or one.name).split(".")[0] for one in it.names]
+            yield from (f"{it.lineno}: {one} is imported and not used" for one in names if one not in named)
+
+
+def faults(name, tree):
+    """What is wrong in a file."""
+    if os.path.basename(name) != "__init__.py":
+        yield from (f"{name}:{it}" for it in unused(tree))
+    for it in ast.walk(tree):
         found = of_function(it) if isinstance(it, (ast.FunctionDef, ast.AsyncFunctionDef)) else ()
         found = of_assignment(it) if isinstance(it, ast.Assign) else found
         yield from (f"{name}:{it.lineno}: {getattr(it, 'name', 'an assignment')}: {why}" for why in found)
 
 
-wrong = [it for name in sys.argv[1:] for it in faults(name)]
+def twins(trees):
+    """The classes of a package that have the name of another one there; a command is none of a package."""
+    known = {}
+    for name, tree in trees.items():
+        for it in ast.walk(tree):
+            if isinstance(it, ast.ClassDef) and name.endswith(".py"):
+                here = f"{name}:{it.lineno}"
+                first = known.setdefault((os.path.dirname(name), it.name), here)
+                if first != here:
+                    yield f"{here}: {it.name}: {first} has this name"
+
+
+every = {name: tree_of(name) for name in sys.argv[1:]}
+wrong = [*(it for name, tree in every.items() for it in faults(name, tree)), *twins(every)]
 print(*wrong, sep="\n", end="\n" if wrong else "")
 sys.exit(bool(wrong))

@@ -29,10 +29,13 @@ if os.path.dirname(os.path.dirname(os.path.realpath(sys.argv[0]))) == TOP:
 
 import argparse  # noqa: E402
 import contextlib  # noqa: E402
+import math  # noqa: E402
 import shutil  # noqa: E402
 import signal  # noqa: E402
+import time  # noqa: E402
 
 USAGE, STREAM, INTERRUPTED = 2, 3, 130
+SECONDS = 5.0  # between two reports of progress
 MADE: Set[str] = set()  # files and folders that are removed if the tool is terminated
 
 
@@ -56,6 +59,19 @@ def say(text: str) -> None:
             print(f"{NAME}: {printable(text)}", file=sys.stderr, flush=True)
 
 
+class Progress:
+    """Says how far the work is, at most every few seconds."""
+
+    def __init__(self) -> None:
+        self.start = self.last = time.monotonic()
+
+    def __call__(self, what: str) -> None:
+        now = time.monotonic()
+        if now - self.last >= SECONDS:
+            self.last = now
+            say(f"{now - self.start:.0f} s: {what}")
+
+
 class Parser(argparse.ArgumentParser):
     """A parser of the command line whose messages can be printed."""
 
@@ -68,6 +84,32 @@ def command_line(about: Optional[str], usage: Optional[str] = None) -> argparse.
     text, statuses, last = (about or "").partition("\n\nstatus: ")
     form = argparse.RawDescriptionHelpFormatter
     return Parser(description=text, epilog=statuses.strip() + " " + last, formatter_class=form, usage=usage)
+
+
+def number_of(what: str, least: float, most: float) -> Callable[[str], float]:
+    """An argument that is a number of metres or seconds between these."""
+
+    def number(text: str) -> float:
+        try:
+            value = float(text)
+        except ValueError:
+            value = -math.inf
+        if not least <= value <= most:
+            raise argparse.ArgumentTypeError(f"{text}: not a number of {what} from {least:g} to {most:g}")
+        return value
+
+    return number
+
+
+def whole_number(least: int) -> Callable[[str], int]:
+    """An argument that is a whole number of at most twelve digits, from this one on."""
+
+    def number(text: str) -> int:
+        if not (text.isascii() and text.isdecimal() and len(text) <= 12 and int(text) >= least):
+            raise argparse.ArgumentTypeError(f"{text!r} is not a number from {least}")
+        return int(text)
+
+    return number
 
 
 def run_tool(main: Callable[[], int], interrupted: str = "interrupted") -> NoReturn:

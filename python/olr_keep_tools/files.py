@@ -85,6 +85,28 @@ def beside(target: str) -> Iterator[str]:
         MADE.discard(name)
 
 
+def refuse_existing(folder: str) -> None:
+    """Fails if the folder is there, or can't be made."""
+    if os.path.lexists(folder):
+        raise Failure(USAGE, f"{folder} is there already")
+    above = os.path.dirname(os.path.abspath(folder))
+    if not os.path.isdir(above):
+        raise Failure(USAGE, f"{above} is no folder")
+
+
+@contextlib.contextmanager
+def new_folder(folder: str) -> Iterator[str]:
+    """A folder with all its files, or nothing: they are written in another one beside it, which is then renamed."""
+    try:
+        with beside(folder.rstrip("/")) as part:
+            os.mkdir(part)
+            yield part
+            refuse_existing(folder)
+            os.rename(part, folder)
+    except OSError as error:
+        raise FileFailure(f"{folder}: {error.strerror}") from None
+
+
 @contextlib.contextmanager
 def replaced(name: str, is_synced: bool = True) -> Iterator[IO[bytes]]:
     """A file for the new contents of another one, which it replaces at the end, if all went well. Raises OSError: also if the file

@@ -11,7 +11,8 @@ from typing import Callable, Deque, Dict, Iterable, Iterator, List, NamedTuple, 
 
 from .command import Failure
 from .geo import METRES, Degrees, between, degrees, distance
-from .records import UNITS, Line, Margin, Path, Place, State, decimal
+from .grid import Points
+from .records import UNITS, Line, Margin, Path, State, decimal
 from .roads import Verdict
 from .twomaps import TwoMaps, concerned
 
@@ -100,6 +101,11 @@ class Course:
         return all(distance(it, other.place(at * scale)) <= tolerance for at, it in zip(self.at, self.places))
 
 
+def points_of(state: State, metres: float) -> Points:
+    """The nodes of a map, by which those within so many metres of a place are found."""
+    return Points(state.nodes, lambda it: degrees(state.nodes[it]), max(2 * metres / METRES, 1 / UNITS))
+
+
 class Matcher:
     """Finds the lines of the new map that follow the course of lines of the old one."""
 
@@ -107,24 +113,15 @@ class Matcher:
         self.old, self.new = old, new
         self.tolerance, self.limits = limits.tolerance, limits
         self.out: Dict[int, List[int]] = {}
-        self.cells: Dict[Tuple[int, int], List[int]] = {}
+        self.points = points_of(new, limits.tolerance)
         self.found: Dict[Lines, Lines] = {}
         for number in sorted(new.lines):
             self.out.setdefault(new.ends(number)[0], []).append(number)
-        for node, place in new.nodes.items():
-            self.cells.setdefault(self.cell(place), []).append(node)
-
-    def cell(self, place: Place) -> Tuple[int, int]:
-        """The cell of a grid, in which a node within the tolerance is in the same cell or in one beside it."""
-        high = max(1, self.tolerance / METRES * UNITS)
-        return int(place[0] * math.cos(math.radians(round(place[1] / UNITS))) // high), int(place[1] // high)
 
     def same_nodes(self, node: int) -> List[int]:
         """The nodes of the new map where this one of the old map is: that with its number first, then the nearest ones."""
-        place, (x, y) = degrees(self.old.nodes[node]), self.cell(self.old.nodes[node])
-        near = [it for dx in (-1, 0, 1) for dy in (-1, 0, 1) for it in self.cells.get((x + dx, y + dy), ())]
-        far = {it: distance(place, degrees(self.new.nodes[it])) for it in near}
-        return sorted((it for it in near if far[it] <= self.tolerance), key=lambda it: (it != node, far[it], it))
+        far = self.points.near(degrees(self.old.nodes[node]), self.tolerance)
+        return sorted(far, key=lambda it: (it != node, far[it], it))
 
     def matching(self, numbers: Lines) -> Lines:
         """The new lines that follow the course of these old ones; none if there are none."""

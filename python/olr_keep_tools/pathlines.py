@@ -2,15 +2,15 @@
 a path is at first. From then on it is sought on the road of this course, and if that can't be had, it is found elsewhere."""
 from __future__ import annotations
 
-import bisect
 import enum
 import math
 import struct
 from collections import defaultdict
 from typing import Any, Dict, FrozenSet, Iterable, Iterator, List, Mapping, NamedTuple, Optional, Sequence, Set, Tuple, Union
 
-from .courses import (CELL, DRAWN, Box, Ends, Follower, Found, Lost, Network, Plane, Polyline, Rival, Wish, cells_along, cells_near,
-                      course_of, reach)
+from .courses import (DRAWN, Box, Ends, Follower, Found, Lost, Network, Plane, Polyline, Rival, Wish, cells_near, course_of,
+                      reach)
+from .grid import CELL, Cell, Grid
 from .roads import NEW_ID, STILL, WIDER, Given, LastMap, Roads, Verdict, farthest_apart, vertices_apart
 from .geo import METRES
 from .routes import Waiting
@@ -27,7 +27,6 @@ COORDINATE = struct.Struct("<dd")  # of WKB
 
 
 Kind = Tuple[int, int, bool]
-Cell = Tuple[int, int]
 Result = Union[Found, Lost]
 
 
@@ -59,7 +58,7 @@ def is_far(a: Place, b: Place) -> bool:
     return max(abs(a[0] - b[0]), abs(a[1] - b[1])) > WIDE and apart(a, b) > FAR
 
 
-class State(enum.Enum):
+class PathState(enum.Enum):
     """Where a path is: as its streets or its course say, elsewhere, or on no lines."""
 
     SAID = "said"
@@ -79,7 +78,7 @@ class Known(NamedTuple):
     nodes: Tuple[Optional[int], Optional[int]]
     course: Optional[Course]
     definition: str
-    state: State
+    state: PathState
     given: Optional[Course]
     given_ends: Ends
     given_streets: List[str]
@@ -136,7 +135,7 @@ class Placement(NamedTuple):
     metres it is off the given course, and `last` the map on which it was last as given. `has_rival` is whether a problem that two
     roads follow its course isn't mended."""
 
-    state: State
+    state: PathState
     found: Optional[Found] = None
     why: Optional[Lost] = None
     lost_at: Tuple[Place, ...] = ()
@@ -211,7 +210,7 @@ class Ways(Network):
         super().__init__({})
         self.lines = self.rows = Rows()
         self.beside: Dict[Place, List[int]] = {}
-        self.grid: Dict[Cell, List[int]] = defaultdict(list)
+        self.fine: Grid[int] = Grid(FINE)
         self.without_cells: List[int] = []
 
     def take(self, found: Iterable[Tuple[Any, ...]]) -> None:
@@ -242,12 +241,9 @@ class Ways(Network):
     def around(self, course: Sequence[Place], metres: float) -> Dict[int, Row]:
         """The lines that may be within this distance of a course, of those that were read."""
         for number in self.without_cells:
-            points = self.rows[number].points
-            for cell in set().union(*(cells_along(a, b, FINE) for a, b in zip(points, points[1:]))):
-                self.grid[cell].append(number)
+            self.fine.add_along(self.rows[number].points, number)
         self.without_cells.clear()
-        numbers = {it for cell in cells_near(course, metres, FINE) for it in self.grid.get(cell, ())}
-        return {it: self.rows[it] for it in sorted(numbers)}
+        return {it: self.rows[it] for it in sorted({*self.fine.at(cells_near(course, metres, FINE))})}
 
 
 class Finder:
@@ -332,9 +328,9 @@ class Finder:
             if not self.streets[street]:
                 return Lost(f"street {street} has no line", None)
         by_street = {it: [self.rows[number] for number in self.streets[it]] for _, it in marked}
-        route = Route(marked, by_street, last, tolerance)
-        found = route.search()
-        return found._replace(rival=route.other_way()) if isinstance(found, Found) and last is None else found
+        search = StreetSearch(marked, by_street, last, tolerance)
+        found = search.search()
+        return found._replace(rival=search.other_way()) if isinstance(found, Found) and last is None else found
 
 
 def marked_street(text: str) -> Tuple[str, str]:
@@ -358,13 +354,13 @@ class PathSearch:
         """Where the path is."""
         fault = self.wanted.fault()
         if fault:
-            return Placement(State.LOST, None, fault)
+            return Placement(PathState.LOST, None, fault)
         if self.known is not None and self.known.given is not None:
             return self.on_road(self.known, self.known.given)
         said = self.as_said()
         if isinstance(said, Found):
-            return Placement(State.SAID, said, off=0.0, remarks=tuple(self.doubts(said)))
-        return Placement(State.LOST, None, said, self.lost_at())
+            return Placement(PathState.SAID, said, off=0.0, remarks=tuple(self.doubts(said)))
+        return Placement(PathState.LOST, None, said, self.lost_at())
 
     def lost_at(self) -> Tuple[Place, ...]:
         """Where the searches ended: a street that is edited elsewhere doesn't lead to other results."""
@@ -405,23 +401,23 @@ class PathSearch:
 
     def on_road(self, known: Known, given: Course) -> Placement:
         """The lines of the road of the given course."""
-        is_given, kept = known.state is State.SAID, self.kept(known)
+        is_given, kept = known.state is PathState.SAID, self.kept(known)
         off = self.off(known, given, kept) if is_given and self.untouched and kept else None
         if kept and off is not None:
-            return Placement(State.SAID, kept, off=off, remarks=self.remarks(kept), has_rival=True)
+            return Placement(PathState.SAID, kept, off=off, remarks=self.remarks(kept), has_rival=True)
         last = self.last_map(known, given) if is_given else known.last
         near, network = self.finder.around(given), self.finder.near(given)
         answer = Roads(Given(given, *known.given_ends, streets_of(known.given_streets)), last, near, network, self.finder.tolerance).decide()
         found = answer.found
         if isinstance(found, Found) and answer.verdict is Verdict.THERE:
-            return Placement(State.SAID, found, off=answer.off, remarks=self.remarks(found), has_rival=answer.is_beside)
+            return Placement(PathState.SAID, found, off=answer.off, remarks=self.remarks(found), has_rival=answer.is_beside)
         if isinstance(found, Lost):
             self.lost.append(found)
         lines = found if isinstance(found, Found) else self.elsewhere(known)
         why = Lost(answer.words(), answer.place)
         if lines:
-            return Placement(State.ELSEWHERE, lines, why, last=last)
-        return Placement(State.LOST, None, why, self.lost_at(), last=last)
+            return Placement(PathState.ELSEWHERE, lines, why, last=last)
+        return Placement(PathState.LOST, None, why, self.lost_at(), last=last)
 
     def off(self, known: Known, given: Course, kept: Found) -> Optional[float]:
         """How far a path is off its given course on the same lines, which are hardly moved; None if a search has to say it."""
@@ -563,7 +559,7 @@ class Leg(NamedTuple):
     final: Mapping[int, int]
 
 
-class Route:
+class StreetSearch:
     """The search for a route over streets in their order: the shortest one that takes the lines of a street in theirs, and of equally
     short ones that of the first parts."""
 

@@ -6,7 +6,7 @@ import os
 import ssl
 import stat
 import time
-from typing import Callable, Dict, NamedTuple, Optional
+from typing import Dict, NamedTuple, Optional
 from urllib.parse import urlsplit
 
 from .command import STREAM, USAGE, Failure, say
@@ -153,10 +153,9 @@ class Answered(NamedTuple):
 class Poster:
     """Posts each event, in order, until the receiver has taken it, and then stores its position."""
 
-    def __init__(self, receiver: Receiver, state: str, most_pause: float, refused: Optional[str] = None,
-                 sleep: Callable[[float], None] = time.sleep):
+    def __init__(self, receiver: Receiver, state: str, most_pause: float, refused: Optional[str] = None):
         receiver.check()
-        self.receiver, self.state, self.most_pause, self.refused, self.sleep = receiver, state, most_pause, refused, sleep
+        self.receiver, self.state, self.most_pause, self.refused = receiver, state, most_pause, refused
         self.connection: Optional[http.client.HTTPConnection] = None
         self.identity, self.position, self.after = "", 0, ""
         if os.path.exists(state):
@@ -183,7 +182,7 @@ class Poster:
             if found.text != said:
                 said = found.text
                 say(f"position {event.position}: {said}; sends it again")
-            self.sleep(pause)
+            time.sleep(pause)
             pause = min(2 * pause, self.most_pause)
         self.identity, self.position, self.after = event.identity, event.position, event.after
         self.store()

@@ -74,13 +74,6 @@ def arguments(text: Optional[str], usage: Optional[str] = None) -> argparse.Argu
     return parser
 
 
-def whole_number(text: str) -> int:
-    """An argument that is a number from 0."""
-    if not re.fullmatch(r"\d{1,12}", text):
-        raise argparse.ArgumentTypeError(f"{text!r} is not a number")
-    return int(text)
-
-
 def time_of_day(text: str) -> Tuple[int, int]:
     """An argument that is a time of the day, as hours and minutes."""
     if not re.fullmatch(r"([01]?\d|2[0-3]):[0-5]\d", text):

@@ -9,7 +9,7 @@ message of answers changes in them is one transaction.
 """
 import os
 import sqlite3
-from typing import Any, Iterable, Iterator, List, NamedTuple, Optional, Protocol, Sequence, Set, Tuple, Type, Union
+from typing import Any, Iterable, Iterator, List, NamedTuple, Optional, Sequence, Set, Tuple, Type, Union
 
 from . import stream
 from .command import STREAM, USAGE, Failure, say

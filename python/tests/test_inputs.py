@@ -8,7 +8,7 @@ import unittest
 import zlib
 from typing import Iterator
 
-from olr_keep_tools import courses, osmrecords, receiver, refound
+from olr_keep_tools import courses, osmrecords, refound
 from olr_keep_tools.command import printable
 from olr_keep_tools.files import FileFailure
 from olr_keep_tools.osm import Extract, OsmError, read_xml, refuse_inflated
@@ -68,11 +68,6 @@ class Inputs(unittest.TestCase):
     def test_lines(self) -> None:
         with written(b"node,1,0," + b"0" * (LONGEST_LINE + (2 << 20))) as name, self.assertRaisesRegex(RecordsError, "longer than 16 MB"):
             Records([name])
-
-    def test_cells(self) -> None:
-        self.assertLess(len(list(receiver.cells_along((6.0, 49.0), (-170.0, 49.0)))), 20)
-        self.assertLess(len(courses.cells_along((6.0, 49.0), (-170.0, 49.0), courses.CELL)), 20)
-        self.assertGreater(len(set(receiver.cells_along((6.0, 49.0), (6.5, 49.0)))), 200)
 
     def test_far_points(self) -> None:
         """A straight segment that a wrong coordinate makes very long is compared at some points."""

@@ -20,7 +20,6 @@ class Word(enum.Enum):
 
 # Faults of the program that the service reports for a batch that has not reached it.
 BATCH_OPEN = b"fault,14,BatchOpen\n"
-NO_BATCH = b"fault,15,NoBatch\n"
 COUNT_DIFFERS = b"fault,16,CountDiffers"
 BATCH_FULL = b"fault,17,BatchFull\n"
 ACCEPTED = b"ok,0\n"

@@ -8,7 +8,7 @@ import signal
 import subprocess
 from typing import List
 
-from olr_keep_tools.command import STREAM, USAGE, Failure, command_line, say
+from olr_keep_tools.command import STREAM, USAGE, Failure, command_line, say, whole_number
 from olr_keep_tools.files import beside, refuse_inputs
 from olr_keep_tools.program import program_name
 from olr_keep_tools.serve.logfile import MOST_FEWER, NOT_SERVED, accept, look, other_file, refusal
@@ -26,13 +26,6 @@ def mode(text: str) -> int:
     if not re.fullmatch("0?[0-7]{3}", text):
         raise argparse.ArgumentTypeError(f"{text!r} is no mode such as 0660")
     return int(text, 8)
-
-
-def number(text: str) -> int:
-    """An argument that is a number from 1."""
-    if not re.fullmatch("[0-9]{1,12}", text) or not int(text):
-        raise argparse.ArgumentTypeError(f"{text!r} is no number from 1")
-    return int(text)
 
 
 def amount(text: str) -> float:
@@ -53,7 +46,7 @@ def size(text: str) -> int:
 def arguments(about: str) -> argparse.Namespace:
     """The command-line arguments."""
     parser = command_line(about)
-    add = parser.add_argument
+    add, number = parser.add_argument, whole_number(1)
     add("--check", action="store_true", help="look at LOG, print what speaks against serving it, and end")
     add("--accept", action="store_true", help="serve LOG whatever speaks against it")
     add("--new", action="store_true", help="make LOG from the records of --map, and end; LOG must not exist")

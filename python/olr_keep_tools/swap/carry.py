@@ -12,18 +12,18 @@ import enum
 import functools
 import itertools
 import math
-from typing import Callable, Dict, Iterator, List, Mapping, NamedTuple, Optional, Sequence, Set, Tuple, Union
+from typing import Callable, Dict, Iterator, List, Mapping, NamedTuple, Optional, Sequence, Tuple, Union
 
 from ..courses import DRAWN, Ends, Found, Wish, follow
 from ..drawn import Junctions, shape_of
-from ..geo import Degrees, degrees, distance
-from ..mapedits import Course, Limits, Lines, Matcher
-from ..receiver import Cell, cell_of
+from ..geo import degrees, distance
+from ..mapedits import Course, Limits, Lines, Matcher, points_of
 from ..records import Path, Place, State
 from ..roads import Answer
 from ..twomaps import FAR, Nearby, TwoMaps, cells_around, is_unchanged, without_cut
 
 REPORTED = 1000  # paths between two reports
+AROUND = 250.0  # metres within which another node shows by how much all of them are moved
 TOGETHER = 4  # nodes near each other that are told apart by their lines, and by how all of them are moved
 
 Report = Callable[[str], None]
@@ -81,34 +81,37 @@ class Pairing(Matcher):
     def __init__(self, old: State, new: State, limits: Limits):
         super().__init__(old, new, limits)
         self.pairs: Dict[int, Optional[int]] = {}
-        self.old_cells: Dict[Cell, List[int]] = {}
-        self.around: Dict[Cell, List[int]] = {}
-        for node, place in old.nodes.items():
-            self.old_cells.setdefault(self.cell(place), []).append(node)
-            self.around.setdefault(cell_of(degrees(place)), []).append(node)
+        self.old_points, self.around = points_of(old, limits.tolerance), points_of(old, AROUND)
 
     def same_nodes(self, node: int) -> List[int]:
         """The node of the new map where this one of the old map is, or none: that with its number, if it is there, or the
         nearest one, where the nodes around it are moved alike, unless that is nearer to another old one."""
         if node not in self.pairs:
-            near = self.near(self.cells, self.new, self.old.nodes[node])
-            is_alone = len(near) == 1 and len(self.near(self.old_cells, self.old, self.new.nodes[near[0]])) == 1
-            self.pairs[node] = node if node in near else near[0] if is_alone else self.nearest(node, near)
+            near = self.on_new(self.old.nodes[node])
+            self.pairs[node] = node if node in near else near[0] if self.is_alone(near) else self.nearest(node, near)
         pair = self.pairs[node]
         return [] if pair is None else [pair]
 
-    def near(self, cells: Mapping[Cell, List[int]], state: State, place: Place) -> List[int]:
-        """The nodes of a map within the tolerance of a place."""
-        (x, y), at = self.cell(place), degrees(place)
-        numbers = (it for i in (-1, 0, 1) for j in (-1, 0, 1) for it in cells.get((x + i, y + j), ()))
-        return [it for it in numbers if distance(at, degrees(state.nodes[it])) <= self.tolerance]
+    def on_old(self, place: Place) -> List[int]:
+        """The nodes of the old map within the tolerance of a place."""
+        return list(self.old_points.near(degrees(place), self.tolerance))
+
+    def on_new(self, place: Place) -> List[int]:
+        """Those of the new map."""
+        return list(self.points.near(degrees(place), self.tolerance))
+
+    def is_alone(self, near: Sequence[int]) -> bool:
+        """Whether this is one node of the new map, with one of the old map near it."""
+        return len(near) == 1 and len(self.on_old(self.new.nodes[near[0]])) == 1
 
     def nearest(self, node: int, near: List[int]) -> Optional[int]:
         """The one of these nodes that this one is. If there are as many around it, and no others near, they have lines to the
         same places as far as possible, and are moved alike. Else it is the nearest to where this one is moved to, unless that is
         nearer to another old one."""
-        rivals = self.near(self.old_cells, self.old, self.old.nodes[node])
-        others = (it for number in near for it in self.near(self.old_cells, self.old, self.new.nodes[number]))
+        if not near:
+            return None
+        rivals = self.on_old(self.old.nodes[node])
+        others = (it for number in near for it in self.on_old(self.new.nodes[number]))
         if 1 < len(near) == len(rivals) <= TOGETHER and set(rivals).issuperset(others):
             found = min(itertools.permutations(near), key=lambda it: (self.parted(rivals, it), self.spread(rivals, it)))
             return found[rivals.index(node)]
@@ -118,8 +121,8 @@ class Pairing(Matcher):
             (lon, lat), place = self.old.nodes[old], self.new.nodes[new]
             return distance(degrees((lon + by[0], lat + by[1])), degrees(place))
 
-        best = min(near, key=lambda it: to(node, it), default=None)
-        return best if best is not None and all(to(node, best) <= to(it, best) for it in rivals) else None
+        best = min(near, key=lambda it: to(node, it))
+        return best if all(to(node, best) <= to(it, best) for it in rivals) else None
 
     @functools.cached_property
     def leaving(self) -> Dict[int, List[int]]:
@@ -147,13 +150,11 @@ class Pairing(Matcher):
 
     def displacement(self, node: int) -> Place:
         """By how much the nearest node is moved that is the only one where it is on both maps."""
-        place = degrees(self.old.nodes[node])
-        x, y = cell_of(place)
-        others = [it for i in (-1, 0, 1) for j in (-1, 0, 1) for it in self.around.get((x + i, y + j), ()) if it != node]
-        for other in sorted(others, key=lambda it: distance(place, degrees(self.old.nodes[it]))):
+        far = self.around.near(degrees(self.old.nodes[node]), AROUND)
+        for other in sorted(far.keys() - {node}, key=lambda it: (far[it], it)):
             at = self.old.nodes[other]
-            near = self.near(self.cells, self.new, at)
-            if len(near) == 1 and len(self.near(self.old_cells, self.old, self.new.nodes[near[0]])) == 1:
+            near = self.on_new(at)
+            if self.is_alone(near):
                 to = self.new.nodes[near[0]]
                 return to[0] - at[0], to[1] - at[1]
         return 0, 0

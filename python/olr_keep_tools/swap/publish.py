@@ -2,8 +2,7 @@
 import os
 from typing import Iterable, Iterator, Mapping
 
-from ..command import USAGE, Failure
-from ..files import FileFailure, beside
+from ..files import new_folder
 from ..records import Margin, Path, State
 
 
@@ -29,28 +28,13 @@ def reply(old: State, new: State) -> Iterator[str]:
     yield from changed
 
 
-def refuse_existing(folder: str) -> None:
-    """Fails if the folder is there, or can't be made."""
-    if os.path.lexists(folder):
-        raise Failure(USAGE, f"{folder} is there already")
-    above = os.path.dirname(os.path.abspath(folder))
-    if not os.path.isdir(above):
-        raise Failure(USAGE, f"{above} is no folder")
-
-
 def write_folder(folder: str, old: State, new: State, reports: Mapping[str, Iterable[str]]) -> None:
-    """Makes the folder with all its files, or nothing: they are written in another one beside it, which is then renamed."""
-    try:
-        with beside(folder.rstrip("/")) as part:
-            os.mkdir(part)
-            files = (("log.csv", dump(new)), ("reply.txt", reply(old, new)), ("back.csv", dump(old)),
-                     ("back-reply.txt", reply(new, old)), *reports.items())
-            for name, lines in files:
-                write(os.path.join(part, name), lines)
-            refuse_existing(folder)
-            os.rename(part, folder)
-    except OSError as error:
-        raise FileFailure(f"{folder}: {error.strerror}") from None
+    """Makes the folder with all its files, or nothing."""
+    with new_folder(folder) as part:
+        files = (("log.csv", dump(new)), ("reply.txt", reply(old, new)), ("back.csv", dump(old)),
+                 ("back-reply.txt", reply(new, old)), *reports.items())
+        for name, lines in files:
+            write(os.path.join(part, name), lines)
 
 
 def write(name: str, lines: Iterable[str]) -> None:

@@ -76,9 +76,9 @@ class Apart(NamedTuple):
 
 def nearest(strip: Strip, point: Degrees) -> Tuple[float, int]:
     """How far a course is from a point, and which segment of it is the nearest."""
-    near = strip.segments_near(point)
+    near = strip.segments_near(point, strip.grid.size)
     found = min(((far, k) for k, (far, _) in zip(near, strip.project(point, near))), default=(math.inf, 0))
-    if found[0] > strip.cell:
+    if found[0] > strip.grid.size:
         found = min(((far, k) for k, (far, _) in enumerate(strip.project(point))), default=(math.dist(point, strip.points[0]), 0))
     return found
 
