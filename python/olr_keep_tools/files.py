@@ -11,6 +11,7 @@ import io
 import os
 import secrets
 import shutil
+import signal
 import stat
 import sys
 import tempfile
@@ -151,11 +152,21 @@ def sync_folder(name: str) -> None:
         os.close(folder)
 
 
+def unnamed_file(folder: Optional[str] = None) -> IO[bytes]:
+    """A new file without a name, in this folder or where temporary files are. The signals that terminate a tool wait meanwhile, since
+    to find that place tempfile writes a file there, and removes it."""
+    before = signal.pthread_sigmask(signal.SIG_BLOCK, (signal.SIGTERM, signal.SIGHUP))
+    try:
+        return tempfile.TemporaryFile(dir=folder)
+    finally:
+        signal.pthread_sigmask(signal.SIG_SETMASK, before)
+
+
 @contextlib.contextmanager
 def replacing(name: Optional[str]) -> Iterator[IO[str]]:
     """A text file for the new contents of another one, as `replaced`. Without a name it is printed at the end."""
     if not name:
-        with tempfile.TemporaryFile("w+", encoding="utf-8") as file:
+        with io.TextIOWrapper(unnamed_file(), encoding="utf-8") as file:
             yield file
             file.seek(0)
             shutil.copyfileobj(file, sys.stdout)

@@ -11,11 +11,11 @@ those that don't know yet which ones are accepted.
 """
 import argparse
 import re
-import tempfile
 from typing import IO, Callable, Dict, Generic, Iterable, Iterator, List, Mapping, NamedTuple, Optional, Sequence, Tuple
 from typing import TypeVar, Union
 
 from .command import STREAM, Failure, say
+from .files import unnamed_file
 from .program import Program, ProgramFailed, program_name
 from .rejected import advice
 from .replies import NO_RECORD, Reply, is_one_record
@@ -259,7 +259,7 @@ class Records:
     open at its end, is one that is rejected there."""
 
     def __init__(self, files: Iterable[str] = ()):
-        self.file, self.size, self.count = tempfile.TemporaryFile(), 0, 0
+        self.file, self.size, self.count = unnamed_file(), 0, 0
         self.parts: List[Part] = []
         self.others: Dict[int, bytes] = {}
         try:

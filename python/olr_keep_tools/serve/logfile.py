@@ -7,11 +7,10 @@ import errno
 import hashlib
 import json
 import os
-import tempfile
 from dataclasses import asdict, dataclass, fields, replace
 from typing import Any, BinaryIO, Callable, Dict, Iterator, List, NamedTuple, Optional
 
-from olr_keep_tools.files import replaced
+from olr_keep_tools.files import replaced, unnamed_file
 
 BLOCK = 1 << 20
 DIGESTED = 1 << 16  # bytes at the end of a text of which a digest is noted
@@ -212,7 +211,7 @@ def room_for_more(log: str) -> str:
     """Why a disk has no room for as much as the program lengthens a log by at once, or nothing."""
     try:
         size = os.stat(log).st_size
-        with tempfile.TemporaryFile(dir=os.path.dirname(os.path.realpath(log))) as file:
+        with unnamed_file(os.path.dirname(os.path.realpath(log))) as file:
             os.posix_fallocate(file.fileno(), 0, max(min(max(size, LEAST_ROOM), MOST_ROOM), size // 10))
     except OSError as error:
         return os.strerror(error.errno or 0) if error.errno in FULL else ""
