@@ -575,12 +575,13 @@ MANY_STREETS = ("insert into streets (id, class, form, direction, geom) select k
 
 
 class Slow(Case):
-    """A database whose programs begin when a file is gone."""
+    """A database whose programs begin when a file is gone, and before that one for each token."""
 
     def __init__(self, server, name, *options):
         self.file, self.program = f"{server.folder}/{name}.slow", f"{server.folder}/{name}.program"
         with open(self.program, "w", encoding="utf-8") as file:
-            file.write(f"#!/bin/sh\nwhile [ -e {self.file} ]; do echo > {self.file}; sleep 0.05; done\nexec {PROGRAM} \"$@\"\n")
+            file.write(f"#!/bin/sh\nwhile [ -e {self.file} ]; do mv {self.file}.token {self.file}.taken 2> /dev/null && break; "
+                       f"truncate -c -s 1 {self.file}; sleep 0.05; done\nexec {PROGRAM} \"$@\"\n")
         os.chmod(self.program, 0o755)
         super().__init__(server, name, *options)
 
@@ -595,6 +596,14 @@ class Slow(Case):
             yield
         finally:
             os.unlink(self.file)
+
+    def let_one_begin(self):
+        """Lets the program begin that waits, and waits for the next one, which doesn't begin."""
+        with open(f"{self.file}.token", "w", encoding="utf-8"):
+            pass
+        self.expect_of(lambda: os.path.exists(f"{self.file}.taken"), True, "no program is loaded")
+        os.truncate(self.file, 0)
+        self.expect_of(lambda: os.path.getsize(self.file), 1, "no program is loaded after another one")
 
 
 SHIFT = "geom = ST_Translate(geom, 0, 2e-5)"
@@ -648,6 +657,29 @@ def replaced_beside(case, way):
     first.wait()
     if not case.verify():
         fail("beside: notes are left")
+
+
+def computed_again(server):
+    """A save changes the string of a path, and so does a bulk far from both, by a shorter way: the bulk is computed again, and no save is a
+    round beside it then."""
+    with Slow(server, "computed_again", "--stopped", "30") as case:
+        places = [(6.12, 49.6), (6.1, 49.6), (6.1, 49.62), (6.16, 49.62), (6.16, 49.6), (6.14, 49.6)]
+        ways = [f"({800000 + k}, 3, 3, 'both', {line(*it)})" for k, it in enumerate(zip(places, places[1:]))]
+        case.save(ROW + ", ".join(ways), "insert into olr_keep.path (name, streets) values ('around', '{800001,800002,800003}')", *comb(1, FAR))
+        with case.bulk(MANY_STREETS, ROW + f"(800005, 3, 3, 'both', {line(places[-1], places[0])})"):
+            case.do("update streets set class = 5 where id = 800002")
+            case.expect("select class from olr_keep.street where street = '800002'", 5, "a small save waits for a bulk")
+            beside_it = case.texts()
+            case.let_one_begin()
+            case.do("update streets set class = 5 where id = 6200000")
+            time.sleep(2)
+            if case.ask("select class from olr_keep.street where street = '6200000'") != [(3,)]:
+                fail("computed_again: a save doesn't wait for a bulk that is computed again")
+        case.settle()
+        rounds = case.ask("select cardinality(streets) from olr_keep.round order by round desc limit 3")
+        if rounds != [(1,), (4501,), (1,)] or case.texts()["around"] == beside_it["around"] or not case.verify():
+            fail(f"computed_again: the last rounds have {rounds} streets, and {case.texts()} was {beside_it}")
+    print("live: a bulk that changes the same string as a save beside it is computed again, as from nothing")
 
 
 IN_ROUND = """select count(*) from pg_stat_activity where application_name = 'olr-keep live' and datname = current_database()
@@ -1428,7 +1460,7 @@ def prepared(server):
 
 
 CASES = (rights, parts, stopped, open_editor, locked_paths, service_road, drift, two_roads, ties, one_save, held_cluster, limits,
-         during_attempt, frozen, delayed, nation, accepted, identity, left_for_later, beside, margin, draft, ambiguous, bad_paths, expressions, named, tables, numbers, upgrade, released, forwarded, listens)
+         during_attempt, frozen, delayed, nation, accepted, identity, left_for_later, beside, computed_again, margin, draft, ambiguous, bad_paths, expressions, named, tables, numbers, upgrade, released, forwarded, listens)
 
 
 def run_cases(server, times, names):
