@@ -17,8 +17,8 @@ from collections import defaultdict
 from typing import (Callable, Dict, FrozenSet, Iterable, Iterator, List, Mapping, NamedTuple, Optional, Protocol,
                     Sequence, Tuple, Union)
 
-from .geo import METRES, between, onto_segment, scale
-from .grid import CELL, Cell, segments
+from .geo import METRES, between, distance, onto_segment, scale
+from .grid import CELL, Box, Cell, segments
 from .routes import Waiting
 
 SNAP = 1.0  # metres along a line between an end of the course and a node that are taken as none
@@ -30,11 +30,11 @@ OTHER = 0.01  # the added mean distance of a line that isn't preferred
 SAME = 1e-6  # costs that differ by less are equal
 MISSED = 100.0  # the cost of another end than one at a junction, where the road has a price
 NEARNESS = 0.2  # what a metre from the course costs there
+LONGEST = 100_000.0  # metres between two coordinates of a course; beyond, one of them is wrong
 FORCED = 1e9  # the cost of an end along a line where an end at a junction is sought
 START, END = "start", "end"
 
 Place = Tuple[float, float]
-Box = Tuple[float, float, float, float]
 Label = Union[str, Tuple[int, float]]
 Step = Tuple[Optional[int], float, float]
 
@@ -122,6 +122,11 @@ def cells_near(course: Tuple[Place, ...], tolerance: float, cell: float = CELL) 
     boxes = [((x - wide) // cell, (x + wide) // cell, (y - high) // cell, (y + high) // cell) for x, y in places]
     ranges = {(min(a[0], b[0]), max(a[1], b[1]), min(a[2], b[2]), max(a[3], b[3])) for a, b in {*zip(boxes, boxes[1:])}}
     return frozenset((x, y) for w, e, s, n in ranges for x in range(int(w), int(e) + 1) for y in range(int(s), int(n) + 1))
+
+
+def is_far_off(course: Sequence[Place]) -> bool:
+    """Whether two coordinates of a course are so far apart that one of them is wrong."""
+    return any(distance(a, b) > LONGEST for a, b in zip(course, course[1:]))
 
 
 class Polyline:
@@ -285,8 +290,7 @@ def course_of(lines: Sequence[Edge], start: int, end: int) -> Tuple[Place, ...]:
     if not (start or end):
         return tuple(points)
     plane = Plane(points[0][1])
-    shape = Polyline([plane.flat(it) for it in points])
-    first, last = Polyline([plane.flat(it) for it in lines[0].points]), Polyline([plane.flat(it) for it in lines[-1].points])
+    shape, first, last = (Polyline(plane.course(it)) for it in (points, lines[0].points, lines[-1].points))
     begin = start / lines[0].length * first.length
     finish = shape.length - end / lines[-1].length * last.length
     inner = [it for it, far in zip(points, shape.far) if begin < far < finish]
@@ -550,7 +554,6 @@ class Follower:
     def cut(self, number: int, metres: float) -> int:
         """Decimetres of a line for metres of the plane."""
         return round(metres / (self.shape(number).length or 1) * self.lines[number].length) if metres else 0
-
 
     def with_rival(self, found: Found) -> Found:
         """The same lines, with a road that follows the course too, if there is one: another route that avoids them finds it."""

@@ -14,10 +14,12 @@ from typing import Callable, Collection, Dict, Generic, Iterable, Iterator, List
 from .geo import METRES, distance, scale
 
 CELL = 0.002  # degrees of the cells by which lines and nodes near a place are found
+RUN = 8  # cells of a row, and rows, that have a box together at most
 MOST_CELLS = 500  # of one straight segment, a degree of a map: a longer one is an error, and is near its ends alone
 
 Place = Tuple[float, float]
 Cell = Tuple[int, int]
+Box = Tuple[float, float, float, float]  # west, south, east and north
 Content = TypeVar("Content")
 
 
@@ -51,6 +53,28 @@ def cells_of(course: Sequence[Place], size: float) -> Set[Cell]:
     if len(cells) > 1:
         cells.update(*(cells_along(a, b, size) for a, b in zip(course, course[1:])))
     return cells
+
+
+def consecutive(numbers: Sequence[int]) -> Iterator[Tuple[int, int]]:
+    """The first and the last of each run of consecutive numbers among ascending ones."""
+    ends = [k for k, (a, b) in enumerate(zip(numbers, numbers[1:]), 1) if b != a + 1]
+    for first, last in zip([0, *ends], [*ends, len(numbers)]):
+        yield numbers[first], numbers[last - 1]
+
+
+def boxes_of(cells: Iterable[Cell]) -> Iterator[Box]:
+    """The boxes of cells in degrees. In a square of RUN cells on a side, rows that have the same cells have one box."""
+    squares: Dict[Cell, Dict[int, List[int]]] = defaultdict(lambda: defaultdict(list))
+    for y, x in sorted([(y, x) for x, y in cells]):
+        squares[x // RUN, y // RUN][y].append(x)
+    for rows in squares.values():
+        same: Dict[Tuple[int, int], List[int]] = defaultdict(list)
+        for y, row in rows.items():
+            for run in consecutive(row):
+                same[run].append(y)
+        for (west, east), several in same.items():
+            for south, north in consecutive(several):
+                yield west * CELL, south * CELL, (east + 1) * CELL, (north + 1) * CELL
 
 
 class Grid(Generic[Content]):

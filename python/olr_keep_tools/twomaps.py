@@ -11,16 +11,15 @@ from __future__ import annotations
 import functools
 from typing import Dict, Iterable, Iterator, List, Mapping, NamedTuple, Optional, Sequence, Set, Tuple
 
-from .courses import Found, Ground, Network, cells_near, course_of
+from .courses import Found, Ground, Network, cells_near, course_of, is_far_off
 from .drawn import courses
-from .geo import Degrees, degrees, distance
+from .geo import Degrees, degrees
 from .grid import CELL, Cell, Grid, around, cells_of
 from .records import Path, State
 from .roads import WIDER, Answer, Given, LastMap, Roads, Verdict
 
 FAR = 20.0  # metres within which a path is found again
 CERTAIN = Verdict.THERE, Verdict.AGAIN  # what is said of a path on its own road
-LONGEST = 100_000.0  # metres between two points of a course; beyond, one of them is wrong
 
 
 class Nearby:
@@ -104,11 +103,6 @@ def concerned(old: State, new: State) -> Iterator[str]:
             course = [degrees(at[1:]) for at in courses(old, path.lines)[0]]
             if not is_far_off(course) and not cells.isdisjoint(cells_near(tuple(course), FAR)):
                 yield name
-
-
-def is_far_off(course: Sequence[Degrees]) -> bool:
-    """Whether two points of a course are very far apart, so that one of them is wrong."""
-    return any(distance(a, b) > LONGEST for a, b in zip(course, course[1:]))
 
 
 class OnRoad(NamedTuple):

@@ -16,15 +16,17 @@ from typing import Any, Dict, Iterator, List, Mapping, Optional, Sequence, Set, 
 
 from olr_keep_tools.courses import (DRAWN, Ends, Follower, Found, Ground, Lost, Network, Polyline, Strip, Wish, cells_near,
                                     follow)
-from olr_keep_tools.grid import CELL
+from olr_keep_tools.grid import CELL, boxes_of, consecutive
 from olr_keep_tools.forked import Forked, in_order
 from olr_keep_tools.live.ambiguous import Obstacle, named_places, obstacles, write_ambiguities
 from olr_keep_tools.live.attempt import Attempt
 from olr_keep_tools.live.draft import Was, verdict
 from olr_keep_tools.live.first import FirstLoad, line_rows, node_rows
 from olr_keep_tools.live.cells import cell_of, merged
+from olr_keep_tools.live.finder import Finder, Row, Ways
 from olr_keep_tools.live.map import LAST, Affected, Numbers
 from olr_keep_tools.live.paths import PartSearch, Paths, PathsUpdate, parts_of
+from olr_keep_tools.live.pathsearch import Known, PathSearch, PathState, Wanted
 from olr_keep_tools.live.program import LiveProgram, Sent
 from olr_keep_tools.live.read import (Block, Change, Fate, LastRead, Reader, StreetRow, away, changed, fate_of, is_nameless, is_plain,
                                       near_to)
@@ -32,8 +34,7 @@ from olr_keep_tools.live.returned import cut_otherwise, has_stayed, returned
 from olr_keep_tools.live.rounds import DROPPED, Answer, Clusters, Counts, Effect, Kind, Limits, Round, Waiting
 from olr_keep_tools.live.service import Live, Night, words_of
 from olr_keep_tools.live.session import Readable, Source, SourceTable, row_query
-from olr_keep_tools.pathlines import (Finder, Known, PathSearch, PathState, Row, Wanted, Ways, boxes_of,
-                                      consecutive, marked_street)
+from olr_keep_tools.live.streetsearch import marked_street
 from olr_keep_tools.program import ProgramFailed
 from olr_keep_tools.roads import Hit, LastMap, Sections, nearby, restored, stored
 from olr_keep_tools.sql import copy_line, places_hex, psycopg2, text_array
@@ -639,11 +640,6 @@ class FakeFinder(Finder):
     def around(self, _: Any) -> Dict[int, Row]:
         """All lines."""
         return dict(self.rows)
-
-    def by_streets(self, streets: Sequence[str], *_: Any) -> Any:
-        """The lines of streets."""
-        found = [it.number for street in streets for it in self.rows.values() if it.street == street.lstrip("<>")]
-        return Found(found, 0, 0) if len(found) == len(streets) else Lost(f"street {streets[0]} has no line", None)
 
 
 def row(number: int, street: str, north: float = 0, frc: str = "3") -> Row:

@@ -7,13 +7,13 @@ from typing import Any, Dict, List, Mapping, NamedTuple, Optional, Sequence
 from ..files import replacing
 from ..geo import Degrees, distance
 from ..geojson import collection
-from ..pathlines import PathState
 from ..qml import style
 from ..sql import coordinates, text_array
 from ..swap.report import as_json, features, text, worst_first, write_strings
 from ..swap.verdicts import Kind, Verdict, compared
 from .ambiguous import named_places, obstacles
 from .paths import Placed, PathsUpdate
+from .pathsearch import PathState
 from .program import LiveProgram
 from .rounds import Answer
 

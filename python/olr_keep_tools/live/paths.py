@@ -9,15 +9,17 @@ from typing import Any, Callable, Container, Deque, Dict, Iterator, List, Mappin
 from ..courses import Ends, Found, Lost, Rival, course_of
 from ..forked import Forked
 from ..geo import METRES
-from ..pathlines import Finder, Known, PathSearch, PathState, Placement, Remark, Unread, Wanted, marked_street
 from ..reasons import in_words
 from ..roads import nearby, restored, stored
 from ..sql import Course, Place, coordinates, copy, course_hex, number_array, places_hex, point, text_array, update
 from .cells import merged
+from .finder import Finder, Unread
 from .map import FEW, Affected
+from .pathsearch import Known, PathSearch, PathState, Placement, Remark, Wanted
 from .read import Change
 from .returned import cut_otherwise, has_stayed, last_streets, returned
 from .session import note_later
+from .streetsearch import marked_street
 
 PART, KNOWN_PART = 1000, 300  # paths that are read at once: new ones, and others, of which much more is read
 LEAST = 50  # paths that are sought in the process itself

@@ -5,9 +5,11 @@ from __future__ import annotations
 from typing import Iterator, List, Optional, Sequence
 
 from ..courses import Found, course_of
-from ..pathlines import Finder, Known, PathState, Placement, Row, streets_of
 from ..roads import EXACT, farthest_apart, vertices_apart
 from ..sql import Course
+from .finder import Finder, Row
+from .pathsearch import Known, PathState, Placement
+from .streetsearch import streets_of
 
 SAME = 1e-7  # degrees between the coordinates of two courses that are the same
 
