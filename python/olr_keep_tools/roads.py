@@ -154,7 +154,7 @@ class Sections:
         self.at = [(k + 0.5) * self.step for k in range(count)]
         self.tangents: List[Tuple[float, float, float, float]] = []
         self.cells: Dict[Tuple[float, float], List[int]] = defaultdict(list)
-        self.hits: Dict[Tuple[Place, ...], List[Hit]] = {}
+        self.hits: Dict[Place, Dict[Tuple[Place, ...], List[Hit]]] = defaultdict(dict)
         cells = self.cells
         places = course.every(self.step / 2, 2 * count)
         for k, (a, (x, y), b) in enumerate(zip(places[::2], places[1::2], places[2::2])):
@@ -170,29 +170,39 @@ class Sections:
         xs, ys = zip(*self.cells)
         return int(min(xs)), int(min(ys)), int(max(xs)), int(max(ys))
 
-    def crossings(self, lines: Mapping[int, Edge], plane: Plane, reach: float) -> List[List[Crossing]]:
-        """The lines that cross each section in its direction, from right to left."""
+    def crossings(self, lines: Mapping[int, Edge], plane: Plane, reach: float, by: Place = (0.0, 0.0)) -> List[List[Crossing]]:
+        """The lines that cross each section in its direction, from right to left: if they were moved by so much, the section where it is
+        moved to."""
         found: List[List[Crossing]] = [[] for _ in self.at]
+        known = self.hits[by]
         for number, line in lines.items():
-            hits = self.hits.get(line.points)
-            for k, left in self.hit(line.points, plane) if hits is None else hits:
+            hits = known.get(line.points)
+            for k, left in self.hit(line.points, plane, by) if hits is None else hits:
                 if abs(left) <= reach:
                     found[k].append(Crossing(left, number, line.street))
         for it in found:
             it.sort()
         return found
 
-    def hit(self, points: Sequence[Place], plane: Plane) -> List[Hit]:
+    def shift(self, k: int, by: Place) -> float:
+        """How many metres to the left of the course something is that was moved by so much."""
+        return by[1] * self.tangents[k][2] - by[0] * self.tangents[k][3]
+
+    def hit(self, points: Sequence[Place], plane: Plane, by: Place) -> List[Hit]:
         """The sections that a line with these coordinates crosses, which are remembered, also those for the other direction."""
         places = plane.course(points)
+        if by != (0.0, 0.0):
+            places = [(x - by[0], y - by[1]) for x, y in places]
         forward: List[Hit] = []
         backward: List[Hit] = []
         for a, b in zip(places, places[1:]):
             near = self.near(a, b)
             if near:
                 self.add_crossed(near, a, b, (forward, backward))
-        self.hits[tuple(points[::-1])] = backward
-        self.hits[tuple(points)] = forward
+        if by != (0.0, 0.0):
+            forward, backward = ([(k, left + self.shift(k, by)) for k, left in it] for it in (forward, backward))
+        self.hits[by][tuple(points[::-1])] = backward
+        self.hits[by][tuple(points)] = forward
         return forward
 
     def near(self, a: Place, b: Place) -> Set[int]:
@@ -423,16 +433,14 @@ class Roads:
     @functools.cached_property
     def pairings(self) -> List[Optional[Section]]:
         """The sections with their costs; None where the path's own road isn't known."""
-        new = self.across.crossings(self.near, self.plane, WIDER)
+        new = self.across.crossings(self.near, self.plane, WIDER, self.by)
         if self.last is None:
             return [section([Crossing(0.0, 0, "")], 0, it, 0.0) for it in new]
         old, own = self.across.crossings(self.last.lines, self.plane, REACH), {*self.last.own}
         found: List[Optional[Section]] = []
         for k, (before, after) in enumerate(zip(old, new)):
-            _, _, east, north = self.across.tangents[k]
             there = min((i for i, it in enumerate(before) if it.number in own), key=lambda i: abs(before[i].left), default=None)
-            shift = self.by[1] * east - self.by[0] * north
-            found.append(None if there is None else section(before, there, after, shift))
+            found.append(None if there is None else section(before, there, after, self.across.shift(k, self.by)))
         return found
 
     def price(self, number: int, low: float, high: float) -> float:

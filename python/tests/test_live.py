@@ -14,8 +14,9 @@ import unittest.mock
 from collections import Counter
 from typing import Any, Dict, Iterator, List, Mapping, Optional, Sequence, Set, Tuple
 
-from olr_keep_tools.courses import (DRAWN, Ends, Follower, Found, Ground, Lost, Network, Polyline, Strip, Wish, cells_near,
+from olr_keep_tools.courses import (DRAWN, Ends, Follower, Found, Ground, Lost, Network, Plane, Polyline, Strip, Wish, cells_near,
                                     follow)
+from olr_keep_tools.geo import METRES
 from olr_keep_tools.grid import CELL, boxes_of, consecutive
 from olr_keep_tools.forked import Forked, in_order
 from olr_keep_tools.live.ambiguous import Obstacle, named_places, obstacles, write_ambiguities
@@ -594,6 +595,19 @@ class Across(unittest.TestCase):
                 place = x - left * north, y + left * east
                 self.assertAlmostEqual(math.dist(a, place) + math.dist(place, b), math.dist(a, b), 5)
         self.assertGreater(count, 1000)
+
+    def test_moved_lines_cross_the_same_sections(self) -> None:
+        """At a hairpin they would cross others if the sections were not moved with them."""
+        places, plane = [(0, 0), (100, 0), (75, -13), (75, 40)], Plane(49.6)
+        by = 3 * 138e-7 * plane.wide, 2 * 90e-7 * METRES
+        was, now = ({k: ground(k, k + 1, "", degrees(a[0] + i, a[1] + j), degrees(b[0] + i, b[1] + j))
+                     for k, (a, b) in enumerate(zip(places, places[1:]))} for i, j in ((0, 0), (3, 2)))
+        across = Sections(Polyline(plane.course(degrees(*it) for it in places)))
+        old, new = across.crossings(was, plane, 40.0), across.crossings(now, plane, 40.0, by)
+        for k, (before, after) in enumerate(zip(old, new)):
+            self.assertEqual([it.number for it in before], [it.number for it in after])
+            for one, other in zip(before, after):
+                self.assertAlmostEqual(one.left + across.shift(k, by), other.left, 5)
 
     def test_last_map(self) -> None:
         there, back = (degrees(0), degrees(50, 3), degrees(100)), (degrees(100), degrees(50, 3), degrees(0))
