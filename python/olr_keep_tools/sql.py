@@ -6,14 +6,8 @@ import struct
 from typing import Any, Iterable, Optional, Sequence, Tuple
 
 from .command import STREAM, USAGE, Failure
+from .stores import psycopg2
 from .streets import degrees
-
-try:
-    import psycopg2
-    import psycopg2.errors
-    import psycopg2.extras
-except ImportError:
-    psycopg2 = None
 
 __all__ = ["psycopg2"]
 

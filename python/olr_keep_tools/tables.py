@@ -9,18 +9,13 @@ message of answers changes in them is one transaction.
 """
 import os
 import sqlite3
-from typing import Any, Iterable, Iterator, List, NamedTuple, Optional, Sequence, Set, Tuple, Type, Union
+from typing import Iterable, Iterator, List, NamedTuple, Optional, Set, Tuple, Type, Union
 
 from . import stream
 from .command import STREAM, USAGE, Failure, say
 from .shares import Shares
+from .stores import NEEDED, FileStore, Row, ServerStore, Values, is_url, psycopg2
 from .stream import LOST_STREAMS
-
-try:
-    import psycopg2
-    import psycopg2.extras
-except ImportError:
-    psycopg2 = None
 
 TABLES = """
 create table if not exists published (name text primary key, answer text, share integer, "offset" bigint);
@@ -32,9 +27,6 @@ create table if not exists streams (identity text primary key);
 """
 PUT = """insert into published values {} on conflict (name) do update
     set answer = excluded.answer, share = excluded.share, "offset" = excluded."offset\""""
-ROWS = 1000
-Row = Tuple[Any, ...]
-Values = Sequence[object]
 
 
 class AnswerMessage(NamedTuple):
@@ -46,10 +38,8 @@ class AnswerMessage(NamedTuple):
     body: bytes
 
 
-class SQLite:
+class SQLite(FileStore):
     """A table in a file."""
-
-    failures: Tuple[Type[Exception], ...] = (sqlite3.Error,)
 
     def __init__(self, name: str, must_exist: bool):
         if must_exist and not os.path.exists(name):
@@ -61,69 +51,28 @@ class SQLite:
         except sqlite3.Error as error:
             raise Failure(STREAM, f"the table {name}: {error}") from None
 
-    def rows(self, text: str, values: Values = ()) -> List[Row]:
-        return self.file.execute(text, values).fetchall()
-
-    def run(self, text: str, values: Values = ()) -> None:
-        self.file.execute(text, values)
-
-    def put(self, rows: Sequence[Values]) -> None:
-        self.file.executemany(PUT.format("(?, ?, ?, ?)"), rows)
-
-    def begin(self) -> None:
-        self.file.execute("begin immediate")
-
-    def commit(self) -> None:
-        self.file.execute("commit")
-
     def rollback(self) -> None:
         if self.file.in_transaction:
             self.file.execute("rollback")
 
-    def close(self) -> None:
-        self.file.close()
 
-
-class PostgreSQL:
+class PostgreSQL(ServerStore):
     """Tables in a database. One process writes them at a time."""
 
-    failures: Tuple[Type[Exception], ...] = (psycopg2.Error,) if psycopg2 else ()
+    locked = "shares"
 
     def __init__(self, url: str, _: bool):
         if psycopg2 is None:
-            raise Failure(USAGE, "for PostgreSQL install Debian's python3-psycopg2, and run this with /usr/bin/python3")
+            raise Failure(USAGE, NEEDED)
         try:
             self.connection = psycopg2.connect(url, connect_timeout=20, application_name="olr-keep")
         except psycopg2.Error as error:
             raise Failure(STREAM, f"the database: {str(error).strip()}") from None
         self.connection.autocommit = True
 
-    def rows(self, text: str, values: Values = ()) -> List[Row]:
-        with self.connection.cursor() as cursor:
-            cursor.execute(text.replace("?", "%s"), values)
-            return list(cursor.fetchall())
-
-    def run(self, text: str, values: Values = ()) -> None:
-        with self.connection.cursor() as cursor:
-            cursor.execute(text.replace("?", "%s"), values)
-
-    def put(self, rows: Sequence[Values]) -> None:
-        with self.connection.cursor() as cursor:
-            psycopg2.extras.execute_values(cursor, PUT.format("%s"), rows, page_size=ROWS)
-
-    def begin(self) -> None:
-        self.run("begin")
-        self.run("lock table shares in share row exclusive mode")
-
-    def commit(self) -> None:
-        self.run("commit")
-
     def rollback(self) -> None:
         if not self.connection.closed:
             self.run("rollback")
-
-    def close(self) -> None:
-        self.connection.close()
 
 
 class Tables:
@@ -138,7 +87,7 @@ class Tables:
     @classmethod
     def of(cls, name: str, shares: Optional[Shares] = None) -> "Tables":
         """The table of this name: a URL of PostgreSQL, or a file of SQLite. With `shares` it is made if it isn't there."""
-        kind: Type[Union[SQLite, PostgreSQL]] = PostgreSQL if name.startswith(("postgresql://", "postgres://")) else SQLite
+        kind: Type[Union[SQLite, PostgreSQL]] = PostgreSQL if is_url(name) else SQLite
         file = kind(name, shares is None)
         try:
             return cls(file, shares)
@@ -149,14 +98,14 @@ class Tables:
         """Makes what is missing, or stops before it has written anything."""
         for statement in TABLES.split(";")[:-1]:
             self.file.run(statement)
-        self.file.begin()
+        self.file.run("begin")
         found = self.rows("select distinct shares from shares")
         if [it for it, in found if str(it) != shares.label]:
             self.file.rollback()
             raise Failure(LOST_STREAMS, f"the table is for {found[0][0]} shares and not for {shares.label}: use a new one")
         for share in range(0 if found else shares.count):
             self.file.run("insert into shares values (?, ?, -1, -1, -1, 0)", (share, shares.label))
-        self.file.commit()
+        self.file.run("commit")
 
     def rows(self, text: str, values: Values = ()) -> List[Row]:
         return self.file.rows(text, values)
@@ -183,10 +132,10 @@ class Tables:
     def apply_all(self, messages: Iterable[AnswerMessage]) -> None:
         """Applies messages of answers in one transaction."""
         try:
-            self.file.begin()
+            self.file.run("begin")
             for message in messages:
                 self.apply(message)
-            self.file.commit()
+            self.file.run("commit")
         except Failure:
             self.file.rollback()
             raise
@@ -249,7 +198,7 @@ class Tables:
         """Changes the rows of these paths, and returns the number of changes."""
         answers = [line.partition(",")[::2] for line in lines]
         last = dict(answers)
-        self.file.put([(name, answer, share, offset) for name, answer in last.items() if answer != "dropped"])
+        self.file.put(PUT, [(name, answer, share, offset) for name, answer in last.items() if answer != "dropped"])
         for name, answer in last.items():
             if answer == "dropped":
                 self.file.run("delete from published where name = ?", (name,))

@@ -16,9 +16,9 @@ from olr_keep_tools.serve.notify import Systemd, passed_sockets
 from olr_keep_tools.serve.program import STARTED
 from olr_keep_tools.serve.service import HANDLED, Service, Settings
 from olr_keep_tools.serve.sockets import listening
-from olr_keep_tools.serve.table import is_url
 from olr_keep_tools.serve.unread import Unread
 from olr_keep_tools.serve.writer import Limits
+from olr_keep_tools.stores import is_url
 
 
 def mode(text: str) -> int:

@@ -15,18 +15,12 @@ import secrets
 import select
 import sqlite3
 import time
-from typing import Any, Dict, Iterable, List, NamedTuple, Optional, Protocol, Sequence, Tuple, Type
+from typing import Any, Dict, Iterable, List, NamedTuple, Optional, Sequence, Tuple, Type, Union
 
 from olr_keep_tools.files import open_lock
 from olr_keep_tools.serve.jobs import Change
 from olr_keep_tools.serve.noted import Noted, Point
-
-try:
-    import psycopg2
-    import psycopg2.extensions
-    import psycopg2.extras
-except ImportError:
-    psycopg2 = None
+from olr_keep_tools.stores import NEEDED, FileStore, Row, ServerStore, is_url, psycopg2
 
 DROPPED = "dropped"
 ROWS = 1000
@@ -57,7 +51,6 @@ SKIPPED = 1_000_000_000  # positions that are left out for what a lost table may
 SHARED_BLOCK = 4096
 SHARED = ("journal_mode=wal", "synchronous=full")
 ALONE = ("locking_mode=exclusive", "journal_mode=delete", "locking_mode=normal", "synchronous=full")
-Row = Tuple[Any, ...]
 
 
 class TableError(Exception):
@@ -79,30 +72,10 @@ class Entry(NamedTuple):
     user: str
 
 
-class Store(Protocol):
-    """A connection to a database."""
-
-    failures: Tuple[Type[BaseException], ...]
-    generated: str  # how a column is generated that is added to a table
-
-    def rows(self, text: str, values: Sequence[Any] = ()) -> List[Row]:
-        """The rows of a query."""
-
-    def run(self, text: str, values: Sequence[Any] = ()) -> None:
-        """Runs a statement."""
-
-    def put(self, text: str, rows: List[Row]) -> None:
-        """Runs a statement, whose values are `{}`, for each of these rows."""
-
-    def close(self) -> None:
-        """Closes the connection."""
-
-
-class SQLite:
+class SQLite(FileStore):
     """A file, with another one that is locked and names who has it."""
 
-    failures: Tuple[Type[BaseException], ...] = (sqlite3.Error, OSError)
-    generated = "virtual"
+    generated = "virtual"  # how a column is generated that is added to a table
 
     def __init__(self, name: str, owner: str) -> None:
         self.lock = open(open_lock(f"{os.path.realpath(name)}.lock"), "r+", encoding="utf-8")
@@ -127,21 +100,12 @@ class SQLite:
         self.lock.write(owner)
         self.lock.flush()
 
-    def rows(self, text: str, values: Sequence[Any] = ()) -> List[Row]:
-        return self.file.execute(text, values).fetchall()
-
-    def run(self, text: str, values: Sequence[Any] = ()) -> None:
-        self.file.execute("begin immediate" if text == "begin" else text, values)
-
-    def put(self, text: str, rows: List[Row]) -> None:
-        self.file.executemany(text.format(f"({', '.join('?' * len(rows[0]))})"), rows)
-
     def close(self) -> None:
         # So that users who may only read it can do so while nobody serves it.
         with contextlib.suppress(sqlite3.Error):
             self.file.execute("pragma busy_timeout=0")
             self.file.execute("pragma journal_mode=delete")
-        self.file.close()
+        super().close()
         self.lock.close()
 
 
@@ -159,16 +123,15 @@ OPTIONS = ("-c lock_timeout=20s -c client_min_messages=warning -c tcp_keepalives
            "-c tcp_keepalives_count=3")
 
 
-class PostgreSQL:
+class PostgreSQL(ServerStore):
     """Tables in the first schema of the search path of a database."""
 
-    generated = "stored"
+    generated, locked = "stored", "published"
 
     def __init__(self, url: str, owner: str) -> None:
         if psycopg2 is None:
-            raise TableError("for PostgreSQL install Debian's python3-psycopg2, and run this with /usr/bin/python3")
+            raise TableError(NEEDED)
         psycopg2.extensions.set_wait_callback(wait)
-        self.failures: Tuple[Type[BaseException], ...] = (psycopg2.Error,)
         given = psycopg2.extensions.parse_dsn(url).get("options", "")
         self.connection = psycopg2.connect(
             url, connect_timeout=10, application_name=(SERVES + owner)[:MOST_NAME], keepalives_idle=10, keepalives_interval=5,
@@ -190,37 +153,6 @@ class PostgreSQL:
                 and pg_locks.database = (select oid from pg_database where datname = current_database())""", (LOCK,))
         raise taken("".join(it[len(SERVES) :] for (it,) in found), owner)
 
-    def rows(self, text: str, values: Sequence[Any] = ()) -> List[Row]:
-        with self.connection.cursor() as cursor:
-            cursor.execute(text.replace("?", "%s"), values)
-            found: List[Row] = cursor.fetchall()
-            return found
-
-    def run(self, text: str, values: Sequence[Any] = ()) -> None:
-        with self.connection.cursor() as cursor:
-            cursor.execute(text.replace("?", "%s"), values)
-            if text == "begin":
-                cursor.execute("lock table published in share row exclusive mode")
-
-    def put(self, text: str, rows: List[Row]) -> None:
-        with self.connection.cursor() as cursor:
-            psycopg2.extras.execute_values(cursor, text.format("%s"), rows, page_size=ROWS)
-
-    def close(self) -> None:
-        self.connection.close()
-
-
-def is_url(name: str) -> bool:
-    """Whether this is the URL of a database of PostgreSQL."""
-    return name.startswith(("postgresql://", "postgres://"))
-
-
-def store_of(name: str, owner: str) -> Store:
-    """The database of this name, for this process alone."""
-    if is_url(name):
-        return PostgreSQL(name, owner)
-    return SQLite(name, owner)
-
 
 def taken(other: str, owner: str) -> TableError:
     """Why a table can't be had that is locked. What a service left that was killed ends in a moment."""
@@ -241,11 +173,10 @@ class Table:
         newest `retained` changes stay in the history, all if it is 0. `owner` is named to others that want it. `noted` is the file
         that has its identity and position, by which one that was made again or restored is noticed."""
         self.channel, self.retained, self.noted = channel, retained, None  # type: str, int, Optional[Noted]
-        self.failures: Tuple[Type[BaseException], ...] = (sqlite3.Error, OSError)
+        kind: Type[Union[SQLite, PostgreSQL]] = PostgreSQL if is_url(name) else SQLite
+        self.failures: Tuple[Type[BaseException], ...] = (*kind.failures, OSError)
         try:
-            if is_url(name) and psycopg2 is not None:
-                self.failures = (psycopg2.Error, OSError)
-            self.store = store_of(name, owner)
+            self.store = kind(name, owner)
         except self.failures as error:
             raise TableError(" ".join(str(error).split())) from None
         try:
@@ -351,9 +282,7 @@ class Table:
 
     def _set_published(self, rows: List[Row]) -> None:
         """Sets the rows of paths to these."""
-        there = [it for it in rows if it[1] != DROPPED]
-        if there:
-            self.store.put(PUT, there)
+        self.store.put(PUT, [it for it in rows if it[1] != DROPPED])
         for name in (it[0] for it in rows if it[1] == DROPPED):
             self.store.run("delete from published where name = ?", (name,))
 
