@@ -180,9 +180,7 @@ class Schema:
 
     def connection(self):
         """A connection."""
-        connection = psycopg2.connect(self.server.url)
-        connection.autocommit = True
-        return connection
+        return self.server.connect("postgres")
 
     def run(self, *statements):
         """Runs statements while no service has the table."""

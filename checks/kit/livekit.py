@@ -1,97 +1,16 @@
-"""A server of its own for checks of tools/live: databases, the process, and what has to be published, made from scratch."""
+"""A database for checks of tools/live: the process, and what has to be published, made from scratch."""
 import collections
-import glob
 import math
-import os
 import select
-import shutil
 import signal
-import socket
 import subprocess
 import sys
 import time
 
-import psycopg2
-
+from .postgres import LIMIT
 from .whole import PROGRAM, TOP, run
 
-BINS = sorted(glob.glob("/usr/lib/postgresql/*/bin"), key=lambda it: int(it.split("/")[4]))
-LIMIT = 300  # seconds for one round, which takes a moment unless the machine is busy
 PATIENCE = 3  # seconds after which a stopped process is replaced
-
-
-class Server:
-    """A server on a socket in a folder of its own, which lets in everybody; or, with Debian's settings, by their user's name on the
-    socket, and by passwords on a port of this machine. There the check itself is let in as the superuser."""
-
-    def __init__(self, folder, is_debian=False):
-        self.folder, self.port = folder, free_port() if is_debian else 5432
-        self.user = ["setpriv", "--reuid", "postgres", "--regid", "postgres", "--clear-groups"] if os.getuid() == 0 else []
-        self.name = "postgres" if self.user else None
-        if self.user:
-            shutil.chown(folder, "postgres")
-        settings = ["--auth-local=peer", "--auth-host=scram-sha-256"] if is_debian else ["-A", "trust"]
-        self.call("initdb", *settings, "-D", "data", "--no-sync")
-        if is_debian and self.name:
-            put_first(f"{folder}/data/pg_hba.conf", f"local all {self.name} peer map=check\n")
-            put_first(f"{folder}/data/pg_ident.conf", f"check root {self.name}\ncheck {self.name} {self.name}\n")
-        self.start(*([f"listen_addresses=127.0.0.1 -c port={self.port}"] if is_debian else []))
-
-    def call(self, command, *arguments):
-        """Runs one of the server's commands."""
-        with open(f"{self.folder}/log", "ab") as log:
-            whole = [*self.user, f"{BINS[-1]}/{command}", *arguments]
-            subprocess.run(whole, cwd=self.folder, stdout=log, stderr=log, check=False)
-
-    def start(self, *settings):
-        """Starts it, with these settings."""
-        options = " -c ".join([f"-k {self.folder}", "listen_addresses=", "fsync=off", *settings])
-        self.call("pg_ctl", "-D", "data", "-w", "-t", f"{LIMIT}", "-o", options, "-l", "server.log", "start")
-
-    def restart(self, *settings):
-        """Ends its sessions, and starts it with these settings."""
-        self.call("pg_ctl", "-D", "data", "-w", "-t", f"{LIMIT}", "-m", "fast", "stop")
-        self.start(*settings)
-
-    def stop(self):
-        """Stops it at once, as a loss of power does."""
-        self.call("pg_ctl", "-D", "data", "-t", f"{LIMIT}", "-m", "immediate", "stop")
-
-    def url(self, database):
-        """The connection string of a database."""
-        return f"host={self.folder} port={self.port} dbname={database}" + (f" user={self.name}" if self.name else "")
-
-    def connect(self, database):
-        """A session in which each statement is committed."""
-        for _ in range(10 * LIMIT):
-            try:
-                connection = psycopg2.connect(self.url(database))
-                connection.autocommit = True
-                return connection
-            except psycopg2.OperationalError:
-                time.sleep(0.1)
-        fail("the server does not answer")
-
-    def psql(self, database, *arguments):
-        """Runs psql."""
-        environment = {**os.environ, "PGOPTIONS": "-c client_min_messages=warning"}
-        command = [f"{BINS[-1]}/psql", "-AtXq", "-v", "ON_ERROR_STOP=1", *arguments, self.url(database)]
-        subprocess.run(command, check=True, env=environment, stdout=subprocess.DEVNULL)
-
-
-def free_port():
-    """A port of this machine that nobody listens on."""
-    with socket.socket() as one:
-        one.bind(("127.0.0.1", 0))
-        return one.getsockname()[1]
-
-
-def put_first(name, text):
-    """Puts lines before those of a file."""
-    with open(name, encoding="utf-8") as file:
-        text += file.read()
-    with open(name, "w", encoding="utf-8") as file:
-        file.write(text)
 
 
 def fail(text):

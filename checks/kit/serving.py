@@ -1,6 +1,5 @@
 """A service that is started for a test, five writers that send to it, and what has to be true whatever was killed."""
 import contextlib
-import glob
 import os
 import queue
 import random
@@ -189,41 +188,6 @@ def has_connected(to, name, until):
             raise
         return False
     return True
-
-
-class Database:
-    """A server of PostgreSQL in a folder."""
-
-    bins = sorted(glob.glob("/usr/lib/postgresql/*/bin"))
-
-    def __init__(self, folder):
-        self.folder = folder
-        self.user = ["setpriv", "--reuid", "postgres", "--regid", "postgres", "--clear-groups"] if os.getuid() == 0 else []
-        os.makedirs(folder)
-        if self.user:
-            os.chmod(os.path.dirname(folder), 0o755)
-            shutil.chown(folder, "postgres")
-        self.url = f"postgresql://postgres@/postgres?host={folder}"
-        self.run("initdb", "-A", "trust", "-U", "postgres", "-D", f"{folder}/data", "--no-sync")
-        self.start()
-
-    def run(self, name, *words):
-        subprocess.run([*self.user, f"{self.bins[-1]}/{name}", *words], check=True, stdout=subprocess.DEVNULL, cwd=self.folder)
-
-    def start(self):
-        options = f"-c listen_addresses='' -c unix_socket_directories={self.folder} -c fsync=off"
-        self.run("pg_ctl", "-D", f"{self.folder}/data", "-w", "-t", f"{LIMIT}", "-o", options, "-l", f"{self.folder}/log", "start")
-
-    def stop(self):
-        self.run("pg_ctl", "-D", f"{self.folder}/data", "-t", f"{LIMIT}", "-m", "immediate", "stop")
-
-    def rows(self, query="select name, answer from published"):
-        """The rows of a query, as lines."""
-        import psycopg2
-        connection = psycopg2.connect(self.url)
-        with contextlib.closing(connection), connection.cursor() as cursor:
-            cursor.execute(query)
-            return [",".join(map(str, row)) for row in cursor]
 
 
 class Manager:
