@@ -36,6 +36,7 @@ import time  # noqa: E402
 
 USAGE, STREAM, INTERRUPTED = 2, 3, 130
 SECONDS = 5.0  # between two reports of progress
+LEAST = 0.001  # of an argument that is a number above zero
 MADE: Set[str] = set()  # files and folders that are removed if the tool is terminated
 
 
@@ -99,6 +100,12 @@ def number_of(what: str, least: float, most: float) -> Callable[[str], float]:
         return value
 
     return number
+
+
+def percent(least: float = 0.0) -> Callable[[str], float]:
+    """An argument that is a percentage of at least this one, as `2%` or `2`: the share that it is."""
+    number = number_of("percent", least, 100)
+    return lambda text: number(text[:-1] if text.endswith("%") else text) / 100
 
 
 def whole_number(least: int) -> Callable[[str], int]:

@@ -7,7 +7,7 @@
 import bisect
 import math
 from collections import Counter, deque
-from typing import Callable, Deque, Dict, Iterable, Iterator, List, NamedTuple, Sequence, Set, Tuple
+from typing import Deque, Dict, Iterable, Iterator, List, NamedTuple, Sequence, Set, Tuple
 
 from .command import Failure
 from .geo import METRES, Degrees, between, degrees, distance
@@ -41,27 +41,6 @@ class Limits(NamedTuple):
     def slack(self, length: float) -> float:
         """How many decimetres longer or shorter than a road of this length the same one may be."""
         return max(length * self.length, 10 * self.more)
-
-
-def percent(text: str) -> float:
-    """A share, given as a percentage."""
-    value = float(text[:-1] if text.endswith("%") else text)
-    if not 0 <= value <= 100:
-        raise ValueError
-    return value / 100
-
-
-def above_zero(number: Callable[[str], float]) -> Callable[[str], float]:
-    """A number of this kind that is greater than zero."""
-
-    def positive(text: str) -> float:
-        value = number(text)
-        if not 0 < value < math.inf:
-            raise ValueError
-        return value
-
-    positive.__name__ = "positive"
-    return positive
 
 
 def place_fields(place: Sequence[int]) -> str:
