@@ -146,10 +146,10 @@ Hit = Tuple[int, float]  # a section, and how many metres to the left of the cou
 
 
 class Sections:
-    """The sections across a course, in a grid."""
+    """The sections across a course, about so many metres apart, in a grid."""
 
-    def __init__(self, course: Polyline) -> None:
-        count = max(4, round(course.length / STEP))
+    def __init__(self, course: Polyline, step: float = STEP) -> None:
+        count = max(4, round(course.length / step))
         self.step = course.length / count
         self.at = [(k + 0.5) * self.step for k in range(count)]
         self.tangents: List[Tuple[float, float, float, float]] = []

@@ -1,16 +1,10 @@
-"""Sections across a course, every few metres as in `roads`, and where lines pass them."""
+"""Where lines pass the sections across a course."""
 from __future__ import annotations
 
-import itertools
-import math
-from typing import Iterator, List, NamedTuple, Sequence, Tuple
+from typing import List, NamedTuple, Sequence, Tuple
 
 from ..courses import Polyline
-from ..grid import Grid
-from ..roads import SLANT, STEP
-
-CELL = 64.0  # metres
-Place = Tuple[float, float]
+from ..roads import SLANT, Sections
 
 
 class Pass(NamedTuple):
@@ -22,33 +16,16 @@ class Pass(NamedTuple):
     left: float
 
 
-class Across:
-    """The sections across a course, about so many metres apart: of each the position, the point, and the direction as a vector."""
-
-    def __init__(self, course: Polyline, step: float = STEP) -> None:
-        count = max(4, round(course.length / step))
-        self.step = course.length / count
-        self.at = [(k + 0.5) * self.step for k in range(count)]
-        both = course.every(self.step / 2, 2 * count)
-        self.points, self.directions = both[1::2], list(map(unit, both[:-1:2], both[2::2]))
-        self.grid: Grid[int] = Grid(CELL)
-        for k, it in enumerate(self.points):
-            self.grid.add(it, k)
-
-    def near(self, a: Place, b: Place, reach: float) -> Iterator[int]:
-        """The sections that a segment may pass."""
-        low, right = sorted((a[0], b[0]))
-        bottom, top = sorted((a[1], b[1]))
-        return itertools.chain.from_iterable(self.grid.within(low - reach, bottom - reach, right + reach, top + reach))
+class Across(Sections):
+    """The sections across a course, and where a line passes them."""
 
     def passes(self, line: Polyline, reach: float) -> List[Pass]:
-        """Where a line passes the sections within a distance."""
+        """Where a line passes the sections within a distance, of at most that of LEFTS."""
         found: List[Pass] = []
-        points, directions = self.points, self.directions
         for i, (a, b) in enumerate(zip(line.points, line.points[1:])):
             begin, long, (ax, ay), (bx, by) = line.far[i], line.far[i + 1] - line.far[i], a, b
-            for k in self.near(a, b, reach):
-                (x, y), (east, north) = points[k], directions[k]
+            for k in self.near(a, b):
+                x, y, east, north = self.tangents[k]
                 before = (ax - x) * east + (ay - y) * north
                 if before > 0:
                     continue
@@ -60,12 +37,6 @@ class Across:
                 if abs(left) <= reach:
                     found.append(Pass(k, begin + share * long, left))
         return found
-
-
-def unit(a: Place, b: Place) -> Place:
-    """The direction from one point to another."""
-    far = math.dist(a, b) or 1.0
-    return (b[0] - a[0]) / far, (b[1] - a[1]) / far
 
 
 def chain(passes: Sequence[Pass], most: float, step: float) -> List[Pass]:

@@ -99,13 +99,13 @@ class Pair:
 
     def normal(self, section: int) -> Vector:
         """The direction to the left of a section."""
-        east, north = self.across.directions[section]
+        _, _, east, north = self.across.tangents[section]
         return -north, east
 
     def seen(self, most: float) -> List[Seen]:
         """How far to the left the other course is, at the sections that it passes once within a distance."""
         times = Counter(it.section for it in self.passes)
-        return [Seen(self.plane.degrees(self.across.points[it.section]), self.normal(it.section), it.left)
+        return [Seen(self.plane.degrees(self.across.tangents[it.section][:2]), self.normal(it.section), it.left)
                 for it in self.passes if times[it.section] == 1 and abs(it.left) <= most]
 
 
