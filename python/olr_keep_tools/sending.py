@@ -5,7 +5,7 @@
 import contextlib
 import re
 import socket
-from typing import Dict, List, NamedTuple, Optional, Tuple, Union
+from typing import Dict, List, NamedTuple, Optional, Sequence, Tuple, Union
 
 from .command import INTERRUPTED, STREAM, Failure, say
 from .drawn import Junctions
@@ -39,7 +39,7 @@ class InputRecord(NamedTuple):
 Step = List[InputRecord]
 
 
-def encoded(records: List[InputRecord]) -> bytes:
+def encoded(records: Sequence[InputRecord]) -> bytes:
     """Records as they are sent."""
     return "".join(f"{it.text}\n" for it in records).encode("utf-8", "surrogateescape")
 
@@ -175,20 +175,19 @@ class Sender:
         if len(step) == 1:
             self.ask(step)
             return
-        begin, *changes, last = step
-        self.open(begin)
-        for first in range(0, len(changes), AT_ONCE):
-            self.ask(changes[first : first + AT_ONCE])
-        self.ask([last])
+        self.open(*step[:-1])
+        self.ask(step[-1:])
         self.is_open = False
 
-    def open(self, begin: InputRecord) -> None:
-        """Opens a batch."""
+    def open(self, begin: InputRecord, *changes: InputRecord) -> None:
+        """Opens a batch, and sends its changes."""
         self.is_open, self.held = True, 0
         reply = self.answer(begin)
         if not reply.accepted:
             self.is_open = False
             self.stop(*self.cause_of(begin, reply))
+        for first in range(0, len(changes), AT_ONCE):
+            self.ask(changes[first : first + AT_ONCE])
 
     def answer(self, record: InputRecord) -> Reply:
         """The reply to one record."""
@@ -211,7 +210,7 @@ class Sender:
             raise ProgramFailed(f"{reply.head} is no reply to {record.text[:80]}")
         return reply
 
-    def ask(self, records: List[InputRecord]) -> None:
+    def ask(self, records: Sequence[InputRecord]) -> None:
         """Sends records, reads all their replies, and prints those of questions and of what takes effect."""
         self.target.send(encoded(records))
         rejected, answers = [], []
@@ -311,10 +310,7 @@ class Previewer(Sender):
         if len(all_steps) != 1 or len(all_steps[0]) == 1:
             raise Failure(STREAM, "--preview takes the changes of one batch, and no questions")
         (self.step,) = all_steps
-        begin, *changes, _ = self.step
-        self.open(begin)
-        for first in range(0, len(changes), AT_ONCE):
-            self.ask(changes[first : first + AT_ONCE])
+        self.open(*self.step[:-1])
         asked = InputRecord(0, "preview")
         reply = self.answer(asked)
         if not reply.accepted:
