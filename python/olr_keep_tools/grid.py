@@ -62,8 +62,8 @@ def consecutive(numbers: Sequence[int]) -> Iterator[Tuple[int, int]]:
         yield numbers[first], numbers[last - 1]
 
 
-def boxes_of(cells: Iterable[Cell]) -> Iterator[Box]:
-    """The boxes of cells in degrees. In a square of RUN cells on a side, rows that have the same cells have one box."""
+def boxes_of(cells: Iterable[Cell], size: float) -> Iterator[Box]:
+    """The boxes of cells of this size. In a square of RUN cells on a side, rows that have the same cells have one box."""
     squares: Dict[Cell, Dict[int, List[int]]] = defaultdict(lambda: defaultdict(list))
     for y, x in sorted([(y, x) for x, y in cells]):
         squares[x // RUN, y // RUN][y].append(x)
@@ -74,7 +74,7 @@ def boxes_of(cells: Iterable[Cell]) -> Iterator[Box]:
                 same[run].append(y)
         for (west, east), several in same.items():
             for south, north in consecutive(several):
-                yield west * CELL, south * CELL, (east + 1) * CELL, (north + 1) * CELL
+                yield west * size, south * size, (east + 1) * size, (north + 1) * size
 
 
 class Grid(Generic[Content]):

@@ -257,7 +257,7 @@ class Reading(unittest.TestCase):
     def test_merged(self) -> None:
         boxes = merged([(6.1001, 49.6001, 6.1002, 49.6002), (6.1, 49.6, 6.1049, 49.6001), (6.1049, 49.6, 6.1051, 49.6001)])
         self.assertEqual([tuple(round(side, 4) for side in it) for it in boxes],
-                         [(6.1, 49.6, 6.105, 49.605), (6.105, 49.6, 6.11, 49.605)])
+                         [(6.1, 49.6, 6.11, 49.605)])
 
     def test_two_rows_are_unfit(self) -> None:
         self.assertEqual(changed(1, [self.row(), self.row()]).street, Unfit("another street has the same id", degrees(0)))
@@ -555,9 +555,9 @@ class Grids(unittest.TestCase):
 
     def test_boxes(self) -> None:
         given = [(1, 5), (2, 5), (4, 5), (1, 6), (1, 7), (2, 7), (7, 5), (8, 5), (1, 8), (-1, 5)]
-        self.assertEqual(sorted(boxes_of(given)), sorted((it[0] * CELL, it[1] * CELL, it[2] * CELL, it[3] * CELL) for it in (
+        self.assertEqual(sorted(boxes_of(given, CELL)), sorted((it[0] * CELL, it[1] * CELL, it[2] * CELL, it[3] * CELL) for it in (
             (1, 5, 3, 6), (4, 5, 5, 6), (1, 6, 2, 7), (1, 7, 3, 8), (7, 5, 8, 6), (8, 5, 9, 6), (1, 8, 2, 9), (-1, 5, 0, 6))))
-        self.assertEqual(list(boxes_of([(x, y) for x in range(8) for y in range(8)])), [(0, 0, 8 * CELL, 8 * CELL)])
+        self.assertEqual(list(boxes_of([(x, y) for x in range(8) for y in range(8)], CELL)), [(0, 0, 8 * CELL, 8 * CELL)])
         self.assertEqual(list(consecutive([1, 2, 3, 5, 7, 8])), [(1, 3), (5, 5), (7, 8)])
 
 

@@ -8,9 +8,9 @@ import time
 from typing import TYPE_CHECKING, Any, Callable, Dict, List, NamedTuple, Optional, Set
 
 from ..command import say
+from ..grid import Cell
 from ..records import Margin
 from . import session
-from .cells import Cell
 from .draft import Draft, DraftSettings, write_report
 from .first import FirstLoad, is_first
 from .map import AHEAD, LAST, Affected, MapUpdate, Numbers, write_all_open_ends

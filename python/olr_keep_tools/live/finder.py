@@ -150,7 +150,7 @@ class Finder:
         if cells:
             self.ask(f"""select {ONE_WAY} from {BOXES} cross join lateral (
                 select * from olr_keep.line where geom && ST_MakeEnvelope(w, s, e, n, 4326) offset 0
-            ) as line join olr_keep.street on street.street = line.street""", sides_of(boxes_of(cells)))
+            ) as line join olr_keep.street on street.street = line.street""", sides_of(boxes_of(cells, CELL)))
             self.unused += self.cursor.fetchall()
             self.cells |= cells
         self.read_beside(new)

@@ -6,9 +6,10 @@ from copy import copy as copy_of
 from typing import Any, Callable, Collection, Dict, Iterable, List, Optional, Set, Tuple
 
 from ..geo import METRES
+from ..grid import Box, Cell
 from ..sql import ESCAPES, copy, copy_lines, number_array, point, point_hex, text_array, update
 from ..streets import Cut, Made, Old, Parts, Recut, Street, degrees, wkb_hex
-from .cells import Box, Cell, cell_of
+from .cells import cell_of
 from .read import Block
 
 FEW = 100  # changed streets up to which each is sought among those of the paths by an index

@@ -13,7 +13,7 @@ from ..reasons import in_words
 from ..roads import nearby, restored, stored
 from ..sql import Course, Place, coordinates, copy, course_hex, number_array, places_hex, point, text_array, update
 from .cells import merged
-from .finder import Finder, Unread
+from .finder import Finder, Unread, sides_of
 from .map import FEW, Affected
 from .pathsearch import Known, PathSearch, PathState, Placement, Remark, Wanted
 from .read import Change
@@ -173,8 +173,7 @@ class PathsUpdate:
             marked = text_array(mark + it for it in keys for mark in ("", "<", ">"))
             self.cursor.execute(OVER_OPEN, (marked, marked))
         names = {it for (it,) in self.cursor}
-        sides = [[f"{it:.7f}" for it in side] for side in zip(*(boxes if len(boxes) <= MOST_BOXES else merged(boxes)))] or [[]] * 4
-        self.cursor.execute(NEAR_OPEN, [number_array(it) for it in sides])
+        self.cursor.execute(NEAR_OPEN, sides_of(boxes if len(boxes) <= MOST_BOXES else merged(boxes)) or 4 * ["{}"])
         return names | {it for (it,) in self.cursor}
 
     def read_search(self, names: Sequence[str]) -> PartSearch:

@@ -4,9 +4,10 @@ from __future__ import annotations
 import enum
 from typing import Any, Container, Dict, Iterable, Iterator, List, Mapping, NamedTuple, Optional, Sequence, Set, Tuple, Union
 
+from ..grid import Cell, around
 from ..sql import point, psycopg2, text_array
 from ..streets import Place, Street, Unfit, degrees, first_place, street_of
-from .cells import NEAR, Cell, around
+from .cells import NEAR
 from .session import LATER, LONGEST_ID, Readable, Savepoint, Source, SourceTable, first_line, margins, row_query
 
 BLOCK = 4000  # streets that are read and cut at once

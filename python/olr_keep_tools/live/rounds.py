@@ -6,8 +6,9 @@ import enum
 import math
 from typing import Any, Collection, Dict, Iterable, List, Mapping, NamedTuple, Optional, Set, Tuple
 
+from ..grid import Cell, around
 from ..sql import coordinates, copy, number_array, text_array, update
-from .cells import NEAR, Cell, around, cell_of
+from .cells import NEAR, cell_of
 from .map import MOST_CELLS, Affected, Numbers
 from .paths import Cause, PathsUpdate, write_path_problems
 from .read import Change
