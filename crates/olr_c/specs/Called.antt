@@ -9,8 +9,8 @@ use Rattle.olr_register.specs.Registered.{Registered, nothing_registered}
 use Rattle.olr_run.specs.Output.{Claims, records_of}
 use Rattle.olr_run.specs.Runs.{EndedOn}
 use Rattle.olr_input.specs.declared.ends.RunFault.{RunFault}
-use Rattle.olr_input.specs.declared.ends.Status.{Status}
-use Rattle.olr_input.specs.declared.ends.Status.TheVariants as status
+use Rattle.olr_run.specs.declared.statuses.Status.{Status}
+use Rattle.olr_run.specs.declared.statuses.Status.TheVariants as status
 use Rattle.olr_c.specs.declared.keep.Keep.{Keep}
 
 abbrev pub code_of : Result Status RunFault → ℕ

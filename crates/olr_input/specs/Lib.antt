@@ -1,7 +1,6 @@
 pub mod Sessions
 pub mod Machine
 pub mod InMemory
-pub mod Statuses
 pub mod Buffers
 pub mod Lines
 pub mod Blocks

@@ -1,5 +1,4 @@
-//! Sessions: records taken from a reader or from bytes in memory, and texts written to an output. Also how a run ends,
-//! and its exit status.
+//! Sessions: records taken from a reader or from bytes in memory, and texts written to an output.
 #![tactic(auto)]
 
 mod blocks;
@@ -22,7 +21,7 @@ mod unstored;
 mod whole;
 
 pub use buffered::Buffered;
-pub use ends::{RunFault, Status, end_status, exit_code, report_fault};
+pub use ends::RunFault;
 pub use gate::{Gate, LogFault};
 pub use in_memory::InMemory;
 pub use inputs::Input;

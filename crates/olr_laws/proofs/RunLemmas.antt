@@ -26,7 +26,7 @@ use Rattle.olr_run.specs.Logged.{Accepted, closed, Leads}
 use Rattle.olr_commands.specs.History.{Run}
 use Rattle.std.proofs.lemmas.List.Concat.{flat_map-append}
 use Rattle.olr_run.specs.Ends.{FromLog, Not_begun, Begun}
-use Rattle.olr_input.specs.declared.ends.Status.{Status}
+use Rattle.olr_run.specs.declared.statuses.Status.{Status}
 use Rattle.olr_run.proofs.RunLemmas.{claims_of, sound_after}
 use Rattle.olr_input.specs.Buffers.{written}
 use Rattle.olr_input.specs.Journals.{Only}

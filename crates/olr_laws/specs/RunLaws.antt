@@ -10,8 +10,8 @@ use Rattle.olr_records.specs.Recorded.{has_record, HaveRecords, Recorded, IsReco
 use Rattle.csv.specs.Machine.{next_record}
 use Rattle.csv.specs.declared.parser.State.{State as CsvState}
 use Rattle.olr_commands.specs.Reply.{Outcome, may_lack}
-use Rattle.olr_input.specs.declared.ends.Status.{Status}
-use Rattle.olr_input.specs.declared.ends.Status.TheVariants as status
+use Rattle.olr_run.specs.declared.statuses.Status.{Status}
+use Rattle.olr_run.specs.declared.statuses.Status.TheVariants as status
 use Rattle.olr_run.specs.Output.{RecordOutcome, Outcomes, Ran, AllHadMemory, records_of, Builds}
 use Rattle.olr_records.specs.ReplyText.{outcome_text, fault_text}
 use Rattle.olr_input.specs.LineRecords.{HasNoEnd, EachIs, is_rejected, line_record, line_records, lines_of}

@@ -6,7 +6,7 @@ ghost use Rattle.clap.specs.declared.error.kind.ErrorKind.TheVariants as kind;
 ghost use Rattle.olr_commands.specs.State.{start_state};
 ghost use Rattle.olr_run.specs.Options.{keep_app, options};
 ghost use Rattle.olr_run.specs.Sizes.{IsSize, NoSize};
-ghost use Rattle.olr_input.specs.declared.ends.Status.TheVariants as status;
+ghost use Rattle.olr_run.specs.declared.statuses.Status.TheVariants as status;
 ghost use Rattle.olr_run.specs.Output.{records_of, Outcomes, Ran, Faulted};
 ghost use Rattle.olr_input.specs.declared.ends.RunFault.TheVariants as fault;
 ghost use Rattle.olr_input.specs.LineRecords.{formless, line_records};

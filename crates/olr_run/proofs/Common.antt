@@ -27,12 +27,12 @@ pub use Rattle.olr_input.specs.Journals.{IsFront, Only, is_empty}
 pub use Rattle.olr_input.specs.LoggedRuns.{Concludes, LogHappens}
 pub use Rattle.olr_input.specs.Sessions.{Answer, Compacted, Given, HasNone, Lacking, Replacement, TakesOne, Unasked, Cut, Ended}
 pub use Rattle.olr_input.specs.Sessions.{Event, History, IsOfTaking, Known, Not_sent, Not_taken, Took, Wrote}
-pub use Rattle.olr_input.specs.Statuses.{exit_code}
+pub use Rattle.olr_run.specs.Statuses.{exit_code}
 pub use Rattle.olr_input.specs.StoredLines.{Waiting, effect_of, has_line}
 pub use Rattle.olr_input.specs.Unstored.{next_line, waiting}
 pub use Rattle.olr_input.specs.declared.buffered.Buffered.{Buffered}
 pub use Rattle.olr_input.specs.declared.ends.RunFault.{RunFault}
-pub use Rattle.olr_input.specs.declared.ends.Status.{Status}
+pub use Rattle.olr_run.specs.declared.statuses.Status.{Status}
 pub use Rattle.olr_input.specs.declared.gate.Gate.{Gate}
 pub use Rattle.olr_input.specs.declared.in_memory.InMemory.{InMemory}
 pub use Rattle.olr_input.specs.declared.unstored.Effect.{Effect}

@@ -17,7 +17,7 @@ use Rattle.olr_run.specs.Runs as runs
 use Rattle.olr_run.proofs.RunLemmas.{claims_of, none_claimed}
 use Rattle.olr_run.proofs.Running.{represented, stopped_is}
 use Rattle.olr_run.specs.Output as output
-use Rattle.olr_input.specs.declared.ends.Status.TheVariants as ended
+use Rattle.olr_run.specs.declared.statuses.Status.TheVariants as ended
 use Rattle.olr_input.specs.declared.ends.RunFault.TheVariants as fault
 
 -- ---- answers

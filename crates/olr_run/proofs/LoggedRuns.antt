@@ -17,7 +17,7 @@ use Rattle.olr_run.proofs.Sending.{Then, ended_sent}
 use Rattle.olr_run.proofs.Logging.{Going, HoldsBatch, Logs, LogsSome, logs_pass, logs_same, logs_conclude, logs_longer, logs_compact}
 use Rattle.olr_run.proofs.Logging.{fresh, survives_only, up_on, up_to_all}
 use Rattle.olr_input.specs.declared.journal.Journal as journal
-use Rattle.olr_input.specs.declared.ends.Status.TheVariants as ended
+use Rattle.olr_run.specs.declared.statuses.Status.TheVariants as ended
 use Rattle.olr_input.specs.declared.ends.RunFault.TheVariants as fault
 
 -- ---- what is written

@@ -11,7 +11,7 @@ use Rattle.olr_input.proofs.SessionLemmas.{history_join}
 use Rattle.olr_commands.specs.History.{Run}
 use Rattle.olr_run.specs.Runs as runs
 use Rattle.olr_run.proofs.RunLemmas.{sound_after, claims_of, none_claimed}
-use Rattle.olr_input.specs.declared.ends.Status.TheVariants as ended
+use Rattle.olr_run.specs.declared.statuses.Status.TheVariants as ended
 use Rattle.olr_input.specs.declared.ends.RunFault.TheVariants as fault
 
 -- ---- outcomes

@@ -25,10 +25,10 @@ use Rattle.olr_run.specs.Output.{Claims}
 use Rattle.olr_run.specs.Runs.{Records, EndedOn, records_read}
 use Rattle.olr_input.specs.Buffers.{written}
 use Rattle.olr_input.specs.Sessions.{Known}
-use Rattle.olr_input.specs.Statuses.{exit_code}
+use Rattle.olr_run.specs.Statuses.{exit_code}
 use Rattle.olr_input.specs.declared.buffered.Buffered.{Buffered}
 use Rattle.olr_input.specs.declared.ends.RunFault.{RunFault}
-use Rattle.olr_input.specs.declared.ends.Status.{Status}
+use Rattle.olr_run.specs.declared.statuses.Status.{Status}
 use Rattle.olr_input.specs.declared.gate.Gate.{Gate}
 
 -- ---- without a log

@@ -3,6 +3,7 @@ pub mod Explains
 pub mod Opens
 pub mod Sizes
 pub mod Output
+pub mod Statuses
 pub mod Runs
 pub mod Logged
 pub mod Logs

@@ -18,7 +18,7 @@ use Rattle.olr_input.specs.LoggedRuns.{GateHappens}
 use Rattle.olr_input.specs.Sessions.{Known}
 use Rattle.olr_input.specs.declared.buffered.Buffered.{Buffered}
 use Rattle.olr_input.specs.declared.ends.RunFault.{RunFault}
-use Rattle.olr_input.specs.declared.ends.Status.{Status}
+use Rattle.olr_run.specs.declared.statuses.Status.{Status}
 use Rattle.olr_input.specs.declared.gate.Gate.{Gate}
 use Rattle.olr_input.specs.declared.journal.Journal as journal
 

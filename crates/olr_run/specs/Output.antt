@@ -25,8 +25,8 @@ use Rattle.olr_records.specs.Recorded.{StaysRecorded}
 use Rattle.olr_records.specs.ReplyText.{count_line, reply_text, outcome_text}
 use Rattle.olr_input.specs.declared.ends.RunFault.{RunFault}
 use Rattle.olr_input.specs.declared.ends.RunFault.TheVariants as fault
-use Rattle.olr_input.specs.declared.ends.Status.{Status}
-use Rattle.olr_input.specs.declared.ends.Status.TheVariants as status
+use Rattle.olr_run.specs.declared.statuses.Status.{Status}
+use Rattle.olr_run.specs.declared.statuses.Status.TheVariants as status
 
 -- with commas, quotes and line ends as is csv's default, no header, and any number of fields
 abbrev pub records_of : List ℕ → List (List Field)

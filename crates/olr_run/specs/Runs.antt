@@ -31,8 +31,8 @@ use Rattle.olr_input.specs.Sessions.{Answer, Compacted, History, IsOfTaking}
 use Rattle.olr_input.specs.Sessions as event
 use Rattle.olr_input.specs.declared.ends.RunFault.{RunFault}
 use Rattle.olr_input.specs.declared.ends.RunFault.TheVariants as fault
-use Rattle.olr_input.specs.declared.ends.Status.{Status}
-use Rattle.olr_input.specs.declared.ends.Status.TheVariants as status
+use Rattle.olr_run.specs.declared.statuses.Status.{Status}
+use Rattle.olr_run.specs.declared.statuses.Status.TheVariants as status
 
 -- ---- one record
 

@@ -5,8 +5,8 @@ ghost use Rattle.olr_input.specs.Buffers.{pending, written};
 ghost use Rattle.olr_run.specs.Explains.{ExplainsFault, Shows};
 
 use crate::arguments::OptionsFault;
-use crate::statuses::WRONG_ARGUMENTS;
-use olr_input::{Buffered, RunFault, report_fault, write_all};
+use crate::statuses::{WRONG_ARGUMENTS, report_fault};
+use olr_input::{Buffered, RunFault, write_all};
 use std::alloc::Global;
 use std::fmt::Display;
 use std::io::Write;

@@ -12,8 +12,10 @@ ghost use Rattle.olr_input.specs.Sessions.{most_pending};
 use crate::loader::RestoreFault;
 use crate::logged::run_with_log;
 use crate::starts::{StartFault, begin_with};
-use crate::statuses::{IN_USE, OPEN_BATCH, REJECTED, UNUSABLE, WRONG_ARGUMENTS};
-use olr_input::{Buffered, Gate, LogFault, RunFault, Source, Status, end_status, report_fault};
+use crate::statuses::{
+    IN_USE, OPEN_BATCH, REJECTED, Status, UNUSABLE, WRONG_ARGUMENTS, end_status, report_fault,
+};
+use olr_input::{Buffered, Gate, LogFault, RunFault, Source};
 use olr_log::{Folder, LogFile, OpenError};
 use sqlite_disk::Disk;
 use std::alloc::Global;

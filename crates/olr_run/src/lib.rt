@@ -24,10 +24,8 @@ pub use files::open_file;
 pub use from_log::OpenLog;
 pub use loader::{Progress, RestoreFault, restore};
 pub use logged::run_with_log;
-pub use olr_input::{
-    Buffered, Gate, Journal, LogFault, RunFault, Session, Status, exit_code, report_fault,
-};
+pub use olr_input::{Buffered, Gate, Journal, LogFault, RunFault, Session};
 pub use records::{Scratch, run, run_bytes, run_session, run_source};
 pub use sizes::compaction_length;
-pub use statuses::WRONG_ARGUMENTS;
+pub use statuses::{Status, WRONG_ARGUMENTS, exit_code, report_fault};
 pub use streams::program;

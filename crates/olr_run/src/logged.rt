@@ -7,7 +7,8 @@ ghost use Rattle.olr_input.specs.Buffers.{pending, written};
 ghost use Rattle.olr_input.specs.Gates.{compaction};
 
 use crate::records::{Scratch, run_session};
-use olr_input::{Buffered, Gate, Journal, Logged, RunFault, Source, Status};
+use crate::statuses::Status;
+use olr_input::{Buffered, Gate, Journal, Logged, RunFault, Source};
 use olr_register::Register;
 use std::alloc::Global;
 use std::io::Write;

@@ -6,7 +6,8 @@ ghost use Rattle.olr_input.specs.Inputs.{input_records};
 ghost use Rattle.olr_run.specs.Runs.{RanIn, CutIn, EndedOn, Records};
 
 use crate::answers::{compact_log, write_outcome};
-use olr_input::{InMemory, Input, Plain, Record, RunFault, Session, Source, Status};
+use crate::statuses::Status;
+use olr_input::{InMemory, Input, Plain, Record, RunFault, Session, Source};
 use olr_register::Register;
 use std::alloc::Global;
 use std::io::{Read, Write};

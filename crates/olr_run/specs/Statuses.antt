@@ -2,8 +2,8 @@
 use Rattle.std.specs.Prelude.{ℕ, Result, Ok, Err}
 use Rattle.olr_input.specs.declared.ends.RunFault.{RunFault}
 use Rattle.olr_input.specs.declared.ends.RunFault.TheVariants as fault
-use Rattle.olr_input.specs.declared.ends.Status.{Status}
-use Rattle.olr_input.specs.declared.ends.Status.TheVariants as status
+use Rattle.olr_run.specs.declared.statuses.Status.{Status}
+use Rattle.olr_run.specs.declared.statuses.Status.TheVariants as status
 
 abbrev pub exit_code : Result Status RunFault → ℕ
 exit_code (Ok status.AllAccepted) = 0
