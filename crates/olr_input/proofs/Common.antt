@@ -7,30 +7,20 @@ pub use Rattle.csv.specs.declared.parser.Action.{Action}
 pub use Rattle.csv.specs.declared.parser.State.{State}
 pub use Rattle.memchr.specs.Find.{NoneBefore, Nowhere, Passes, is_byte, is_byte2, is_byte3}
 pub use Rattle.olr_input.specs.Blocks.{block_of, input_left}
-pub use Rattle.olr_input.specs.Gates.{LostLine, Replacement, Storing, Untouched, is_closed}
-pub use Rattle.olr_input.specs.Journals.{IsFront, MayHaveStored, Only, is_empty, is_whole, is_whole_from, stays_open}
 pub use Rattle.olr_input.specs.LineRecords.{HasNoEnd, formless, if_any, is_rejected, line_left, unmarked}
 pub use Rattle.olr_input.specs.Lines.{BetweenRecords, is_line_end}
 pub use Rattle.olr_input.specs.Machine.{csv_state, is_quoted, state_after}
-pub use Rattle.olr_input.specs.Sessions.{csv_records, AllOrFront, IsOfTaking, StaysPlain, Compacted, TakesLeft, TakesOne, HasNone}
-pub use Rattle.olr_input.specs.Sessions.{csv_left, History, IsPlain, Answer, Writes, Event, Known, Wrote, Took}
-pub use Rattle.olr_input.specs.StoredLines.{IsLineFor, Turns, effect_by, has_line, is_clean, line_of, turned, word_effect}
-pub use Rattle.olr_input.specs.declared.buffered.Buffered.{Buffered}
+pub use Rattle.olr_input.specs.Sessions.{csv_left, csv_records, AllOrFront, Event, HasNone, History, IsPlain, Known, StaysPlain, TakesLeft, TakesOne}
 pub use Rattle.olr_input.specs.declared.ends.RunFault.TheVariants.{Write}
-pub use Rattle.olr_input.specs.declared.ends.RunFault.{RunFault}
-pub use Rattle.olr_input.specs.declared.gate.Gate.{Gate}
-pub use Rattle.olr_input.specs.declared.unstored.Effect.{Effect}
-pub use Rattle.std.proofs.Common.{Bool, Err, List, None, Ok, Option, Some, [], add-one, ap, arith, codes, drop, drop-cons}
+pub use Rattle.std.proofs.Common.{Bool, Err, List, None, Ok, Option, Some, [], add-one, ap, arith, drop, drop-cons}
 pub use Rattle.std.proofs.Common.{false, get_or, get_or-drop, inl, inr, length, length-append, length-drop, length-take, map}
-pub use Rattle.std.proofs.Common.{min, not, refl, rules, subst, suc, sym, take, true, unwrap_or, vec_capacity, vec_len, zero, ℕ}
+pub use Rattle.std.proofs.Common.{min, not, refl, rules, subst, suc, sym, take, true, unwrap_or, zero, ℕ}
 pub use Rattle.std.proofs.Common.{◌++◌, ◌+◌, ◌-◌, ◌<◌, ◌==◌, ◌∙◌, ◌∷◌, ◌≡◌, ◌≢◌, ◌≤◌, ◌⊎◌}
-pub use Rattle.std.proofs.KnownBytes.{Appends-kept, Appends-nil, Appends-trans, prepend_known-nil, prepend_known-read}
+pub use Rattle.std.proofs.KnownBytes.{Appends-kept, Appends-trans, prepend_known-nil, prepend_known-read}
 pub use Rattle.std.proofs.Math.Seq.{drop-length, paste, take-add, take-length}
-pub use Rattle.std.proofs.lemmas.Bool.{and_parts, and_right, both_ways, cases_Bool, cond_both, eq-eqb, eqb-true, ne_eqb}
-pub use Rattle.std.proofs.lemmas.Bool.{not-true, or_cases}
-pub use Rattle.std.proofs.lemmas.List.{append-nil, append_assoc, drop-drop, drop-take, drop_at, length-take-le, map-append}
-pub use Rattle.std.proofs.lemmas.List.{places, take-append-drop, take-take, take_all, take_at, take_more, with_items_is}
-pub use Rattle.std.proofs.lemmas.Result.{err_from_is_err_and}
+pub use Rattle.std.proofs.lemmas.Bool.{and_parts, cases_Bool, cond_both, eqb-true, or_cases}
+pub use Rattle.std.proofs.lemmas.List.{append-nil, append_assoc, drop-drop, drop-take, map-append}
+pub use Rattle.std.proofs.lemmas.List.{places, take-append-drop, take_all, take_at, take_more, with_items_is}
 pub use Rattle.std.specs.Io.KnownBytes.{Appends, Consumes, IsAtEnd, Keeps, prepend_known}
-pub use Rattle.std.specs.List.{join_with_byte, list_any}
-pub use Rattle.std.specs.Prelude.{IfErr, IfOk, IfSome, OnErr, Result, if◌then◌else◌, is_some, option_map, slice_index, ◌&&◌}
+pub use Rattle.std.specs.List.{list_any}
+pub use Rattle.std.specs.Prelude.{IfSome, if◌then◌else◌, option_map, slice_index}

@@ -6,9 +6,4 @@ pub mod Lines
 pub mod Blocks
 pub mod LineRecords
 pub mod Inputs
-pub mod Journals
 pub mod RecordWords
-pub mod StoredLines
-pub mod Unstored
-pub mod Gates
-pub mod LoggedRuns

@@ -3,8 +3,11 @@
 --     word_in ws field      which of these words a field is
 --     word_of fields      that of a record
 --     is_edit w      whether it is that of an edit of the map
-use Rattle.std.specs.Prelude.{ℕ, Bool, true, false, List, [], ◌∷◌, codes, slice_index_or, if◌then◌else◌}
+--     word_effect fields      what a record does to a log, if it is accepted and has no line end
+use Rattle.std.specs.Prelude.{ℕ, ◌==◌, Bool, true, false, List, [], ◌∷◌, length, codes, slice_index_or, if◌then◌else◌}
 use Rattle.std.specs.Str.{bytes_eq}
+use Rattle.olr_input.specs.declared.record.Effect.{Effect}
+use Rattle.olr_input.specs.declared.record.Effect.TheVariants as effect
 use Rattle.olr_input.specs.declared.record.Word.{Word}
 use Rattle.olr_input.specs.declared.record.Word.TheVariants as word
 
@@ -52,3 +55,22 @@ is_edit word.Move = true
 is_edit word.DropLine = true
 is_edit word.DropNode = true
 is_edit w = false
+
+-- a record with this word changes the map, paths or the margin
+abbrev pub is_change : Word → Bool
+is_change word.Path = true
+is_change word.SetPath = true
+is_change word.DropPath = true
+is_change word.SetMargin = true
+is_change w = is_edit w
+
+-- by the word of a record, and whether it stands alone
+abbrev pub effect_by : Word → Bool → Effect
+effect_by word.Begin true = effect.Begin
+effect_by word.Commit false = effect.Commit
+effect_by word.Abort alone = effect.Abort
+effect_by word.Compact true = effect.Compact
+effect_by w alone = if is_change w then effect.Change else effect.Nothing
+
+abbrev pub word_effect : List (List ℕ) → Effect
+word_effect fields = effect_by (word_of fields) (length fields == 1)

@@ -35,7 +35,7 @@ fn send<W: Write>(device: &mut W, bytes: &[u8]) -> usize
 }
 
 /// Removes the first bytes.
-pub(crate) fn remove_front(bytes: &mut Vec<u8>, count: usize)
+pub fn remove_front(bytes: &mut Vec<u8>, count: usize)
     requires { count ≤ vec_len bytes.old }
     ensures { bytes.new.items ≡ drop count bytes.old.items }
 {
@@ -49,8 +49,7 @@ const MOST_PENDING: usize = 1 << 16;
 
 impl<W: Write + Drop> Buffered<W> {
     ghost use Rattle.std.specs.Prelude.{◌++◌, ◌||◌, not, is_ok, false, IsTrue, IfErr, OnErr};
-    ghost use Rattle.olr_input.specs.Journals.{is_empty};
-    ghost use Rattle.olr_input.specs.Buffers.{pending, written, Sends};
+    ghost use Rattle.olr_input.specs.Buffers.{is_empty, pending, written, Sends};
 
     /// An output to this device. Every byte that it will hold has its place from the start.
     pub fn new(alloc: Global, device: W) -> Result<Buffered<W>, AllocError>
@@ -66,7 +65,7 @@ impl<W: Write + Drop> Buffered<W> {
 
     /// Holds bytes back, and returns how many. Takes nothing of a text for which there is no room beside others, so that
     /// texts leave whole if they are no longer than the room for all. `Write` is the fault if an allocation fails.
-    pub(crate) fn hold(&mut self, bytes: &[u8]) -> Result<usize, RunFault>
+    pub fn hold(&mut self, bytes: &[u8]) -> Result<usize, RunFault>
         ensures bound { IfOk result (λ n. n ≤ length bytes.now) }
         ensures pending { IfOk result (λ n. pending self.new ≡ pending self.old ++ take n bytes.now) }
         ensures nothing { OnErr result (pending self.new ≡ pending self.old) }

@@ -6,7 +6,7 @@ ghost use Rattle.olr_input.specs.Lines.{has_line, is_line_end, HasLinesUpTo};
 use memchr::{memchr, memchr2, memchr3, memrchr2};
 
 /// Whether a byte ends a record outside of quotes.
-pub(crate) fn ends_line(byte: u8) -> bool
+pub fn ends_line(byte: u8) -> bool
     ensures { result ≡ is_line_end byte }
 {
     byte == b'\n' || byte == b'\r'

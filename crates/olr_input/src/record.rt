@@ -1,4 +1,4 @@
-//! A record, and the command that it names.
+//! A record, the command that it names, and what it does to a log.
 
 ghost use Rattle.std.specs.Prelude.{◌≡◌, [], slice_index_or};
 ghost use Rattle.std.specs.Str.{bytes_eq};
@@ -66,6 +66,23 @@ pub enum Word {
     Unknown,
 }
 
+/// What a record does to a log, if it is accepted.
+#[derive(Clone, Copy, PartialEq, Eq)]
+pub enum Effect {
+    /// Nothing: it is a question, or no command has its form.
+    Nothing,
+    /// It changes the map, the paths or the margin, at once or in the open batch.
+    Change,
+    /// It opens a batch.
+    Begin,
+    /// It accepts the changes of the batch.
+    Commit,
+    /// It drops them.
+    Abort,
+    /// The log is to be replaced.
+    Compact,
+}
+
 /// Whether a field is this text, byte by byte: words are short, and `==` of slices is made for longer ones. With equal lengths no
 /// byte needs a test for the end.
 fn is(field: &[u8], text: &[u8]) -> bool
@@ -131,6 +148,25 @@ pub fn word_of(fields: &ByteRecord) -> Word
     word_in(field(fields, 0))
 }
 
+/// Whether a word is that of a record that changes the map, the paths or the margin.
+fn is_change(word: Word) -> bool
+    ensures { result ≡ words.is_change word }
+{
+    matches!(
+        word,
+        Word::Line
+            | Word::Node
+            | Word::SetLine
+            | Word::Move
+            | Word::DropNode
+            | Word::DropLine
+            | Word::Path
+            | Word::SetPath
+            | Word::DropPath
+            | Word::SetMargin
+    )
+}
+
 /// A record with its word, which is found once.
 #[derive(Drop)]
 pub struct Record {
@@ -164,9 +200,24 @@ impl Record {
         self.word
     }
 
+    /// What it does to a log, if it is accepted, by its word and whether that stands alone.
+    pub fn effect(&self) -> Effect
+        ensures { result ≡ words.word_effect (fields_of self.now.fields) }
+    {
+        let alone = self.fields.len() == 1;
+        match self.word {
+            Word::Begin if alone => Effect::Begin,
+            Word::Commit if !alone => Effect::Commit,
+            Word::Abort => Effect::Abort,
+            Word::Compact if alone => Effect::Compact,
+            word if is_change(word) => Effect::Change,
+            _ => Effect::Nothing,
+        }
+    }
+
     /// Takes the next record of a source. Returns false if there is none. After a fault it may have any fields.
     #[inline(always)]
-    pub(crate) fn take_from<S: Source>(&mut self, source: &mut S) -> Result<bool, RunFault>
+    pub fn take_from<S: Source>(&mut self, source: &mut S) -> Result<bool, RunFault>
         ensures { TakesLeft (S.left source.old) (S.left source.new) (S.failed source.new) result (fields_of self.new.fields) }
     {
         let taken = source.next(&mut self.fields);

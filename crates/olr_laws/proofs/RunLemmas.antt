@@ -29,7 +29,7 @@ use Rattle.olr_run.specs.Ends.{FromLog, Not_begun, Begun}
 use Rattle.olr_run.specs.declared.statuses.Status.{Status}
 use Rattle.olr_run.proofs.RunLemmas.{claims_of, sound_after}
 use Rattle.olr_input.specs.Buffers.{written}
-use Rattle.olr_input.specs.Journals.{Only}
+use Rattle.olr_log.specs.Journals.{Only}
 use Rattle.olr_input.specs.declared.buffered.Buffered.{Buffered}
 use Rattle.olr_laws.specs.LogLaws.{dropping, dropped, NextContinues, HasBegun, IsHonest, TwoRuns}
 use Rattle.olr_log.specs.declared.folder.Folder as folder

@@ -15,7 +15,7 @@ use Rattle.olr_run.specs.Logged.{closed, UpTo}
 use Rattle.olr_run.specs.Output.{Claims, SoundOutcomes, texts}
 use Rattle.olr_run.specs.Ends.{FromLog, Not_begun, Begun}
 use Rattle.olr_input.specs.Buffers.{pending, written}
-use Rattle.olr_input.specs.Journals.{Only}
+use Rattle.olr_log.specs.Journals.{Only}
 use Rattle.olr_input.specs.Sessions.{Known}
 use Rattle.olr_input.specs.declared.buffered.Buffered.{Buffered}
 

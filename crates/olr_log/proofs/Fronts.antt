@@ -1,5 +1,6 @@
 -- The longest front that counts.
-use Rattle.olr_log.proofs.Common.{empty_snoc, whole_join, ◌≡◌, ◌⊎◌, inl, inr, ℕ, zero, suc, ◌+◌, ◌-◌, ◌≤◌, ◌<◌, Bool, true}
+use Rattle.olr_log.proofs.StoredLines.{empty_snoc, whole_join}
+use Rattle.olr_log.proofs.Common.{◌≡◌, ◌⊎◌, inl, inr, ℕ, zero, suc, ◌+◌, ◌-◌, ◌≤◌, ◌<◌, Bool, true}
 use Rattle.olr_log.proofs.Common.{false, List, [], ◌∷◌, ◌++◌, length, take, drop, get_or, refl, sym, ◌∙◌, ap, arith}
 use Rattle.olr_log.proofs.Common.{length-append, append_assoc, ◌==◌, ◌&&◌, not, if◌then◌else◌, bytes_eq, append-nil}
 use Rattle.olr_log.proofs.Common.{take-append-le, cases_Bool, cases_eq, and_parts, and_left, cond-true, cond-false, is_whole}

@@ -1,4 +1,10 @@
 mod Common
+pub mod StoredLines
+pub mod Parts
+pub mod Passing
+pub mod LoggedEvents
+pub mod WholeTexts
+pub mod Compacting
 pub mod Fronts
 pub mod Padding
 pub mod Behind

@@ -3,7 +3,8 @@ use Rattle.olr_log.proofs.Common.{◌≡◌, ℕ, suc, ◌+◌, ◌≤◌, ◌<�
 use Rattle.olr_log.proofs.Common.{◌∙◌, ap, subst, arith, length-append, length-take, append_assoc, ◌==◌, ◌&&◌, ◌||◌, not}
 use Rattle.olr_log.proofs.Common.{if◌then◌else◌, codes, bytes_eq, take-append-le, take-take, take_all, and_left, and_right}
 use Rattle.olr_log.proofs.Common.{cond-true, cond-false, ne_eqb, is_whole_from, stays_open, is_empty, counts, ends_blank}
-use Rattle.olr_log.proofs.Common.{ends_blank_behind, longest_front, StandsAt, Scanned, empty_snoc}
+use Rattle.olr_log.proofs.Common.{ends_blank_behind, longest_front, StandsAt, Scanned}
+use Rattle.olr_log.proofs.StoredLines.{empty_snoc}
 use Rattle.olr_log.specs.Texts.{unpadded, recovered}
 use Rattle.olr_log.specs.declared.scan.Scan.{Scan}
 use Rattle.olr_log.proofs.Behind.{unpadded_return, unpadded_other}

@@ -1,3 +1,8 @@
+pub mod Journals
+pub mod StoredLines
+pub mod Unstored
+pub mod Gates
+pub mod LoggedRuns
 pub mod Texts
 pub mod Files
 pub mod States

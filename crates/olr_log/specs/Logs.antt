@@ -2,7 +2,7 @@
 --     as_journal      a log in a file, as the journal that it is
 use Rattle.std.specs.Prelude.{◌≡◌, ◌⊎◌, ℕ, ◌+◌, ◌-◌, Bool, false, nat_lt, true, List, [], length, take, drop, IsSome, Some}
 use Rattle.sqlite_disk.specs.declared.Disk as disk
-use Rattle.olr_input.specs.declared.journal.Journal as journal
+use Rattle.olr_log.specs.declared.journal.Journal as journal
 use Rattle.olr_log.specs.declared.folder.Folder as folder
 use Rattle.olr_log.specs.declared.log_file.LogFile.{LogFile}
 use Rattle.olr_log.specs.declared.state.State.{State}

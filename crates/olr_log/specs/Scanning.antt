@@ -1,6 +1,7 @@
 -- What is known of a text while it is read for the end of its whole records.
 use Rattle.std.specs.Prelude.{◌≡◌, ℕ, ◌≤◌, Bool, true, false, List, [], ◌∷◌, ◌++◌, length, take}
-use Rattle.olr_input.specs.Journals.{is_whole_from, is_empty}
+use Rattle.olr_input.specs.Buffers.{is_empty}
+use Rattle.olr_log.specs.Journals.{is_whole_from}
 use Rattle.olr_log.specs.Texts.{ends_blank, recovered, unpadded}
 use Rattle.olr_log.specs.declared.scan.Scan.{Scan}
 

@@ -5,7 +5,8 @@
 --     left_behind file      what stands behind that text, without the carriage returns at its end
 --     padded text n      the program's own file: an empty first line, a text, and n carriage returns
 use Rattle.std.specs.Prelude.{ℕ, zero, suc, Bool, false, not, ◌==◌, ◌&&◌, if◌then◌else◌, List, [], ◌∷◌, ◌++◌, length, take, drop, replicate}
-use Rattle.olr_input.specs.Journals.{is_whole, is_empty}
+use Rattle.olr_input.specs.Buffers.{is_empty}
+use Rattle.olr_log.specs.Journals.{is_whole}
 
 -- a text ends in an empty line, behind a byte
 abbrev pub ends_blank_behind : ℕ → List ℕ → Bool

@@ -2,7 +2,7 @@
 
 ghost use Rattle.std.specs.Prelude.{◌≡◌, ◌+◌, ℕ, List, ◌∷◌, ◌++◌, length, true, IsTrue, IfOk, OnOk, OnErr};
 ghost use Rattle.sqlite_disk.specs.Disk.{Only};
-ghost use Rattle.olr_input.specs.Journals.{IsFront, is_whole};
+ghost use Rattle.olr_log.specs.Journals.{IsFront, is_whole};
 ghost use Rattle.olr_log.specs.Failures.{HasFailed, NotWritten};
 ghost use Rattle.olr_log.specs.Files.{text_in};
 ghost use Rattle.olr_log.specs.Outcomes.{LeavesText};

@@ -2,7 +2,7 @@
 
 ghost use Rattle.std.specs.Prelude.{◌≡◌, ◌⊎◌, ◌+◌, ℕ, List, ◌++◌, length, true, false, if◌then◌else◌, IsTrue, IfOk, OnOk, OnErr, IsErr, IsNone, IsSome, Option, None, Some};
 ghost use Rattle.sqlite_disk.specs.Disk.{Only};
-ghost use Rattle.olr_input.specs.Journals.{MayHaveStored, is_whole};
+ghost use Rattle.olr_log.specs.Journals.{MayHaveStored, is_whole};
 ghost use Rattle.olr_log.specs.Failures.{FolderFailed, NotMade, NotWritten};
 ghost use Rattle.olr_log.specs.Texts.{counts, ends_blank};
 ghost use Rattle.olr_log.specs.Files.{text_in};
@@ -11,9 +11,9 @@ ghost use Rattle.olr_log.specs.Outcomes.{MayLeave, LeavesText};
 
 use crate::changes::append;
 use crate::folder::Folder;
+use crate::journal::Journal;
 use crate::state::State;
 use crate::writes::{fill, is_blank_at_end};
-use olr_input::Journal;
 use sqlite_disk::Disk;
 use std::io;
 

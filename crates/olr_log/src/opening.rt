@@ -4,7 +4,7 @@ ghost use Rattle.std.specs.Prelude.{◌≡◌, ◌⊎◌, ◌+◌, true, false, 
 ghost use Rattle.std.specs.Io.KnownBytes.{Appends};
 ghost use Rattle.std.specs.IoError.{error_kind};
 ghost use Rattle.std.specs.declared.io.ErrorKind.TheVariants.{OutOfMemory};
-ghost use Rattle.olr_input.specs.Journals.{Only};
+ghost use Rattle.olr_log.specs.Journals.{Only};
 ghost use Rattle.olr_log.specs.Failures.{HasFailed};
 ghost use Rattle.olr_log.specs.Texts.{text_of, is_native, left_behind};
 ghost use Rattle.olr_log.specs.Files.{IsPaddedText};

@@ -2,7 +2,7 @@
 
 ghost use Rattle.std.specs.Prelude.{◌≡◌, ◌+◌, ◌^◌, ◌<◌, ◌≤◌, [], ◌∷◌, ◌++◌, List, ℕ, length, IfOk, OnOk};
 
-use olr_input::stays_open;
+use crate::whole::stays_open;
 use std::alloc::{AllocError, Global};
 
 /// How many bytes of a line tell what it is.

@@ -12,11 +12,10 @@ use Rattle.olr_records.proofs.Common.{suc, drop, ◌==◌, Add_node, Add_line, S
 use Rattle.std.proofs.lemmas.Result.{IfOk-at_ok, IfOk-weaker}
 use Rattle.olr_commands.specs.State.{Show, Show_node, Show_line, Depends, Report, Dump, Compact, Explain, Begin, Preview}
 use Rattle.olr_commands.specs.State.{Commit, Abort, Ambiguous, HasCoords}
-use Rattle.olr_input.specs.RecordWords.{words, word_in, word_of}
-use Rattle.olr_input.specs.StoredLines.{effect_by, word_effect}
+use Rattle.olr_input.specs.RecordWords.{words, word_in, word_of, effect_by, word_effect}
 use Rattle.olr_input.specs.declared.record.Word.{Word}
-use Rattle.olr_input.specs.declared.unstored.Effect.{Effect}
-use Rattle.olr_input.specs.declared.unstored.Effect.TheVariants as effect
+use Rattle.olr_input.specs.declared.record.Effect.{Effect}
+use Rattle.olr_input.specs.declared.record.Effect.TheVariants as effect
 use Rattle.olr_input.specs.declared.record.Word.TheVariants as word
 use Rattle.olr_input.proofs.RecordWords.{same_text}
 use Rattle.std.specs.Str.{bytes_eq}

@@ -19,23 +19,23 @@ pub use Rattle.olr_commands.specs.State.{Explain, Fault, IsContent, Make, Map_fa
 pub use Rattle.olr_commands.specs.State.{Preview, Report, Set_margin, Set_path, Show, Show_line, Show_margin, Show_node, State}
 pub use Rattle.olr_commands.specs.State.{after, full, is_recordable, start_state, step, step_in, when, with_change, with_held}
 pub use Rattle.olr_commands.specs.Words.{command_fault_of, command_of, outcome_of}
-pub use Rattle.olr_input.specs.Buffers.{pending, written}
-pub use Rattle.olr_input.specs.Gates.{Compaction, Passes, Untouched, is_closed, ready}
+pub use Rattle.olr_input.specs.Buffers.{is_empty, pending, written}
+pub use Rattle.olr_log.specs.Gates.{Compaction, Passes, Untouched, is_closed, ready}
 pub use Rattle.olr_input.specs.InMemory.{left_of}
 pub use Rattle.olr_input.specs.Inputs.{input_records}
-pub use Rattle.olr_input.specs.Journals.{IsFront, Only, is_empty}
-pub use Rattle.olr_input.specs.LoggedRuns.{Concludes, LogHappens}
+pub use Rattle.olr_log.specs.Journals.{IsFront, Only}
+pub use Rattle.olr_log.specs.LoggedRuns.{Concludes, LogHappens}
 pub use Rattle.olr_input.specs.Sessions.{Answer, Compacted, Given, HasNone, Lacking, Replacement, TakesOne, Unasked, Cut, Ended}
 pub use Rattle.olr_input.specs.Sessions.{Event, History, IsOfTaking, Known, Not_sent, Not_taken, Took, Wrote}
 pub use Rattle.olr_run.specs.Statuses.{exit_code}
-pub use Rattle.olr_input.specs.StoredLines.{Waiting, effect_of, has_line}
-pub use Rattle.olr_input.specs.Unstored.{next_line, waiting}
+pub use Rattle.olr_log.specs.StoredLines.{Waiting, effect_of, has_line}
+pub use Rattle.olr_log.specs.Unstored.{next_line, waiting}
 pub use Rattle.olr_input.specs.declared.buffered.Buffered.{Buffered}
 pub use Rattle.olr_input.specs.declared.ends.RunFault.{RunFault}
 pub use Rattle.olr_run.specs.declared.statuses.Status.{Status}
-pub use Rattle.olr_input.specs.declared.gate.Gate.{Gate}
+pub use Rattle.olr_log.specs.declared.gate.Gate.{Gate}
 pub use Rattle.olr_input.specs.declared.in_memory.InMemory.{InMemory}
-pub use Rattle.olr_input.specs.declared.unstored.Effect.{Effect}
+pub use Rattle.olr_input.specs.declared.record.Effect.{Effect}
 pub use Rattle.olr_paths.specs.Items.{Results, results_of, left}
 pub use Rattle.olr_records.proofs.ReadLemmas.{read_recorded, two}
 pub use Rattle.olr_records.proofs.RecordLines.{PlainRecord, all_lines, lines_read, plain_record, records_split}

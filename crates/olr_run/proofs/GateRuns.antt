@@ -4,11 +4,11 @@ use Rattle.olr_run.proofs.Common.{Field, Known, Event, RunFault, Status, RanIn, 
 use Rattle.olr_run.proofs.Common.{Unasked, Given, Lacking, Gate, Bool, List, ◌≡◌, ◌∙◌, ◌∷◌, [], IfOk, IfErr, ap, sym}
 use Rattle.std.specs.Prelude.{Ok, Err, Result}
 use Rattle.olr_run.specs.Runs as runs
-use Rattle.olr_input.specs.LoggedRuns.{GateHappens}
+use Rattle.olr_log.specs.LoggedRuns.{GateHappens}
 use Rattle.olr_input.specs.Sessions.{Cut}
 use Rattle.olr_input.specs.Sessions as event
-use Rattle.olr_input.specs.declared.logged.Logged.{Logged}
-use Rattle.olr_input.specs.declared.journal.Journal as journal
+use Rattle.olr_log.specs.declared.logged.Logged.{Logged}
+use Rattle.olr_log.specs.declared.journal.Journal as journal
 use Rattle.olr_run.proofs.LoggedRuns.{Happens}
 
 module _ {S W J : Type 0} (left : S → List (List Field) → Type 0) (contents : W → Known) (j : journal.Ghosts J) where

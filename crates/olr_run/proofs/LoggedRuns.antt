@@ -9,14 +9,14 @@ use Rattle.olr_run.proofs.Common.{Status, IfErr, Field, Known, Event, Ended, Wro
 use Rattle.olr_run.proofs.Common.{State, Whole, Given, Leads, Began, Lasts, ready, Took, Bool, List, ◌++◌, Some, None, refl, IfOk}
 use Rattle.olr_run.proofs.Common.{OnOk, UpTo, Gate, ◌∙◌, ◌∷◌, sym, [], ap, ℕ}
 use Rattle.std.specs.Prelude.{Ok, Err, Option, Result}
-use Rattle.olr_input.specs.declared.logged.Logged.{Logged}
+use Rattle.olr_log.specs.declared.logged.Logged.{Logged}
 use Rattle.olr_input.proofs.Writing.{took_nothing}
 use Rattle.olr_run.specs.Runs as runs
 use Rattle.olr_run.proofs.InputRuns.{Sees, Gives, same_left, exchanges_cut, last_step, more_taken, taken_length, on_records}
 use Rattle.olr_run.proofs.Sending.{Then, ended_sent}
 use Rattle.olr_run.proofs.Logging.{Going, HoldsBatch, Logs, LogsSome, logs_pass, logs_same, logs_conclude, logs_longer, logs_compact}
 use Rattle.olr_run.proofs.Logging.{fresh, survives_only, up_on, up_to_all}
-use Rattle.olr_input.specs.declared.journal.Journal as journal
+use Rattle.olr_log.specs.declared.journal.Journal as journal
 use Rattle.olr_run.specs.declared.statuses.Status.TheVariants as ended
 use Rattle.olr_input.specs.declared.ends.RunFault.TheVariants as fault
 

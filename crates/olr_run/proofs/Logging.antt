@@ -7,15 +7,15 @@ use Rattle.olr_run.proofs.Common.{Command, Make, Begin, Commit, Abort, State, Fa
 use Rattle.olr_run.proofs.Common.{Ends, ends, Effect, fields_line, Reply, Read, closed, Leads, LeadsFrom, UpTo, Survives}
 use Rattle.olr_run.proofs.Common.{answer_of, pending, is_closed, ready, Untouched, Passes, dump_lines, IsFront, Only, is_empty}
 use Rattle.olr_run.proofs.Common.{Waiting, effect_of, has_line, Concludes, Answer, Appends, waiting, next_line, Buffered, Gate}
-use Rattle.olr_input.specs.Gates.{batch, Storing, None_sent, None_ready, All_stored, Cut_off, Replacement, Replaced}
-use Rattle.olr_input.specs.Gates.{Left_as_it_was, Compacts}
-use Rattle.olr_input.specs.StoredLines.{stored_line, line_if, line_of, concluded}
+use Rattle.olr_log.specs.Gates.{batch, Storing, None_sent, None_ready, All_stored, Cut_off, Replacement, Replaced}
+use Rattle.olr_log.specs.Gates.{Left_as_it_was, Compacts}
+use Rattle.olr_log.specs.StoredLines.{stored_line, line_if, line_of, concluded}
 use Rattle.olr_run.proofs.Accepting.{leads_join, one_leads}
 use Rattle.olr_records.proofs.ReadLemmas.{effect_for}
 use Rattle.olr_run.proofs.Plain.{effect_is}
 use Rattle.olr_run.proofs.Restoring.{holding, make_closed, make_held}
 use Rattle.olr_run.proofs.Dumped.{dump_leads}
-use Rattle.olr_input.specs.declared.journal.Journal as journal
+use Rattle.olr_log.specs.declared.journal.Journal as journal
 
 -- ---- what is known of the log of a run at any moment
 

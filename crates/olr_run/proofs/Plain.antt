@@ -4,7 +4,8 @@ use Rattle.olr_run.proofs.Common.{Begin, Commit, Abort, Field, Make, read, Comma
 use Rattle.olr_commands.specs.Recordable.{is_name_byte}
 use Rattle.olr_records.proofs.ReadLemmas.{effect_for, effect_read, known_fields}
 use Rattle.olr_records.proofs.FieldLemmas.{Plain, AllPlain}
-use Rattle.olr_input.specs.StoredLines.{word_effect, is_clean, is_clean_byte}
+use Rattle.olr_input.specs.RecordWords.{word_effect}
+use Rattle.olr_log.specs.StoredLines.{is_clean, is_clean_byte}
 
 pub fields_plain : (fields : List Field) (c : Command) → read fields ≡ Ok c → IsLogged c → AllPlain fields
 fields_plain fields (Make x) e k = known_fields fields (Make x) e

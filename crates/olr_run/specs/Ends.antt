@@ -29,7 +29,7 @@ use Rattle.olr_run.specs.Statuses.{exit_code}
 use Rattle.olr_input.specs.declared.buffered.Buffered.{Buffered}
 use Rattle.olr_input.specs.declared.ends.RunFault.{RunFault}
 use Rattle.olr_run.specs.declared.statuses.Status.{Status}
-use Rattle.olr_input.specs.declared.gate.Gate.{Gate}
+use Rattle.olr_log.specs.declared.gate.Gate.{Gate}
 
 -- ---- without a log
 

@@ -19,7 +19,7 @@ use Rattle.olr_run.specs.Output.{records_of}
 use Rattle.olr_run.specs.Restored.{HasContentOf, IsContentOf, LeadsNowhere, is_rejection, is_too_many, most_log_records}
 use Rattle.olr_run.specs.declared.starts.StartFault.{StartFault}
 use Rattle.olr_run.specs.declared.starts.StartFault.TheVariants as start
-use Rattle.olr_input.specs.Journals.{Only}
+use Rattle.olr_log.specs.Journals.{Only}
 
 abbrev pub AreRecordsOf : Registered → List ℕ → Type 0
 AreRecordsOf register text = (c : Content) → Represents register.state (closed c) → text ≡ concat (dump_lines c)

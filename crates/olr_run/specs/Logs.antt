@@ -12,15 +12,15 @@ use Rattle.olr_run.specs.Output.{Claims}
 use Rattle.olr_run.specs.Runs.{RanIn, CutIn, once_sent}
 use Rattle.olr_register.specs.Registered.{Registered}
 use Rattle.olr_input.specs.Buffers.{pending}
-use Rattle.olr_input.specs.Gates.{IsNew, Passes, is_closed, ready}
-use Rattle.olr_input.specs.Journals.{Only}
-use Rattle.olr_input.specs.LoggedRuns.{GateHappens}
+use Rattle.olr_log.specs.Gates.{IsNew, Passes, is_closed, ready}
+use Rattle.olr_log.specs.Journals.{Only}
+use Rattle.olr_log.specs.LoggedRuns.{GateHappens}
 use Rattle.olr_input.specs.Sessions.{Known}
 use Rattle.olr_input.specs.declared.buffered.Buffered.{Buffered}
 use Rattle.olr_input.specs.declared.ends.RunFault.{RunFault}
 use Rattle.olr_run.specs.declared.statuses.Status.{Status}
-use Rattle.olr_input.specs.declared.gate.Gate.{Gate}
-use Rattle.olr_input.specs.declared.journal.Journal as journal
+use Rattle.olr_log.specs.declared.gate.Gate.{Gate}
+use Rattle.olr_log.specs.declared.journal.Journal as journal
 
 module _ {J W : Type 0} (stored : J → List ℕ) (may_leave : J → List ℕ → Type 0) (contents : W → Known) where
   -- a run from s with a log that led to the content of s

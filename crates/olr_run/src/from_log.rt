@@ -15,8 +15,8 @@ use crate::starts::{StartFault, begin_with};
 use crate::statuses::{
     IN_USE, OPEN_BATCH, REJECTED, Status, UNUSABLE, WRONG_ARGUMENTS, end_status, report_fault,
 };
-use olr_input::{Buffered, Gate, LogFault, RunFault, Source};
-use olr_log::{Folder, LogFile, OpenError};
+use olr_input::{Buffered, RunFault, Source};
+use olr_log::{Folder, Gate, LogFault, LogFile, OpenError};
 use sqlite_disk::Disk;
 use std::alloc::Global;
 use std::io::{self, Write};

@@ -4,11 +4,12 @@ ghost use Rattle.std.specs.Prelude.{◌≡◌, [], IfSome, OnOk};
 ghost use Rattle.olr_run.specs.Logs.{Lasts, LastsWhole, RanThrough};
 ghost use Rattle.olr_run.specs.Runs.{once_sent, EndedOn, Records};
 ghost use Rattle.olr_input.specs.Buffers.{pending, written};
-ghost use Rattle.olr_input.specs.Gates.{compaction};
+ghost use Rattle.olr_log.specs.Gates.{compaction};
 
 use crate::records::{Scratch, run_session};
 use crate::statuses::Status;
-use olr_input::{Buffered, Gate, Journal, Logged, RunFault, Source};
+use olr_input::{Buffered, RunFault, Source};
+use olr_log::{Gate, Journal, Logged};
 use olr_register::Register;
 use std::alloc::Global;
 use std::io::Write;

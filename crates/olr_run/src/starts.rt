@@ -5,12 +5,11 @@ ghost use Rattle.olr_log.specs.Logs.{stored_of, left_of, is_native_of, is_clean}
 ghost use Rattle.olr_run.specs.LogEnds.{AreRecordsOf, BegunFrom, Unbegun, is_oversized, is_rejected};
 ghost use Rattle.olr_run.specs.Output.{records_of};
 ghost use Rattle.olr_run.specs.Restored.{HasContentOf, LeadsNowhere, most_log_records};
-ghost use Rattle.olr_input.specs.Journals.{Only};
+ghost use Rattle.olr_log.specs.Journals.{Only};
 
 use crate::answers::records_text;
 use crate::loader::{Progress, RestoreFault, restore};
-use olr_input::{Journal, is_whole};
-use olr_log::{Folder, LogFile};
+use olr_log::{Folder, Journal, LogFile, is_whole};
 use olr_register::Register;
 use sqlite_disk::Disk;
 use std::alloc::Global;

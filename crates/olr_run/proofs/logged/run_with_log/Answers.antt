@@ -2,8 +2,8 @@
 use Rattle.olr_run.proofs.Common.{◌≡◌, ◌∙◌, [], ap, subst, Compaction, Passes, waiting, Gate, is_closed}
 use Rattle.std.specs.Prelude.{is_some}
 use Rattle.olr_input.specs.declared.buffered.Buffered.{Buffered}
-use Rattle.olr_input.specs.declared.logged.Logged.{Logged}
-use Rattle.olr_input.specs.Gates.{compaction}
+use Rattle.olr_log.specs.declared.logged.Logged.{Logged}
+use Rattle.olr_log.specs.Gates.{compaction}
 use Rattle.olr_run.proofs.GateRuns.{gate_cut, gate_ran, run_length}
 use Rattle.olr_run.proofs.LoggedRuns.{lasting}
 use Rattle.olr_run.proofs.Sending.{held_sent}

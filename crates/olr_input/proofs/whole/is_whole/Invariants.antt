@@ -1,6 +1,0 @@
-use Rattle.olr_input.proofs.WholeTexts.{Reads}
-use Rattle.olr_input.proofs.whole.is_whole.Given as goal
-
--- the lines so far were read
-abbrev pub invariant-bytes : goal.invariant-bytes
-invariant-bytes l = Reads l.fn.text l.is_open l.start l.i
