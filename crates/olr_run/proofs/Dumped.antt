@@ -4,6 +4,10 @@ use Rattle.olr_run.proofs.Common.{dump_lines, dump_changes, steps, fields_of_cha
 use Rattle.olr_run.proofs.Common.{Fault, start_state, step, dumps_run, HaveRecords, StaysRecorded, step_stays, start_recorded}
 use Rattle.olr_run.proofs.Common.{record_back, Accepted, Leads, closed, all_lines, ℕ, Option, Some, None, Dump, step_in}
 use Rattle.olr_commands.specs.Reply.{Dumped, IsOutcome}
+use Rattle.olr_commands.specs.Words.{reply_of}
+use Rattle.olr_commands.specs.declared.reply.Dump.{Dump as Dumped_text}
+use Rattle.olr_commands.specs.declared.reply.Reply.{Reply}
+use Rattle.olr_commands.specs.declared.reply.Reply.TheVariants as answered
 
 stays : (rs : List (List Field)) (s t : State) → StaysRecorded s → Accepted s rs t → StaysRecorded t
 stays [] s t h a = subst StaysRecorded a h
@@ -39,3 +43,14 @@ dumped_records s t count text h = (no_batch s.batch h.0, cc (h.1))
     no_batch : (b : Option (List Change)) → step_in s.content b Dump ≡ Ok t → b ≡ None
     no_batch None e = refl
     no_batch (Some xs) e = absurd cc
+
+-- an accepted dump has no other reply
+pub only_dumped : (s t : State) (reply : Reply) → IsOutcome s Dump (Ok (reply_of reply)) t →
+    ((d : Dumped_text) → reply ≡ answered.Dump d → ⊥) → ⊥
+only_dumped s t (answered.Dump d) h other = other d refl
+only_dumped s t (answered.Paths xs) h other = absurd (let never = h.1 in cc)
+only_dumped s t (answered.Fields r) h other = absurd (let never = h.1 in cc)
+only_dumped s t (answered.Held n) h other = absurd (let never = h.1 in cc)
+only_dumped s t (answered.Records d) h other = absurd (let never = h.1 in cc)
+only_dumped s t (answered.Names xs) h other = absurd (let never = h.1 in cc)
+only_dumped s t (answered.Obstacles xs) h other = absurd (let never = h.1 in cc)

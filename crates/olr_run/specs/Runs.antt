@@ -2,13 +2,14 @@
 --     CarriedOut old fields new P      the effect of a record on the register, and what is true of its outcome
 --     AnswersRecord      the same, and its text was written
 --     IsReplacement t replacement      the records that were given are those of the content
+--     LacksRecords fault t      why there are none
 --     Exchange      a record that was taken, its answer, and the records that were then given
 --     Exchanged      the history of a session: each record was taken and answered before the next
 --     RanIn, CutIn      a run in a session
 --     records_read single file input      the records of a file followed by those of the input, one a line or not
 --     LeadsOn, RanOn, FaultedOn, EndedOn      a run over known records
 use Rattle.std.specs.Prelude.{◌≡◌, ◌≢◌, ℕ, ◌<◌, Bool, ◌&&◌, List, [], ◌∷◌, ◌++◌, length, map, Option, Some, None}
-use Rattle.std.specs.Prelude.{Result, Ok, Err, IfSome, is_ok, flat_map, IsFalse, ◌⊎◌, ⊤}
+use Rattle.std.specs.Prelude.{Result, Ok, Err, IfSome, is_ok, is_some, flat_map, IsFalse, IsTrue, ◌⊎◌, ⊤}
 use Rattle.std.specs.Io.KnownBytes.{Appends}
 use Rattle.std.specs.List.{concat}
 use Rattle.std.specs.Option.{option_map_or}
@@ -16,7 +17,7 @@ use Rattle.std.specs.Borrow.{Bor}
 use Rattle.olr_commands.specs.Dump.{dump_lines}
 use Rattle.olr_commands.specs.History.{Whole}
 use Rattle.olr_commands.specs.Reply.{Entry, Paths, AllOf, Outcome}
-use Rattle.olr_commands.specs.State.{IsContent, State, Fault}
+use Rattle.olr_commands.specs.State.{IsContent, State, Fault, Batch_open, Not_a_record, Memory, is_recordable}
 use Rattle.olr_commands.specs.Words.{reply_of}
 use Rattle.olr_commands.specs.declared.reply.Reply.{Reply}
 use Rattle.olr_records.specs.Records.{Field}
@@ -86,6 +87,17 @@ IsReplacement t Lacking = ⊤
 
 abbrev pub AreReplacement : Registered → Replacement → Type 0
 AreReplacement register replacement = (t : State) → Represents register.state t → IsReplacement t replacement
+
+-- why there are no records of the content: a batch is open; if none is, a part of it can't be written as a record, or there
+-- is no memory
+abbrev pub LacksRecords : Fault → State → Type 0
+LacksRecords Batch_open t = IsTrue (is_some t.batch)
+LacksRecords Not_a_record t = (t.batch ≡ None) × IsFalse (is_recordable t.content)
+LacksRecords Memory t = (t.batch ≡ None) × IsTrue (is_recordable t.content)
+LacksRecords _ t = ⊥
+
+abbrev pub HaveNoRecords : Registered → Fault → Type 0
+HaveNoRecords register fault = (t : State) → Represents register.state t → LacksRecords fault t
 
 -- the records of the register were given if they were asked for, or it was said that they are lacking
 abbrev pub CompactsFrom : {S W : Type 0} → (S × W → Event → S × W → Type 0) → Registered → S → S → Type 0

@@ -1,13 +1,13 @@
 //! The answer to one record.
 
-ghost use Rattle.std.specs.Prelude.{◌≡◌, ◌≢◌, ◌++◌, length, true, Ok, IfOk, OnOk, is_ok};
+ghost use Rattle.std.specs.Prelude.{◌≡◌, ◌≢◌, ◌++◌, length, true, Ok, IfOk, IfErr, OnOk, is_ok};
 ghost use Rattle.csv.specs.Records.{fields_of};
 ghost use Rattle.olr_commands.specs.State.{Report};
-ghost use Rattle.olr_commands.specs.Words.{outcome_of, reply_of};
+ghost use Rattle.olr_commands.specs.Words.{command_fault_of, outcome_of, reply_of};
 ghost use Rattle.olr_records.specs.Records.{read};
 ghost use Rattle.olr_records.specs.ReplyText.{reply_text};
 ghost use Rattle.olr_input.specs.Sessions.{Given};
-ghost use Rattle.olr_run.specs.Runs.{CarriedOut, IsAnswer, IsReport, answer_text, WritesText, AnswersRecord, AreReplacement, CompactsFrom};
+ghost use Rattle.olr_run.specs.Runs.{CarriedOut, IsAnswer, IsReport, answer_text, WritesText, AnswersRecord, AreReplacement, HaveNoRecords, CompactsFrom};
 
 use olr_commands::{CommandFault, Reply};
 use olr_input::{Record, RunFault, Session};
@@ -126,9 +126,10 @@ fn write_report<W, S: Session<W>>(
     }
 }
 
-/// The records of the register, as a text. There are none while a batch is open.
+/// The records of the register, as a text. The faults are `BatchOpen`, `NotARecord` and `Memory`, in this order of precedence.
 pub fn records_text(register: &Register) -> Result<Vec<u8>, CommandFault>
-    ensures { IfOk result (λ text. AreReplacement register.now (Given text.items)) }
+    ensures records { IfOk result (λ text. AreReplacement register.now (Given text.items)) }
+    ensures refused { IfErr result (λ e. HaveNoRecords register.now (command_fault_of e)) }
 {
     match register.dump()? {
         Reply::Dump(dump) => Ok(dump.text),

@@ -15,6 +15,6 @@ returns-in-Err g c = (
 pub returns-in-Ok : goal.returns-in-Ok
 returns-in-Ok g c = (
   Given c.as_slice.result.now,
-  subst (λ (x : List ℕ). AreReplacement c.args.register.now (Given x)) (sym c.as_slice.ensures.value) c.in-Ok.ensures,
+  subst (λ (x : List ℕ). AreReplacement c.args.register.now (Given x)) (sym c.as_slice.ensures.value) c.in-Ok.ensures.records,
   c.compact_log.ensures.asked (sym c.wants_records.ensures.asked ∙ c.if-not-wants_records.false),
 )
