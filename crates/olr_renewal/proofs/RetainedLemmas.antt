@@ -1,13 +1,12 @@
 -- Results that are right on a map are right on the next one, if no change can affect them.
 use Rattle.olr_renewal.proofs.Common.{AreEncodingsIfAny, AreKnownWith, By_line, By_name, By_node, ChangedLine, CoverageQuery}
 use Rattle.olr_renewal.proofs.Common.{IsAffected, IsBefore, IsEncodingOf, IsMap, IsTrue, Item, List, Results, Map, Margin, Option}
-use Rattle.olr_renewal.proofs.Common.{Path, Some, arith, cases_Bool, false, get_or, has, inl, inr, refl, None, is_margin}
-use Rattle.olr_renewal.proofs.Common.{is_path, min, slice_get, subst, ℕ, All, ◌≡◌, ◌≤◌, at_position, farthest, AreShort}
-use Rattle.olr_renewal.proofs.Common.{BeginsIn, ToName, Retains, IsActionFor, Action, Skip, Retain, Encode, IsGiven, known_in}
-use Rattle.olr_renewal.proofs.Common.{Touches, LineTouched, QueryTouched, TraversedTouched, known_kept, TraversedOf, IsClear}
-use Rattle.olr_renewal.proofs.Common.{AllByRecursion, Contains, IfSome, true, ◌∷◌, [], Near, GREATEST_LIMIT, Contains-get_or}
-use Rattle.olr_renewal.proofs.Common.{eqb-true, ◌==◌}
-use Rattle.olr_renewal.proofs.Common.{AreLeft, ToSkip, zero, suc}
+use Rattle.olr_renewal.proofs.Common.{Path, Some, arith, cases_Bool, false, get_or, has, inl, inr, refl, None, is_margin, is_path}
+use Rattle.olr_renewal.proofs.Common.{min, slice_get, subst, ℕ, All, ◌≡◌, ◌≤◌, at_position, farthest, AreShort, BeginsIn, ToName}
+use Rattle.olr_renewal.proofs.Common.{Retains, IsActionFor, Action, Skip, Retain, Encode, IsGiven, known_in, Touches, LineTouched}
+use Rattle.olr_renewal.proofs.Common.{QueryTouched, TraversedTouched, known_kept, TraversedOf, IsClear, AllByRecursion, Contains}
+use Rattle.olr_renewal.proofs.Common.{IfSome, true, ◌∷◌, [], Near, GREATEST_LIMIT, Contains-get_or, eqb-true, ◌==◌, AreLeft}
+use Rattle.olr_renewal.proofs.Common.{ToSkip, zero, suc}
 use Rattle.olr_spec.proofs.StayLemmas.{untouched_retained_with}
 use Rattle.olr_spec.proofs.TestedLemmas.{foot_affected_with}
 use Rattle.olr_refs.proofs.QueryRange.{query_short}

@@ -20,8 +20,7 @@
 --     AreLed M s S L K      each of the bounds K is that of L, or it was led there
 --     IsFollowed M s f v      the lines from v are closed, or its slot is queued at its bound
 -- Where the bounds are invalid nothing is said.
-use Rattle.std.specs.Prelude.{◌≡◌, ◌≢◌, ℕ, ◌+◌, ◌-◌, ◌≤◌, ◌<◌, ◌⊎◌, List, Option, Some, None, IsTrue, IsFalse, nat_eq}
-use Rattle.std.specs.Prelude.{min}
+use Rattle.std.specs.Prelude.{◌≡◌, ◌≢◌, ℕ, ◌+◌, ◌-◌, ◌≤◌, ◌<◌, ◌⊎◌, List, Option, Some, None, IsTrue, IsFalse, nat_eq, min}
 use Rattle.std.specs.HashMap.{get}
 use Rattle.olr_spec.specs.Map.{Map, IsMap, has_node, has_line, start, end, dm, SameRound, has}
 use Rattle.olr_spec.specs.Routes.{IsRoute, dm_of}

@@ -4,9 +4,7 @@
 --     Covers N T X is found      a path whose position isn't found is not affected
 --     CoversSearched N slot t near is found      the same for the paths for whose queries it was searched
 --     FindsChanged cs is found      a path whose position isn't found is not changed
---     AreCandidates N slot t near is found      what a renewal finds before it takes an action for each path
 use Rattle.std.specs.Prelude.{◌≡◌, ℕ, ◌<◌, List, Some, None, false, length, get_or, slice_get, IsTrue}
-use Rattle.std.specs.List.Sorted.{IsStrictlyIncreasing}
 use Rattle.olr_spec.specs.Map.{Map, has}
 use Rattle.olr_paths.specs.PathIds.{holds}
 use Rattle.olr_paths.specs.declared.index.Index.{Index}
@@ -15,7 +13,7 @@ use Rattle.olr_renewal.specs.Actions.{ToSkip}
 use Rattle.olr_paths.specs.Overlaid.{Changes, change_at}
 use Rattle.olr_renewal.specs.ChangeSets.{nodes_of, lines_of}
 use Rattle.olr_renewal.specs.AffectedSearches.{IsSearchedFor}
-use Rattle.olr_paths.specs.Origins.{Begins, BeginsIn}
+use Rattle.olr_paths.specs.Origins.{BeginsIn}
 use Rattle.olr_renewal.specs.declared.change_set.ChangeSet.{ChangeSet}
 use Rattle.olr_search.specs.declared.distances.Dijkstra.{Dijkstra}
 
@@ -37,11 +35,3 @@ CoversSearched N slot t near is found =
 abbrev pub FindsChanged : Changes → List Item → List ℕ → Type 0
 FindsChanged cs is found =
     (k : ℕ) (i : Item) → slice_get is k ≡ Some i → has found k ≡ false → change_at cs i.name ≡ None
-
--- the positions of the paths that edits may affect are found, in ascending order; if there are any, it was searched for the
--- queries of the list
-pub record AreCandidates (N : Map) (slot : ℕ → ℕ) (t : ChangeSet) (near : Dijkstra) (is : List Item) (found : List ℕ) : Type 0
-  where
-    pub searched : 0 < length found → IsSearchedFor N slot t near (Begins is)
-    pub ascending : IsStrictlyIncreasing found
-    pub covers : Covers N (nodes_of t) (lines_of t) is found

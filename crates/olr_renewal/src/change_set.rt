@@ -1,5 +1,5 @@
 //! What changes of a map touched.
-ghost use Rattle.std.specs.Prelude.{◌≡◌, ◌==◌, ◌||◌, ◌+◌, ◌≤◌, ℕ, vec_len, vec_capacity};
+ghost use Rattle.std.specs.Prelude.{◌≡◌, ◌==◌, ◌||◌, ◌+◌, ◌≤◌, ℕ, vec_len, vec_capacity, ◌++◌, [], OnOk};
 ghost use Rattle.std.specs.List.Sorted.{IsStrictlyIncreasing};
 ghost use Rattle.olr_spec.specs.Map.{has};
 
@@ -29,7 +29,6 @@ pub struct ChangeSet {
 }
 
 impl ChangeSet {
-    ghost use Rattle.std.specs.Prelude.{◌++◌, [], OnOk};
     ghost use Rattle.std.specs.Option.{option_to_list};
     ghost use Rattle.olr_renewal.specs.ChangeSets.{nodes_of, lines_of, changed_of, changed_between, HasRoom};
 

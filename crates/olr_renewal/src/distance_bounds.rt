@@ -1,10 +1,11 @@
 //! Distance bounds by slot, which cut the search from an edit.
-ghost use Rattle.std.specs.Prelude.{◌≡◌, ◌≤◌, ℕ, Option, Some, OnOk, IsTrue, nat_eq};
+ghost use Rattle.std.specs.Prelude.{◌≡◌, ◌≤◌, ℕ, Option, Some, OnOk, IsTrue, nat_eq, ◌<◌, ◌-◌, ◌↔◌, List, [], None, IsFalse, min};
 ghost use Rattle.std.specs.HashMap.{get};
-ghost use Rattle.olr_spec.specs.Map.{has_node};
+ghost use Rattle.olr_spec.specs.Map.{has_node, Map, has};
 ghost use Rattle.olr_search.specs.Frontiers.{Moves, label_of};
 ghost use Rattle.olr_search.specs.Searches.{CoversSlots};
-ghost use Rattle.olr_renewal.specs.Bounds.{AreLed, IsFollowed};
+ghost use Rattle.olr_renewal.specs.Bounds.{AreLed, IsFollowed, source_of, bound_at, IsSource, IsRight, IsUnderWay, IsEdit};
+ghost use Rattle.olr_renewal.specs.Bounds.{IsUnbounded, IsLowered, IsReopened};
 
 use olr_model::{MapRead, NodeId, NumberHasher};
 use olr_search::{Direction, Frontier, GREATEST_LIMIT, ends_from};
@@ -103,11 +104,7 @@ fn look_at<M: MapRead>(
 }
 
 impl DistanceBounds {
-    ghost use Rattle.std.specs.Prelude.{◌<◌, ◌-◌, ◌↔◌, List, [], None, IsFalse, min};
-    ghost use Rattle.olr_spec.specs.Map.{Map, has};
     ghost use Rattle.olr_spec.specs.Detours.{Near};
-    ghost use Rattle.olr_renewal.specs.Bounds.{source_of, bound_at, IsSource, IsRight, IsUnderWay, IsEdit};
-    ghost use Rattle.olr_renewal.specs.Bounds.{IsUnbounded, IsLowered, IsReopened};
 
     /// No sources and no bounds. Does not allocate.
     pub fn new(alloc: Global) -> DistanceBounds

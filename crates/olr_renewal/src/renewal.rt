@@ -1,5 +1,5 @@
 //! Encodes again the paths whose answer a change of the map may have changed.
-ghost use Rattle.std.specs.Prelude.{◌≡◌, ◌<◌, Some, map as list_map, true, length, IfOk, OnOk};
+ghost use Rattle.std.specs.Prelude.{◌≡◌, ◌<◌, Some, map as list_map, true, length, IfOk, OnOk, []};
 ghost use Rattle.olr_spec.specs.Map.{Map};
 ghost use Rattle.olr_spec.specs.Queries.{AreKnownWith};
 ghost use Rattle.olr_commands.specs.Words.{entry_of};
@@ -69,7 +69,6 @@ pub struct Renewal {
 }
 
 impl Renewal {
-    ghost use Rattle.std.specs.Prelude.{[]};
     ghost use Rattle.olr_search.specs.Counts.{no_work};
 
     /// Of a list without affected paths. Takes no memory.
