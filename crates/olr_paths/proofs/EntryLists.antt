@@ -1,12 +1,11 @@
 -- The texts and entries of a list whose paths were encoded, and such a list as what its iterator has left.
 use Rattle.olr_paths.proofs.Common.{arith, ◌≡◌, ℕ, Bool, List, Bor, IsTrue, Option, Some, None, sym, ap, ◌∙◌, subst, option_map}
 use Rattle.olr_paths.proofs.Common.{bytes_eq, IsReference, bytes_decides, result_ok, published_text, option_eq, true, is_some}
-use Rattle.olr_paths.proofs.Common.{[], ◌∷◌, refl, Answer, Results, Item, results_of, results_of_named, results_in, answer_in, ◌≢◌, ◌&&◌}
+use Rattle.olr_paths.proofs.Common.{[], ◌∷◌, refl, Results, Item, results_of, results_of_named, ◌≢◌, ◌&&◌}
 use Rattle.olr_paths.proofs.Common.{map, string_bytes, Rc, AreEncoded, Published, list_all, Global}
 use Rattle.olr_binary.proofs.TextLemmas.{one_reference}
 use Rattle.olr_spec.specs.Reference.{Reference}
 use Rattle.olr_binary.specs.Text.{IsTextOf, text_of}
-use Rattle.olr_paths.specs.declared.published.Published.{Published as Encoded}
 use Rattle.olr_spec.specs.Encoding as spec
 use Rattle.olr_paths.proofs.NamedEntries.{Entries, items_of}
 
@@ -34,12 +33,6 @@ decided q r (Some s) (Some t) soundq soundr textq textr b e =
 decided q r _ _ soundq soundr textq textr b e = absurd cc
 
 -- ---- what was encoded
-
--- a name with a stored result has an answer
-pub answered : (is : List Item) (name : List ℕ) (o : Option (Bor Encoded)) →
-    option_map (λ p. results_of p.now) o ≡ results_in is name → is_some o ≡ true → (A : Answer) × (answer_in is name ≡ Some A)
-answered is name None e some = absurd cc
-answered is name (Some p) e some = ((results_of p.now).answer, ap (option_map (λ (m : Results). m.answer)) (sym e))
 
 some_results : (o : Option (Rc Published Global)) → option_map (λ p. results_of p.value) o ≢ None → is_some o ≡ true
 some_results o h = grind arith

@@ -9,8 +9,7 @@
 --     AreNoted es path_ids f      each path that was encoded has index entries with the id at its position
 --     AreNotedAt path_ids f fresh      the results for positions have index entries with their path ids
 --     ArePublished es      each path was encoded
-use Rattle.std.specs.Prelude.{◌≡◌, ◌≢◌, ◌<◌, ℕ, List, [], All, Option, Some, None, length, get_or, slice_get, IsTrue}
-use Rattle.std.specs.Prelude.{String}
+use Rattle.std.specs.Prelude.{◌≡◌, ◌≢◌, ◌<◌, ℕ, List, [], All, Option, Some, None, length, get_or, slice_get, IsTrue, String}
 use Rattle.std.specs.declared.alloc.Global.{Global}
 use Rattle.std.specs.declared.rc.Rc.{Rc}
 use Rattle.olr_spec.specs.Queries.{CoverageQuery}

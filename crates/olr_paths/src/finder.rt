@@ -1,5 +1,5 @@
 //! Which paths have a node or a line, found by its number.
-ghost use Rattle.std.specs.Prelude.{◌≡◌, Contains, IsTrue};
+ghost use Rattle.std.specs.Prelude.{◌≡◌, Contains, IsTrue, OnOk, OnErr};
 
 use crate::index::Index;
 use crate::keys::Keys;
@@ -23,7 +23,6 @@ pub struct Finder {
 }
 
 impl Finder {
-    ghost use Rattle.std.specs.Prelude.{OnOk, OnErr};
     ghost use Rattle.olr_paths.specs.Finders.{IsNoted, Grows, Spares, keys_in};
 
     /// A finder without entries. Takes no memory.
@@ -112,7 +111,6 @@ fn is_among<T: Numbered>(items: &[T], number: u32) -> bool
 }
 
 impl Index {
-    ghost use Rattle.std.specs.Prelude.{OnOk};
     ghost use Rattle.std.specs.List.Sorted.{IsStrictlyIncreasing};
     ghost use Rattle.olr_paths.specs.Finders.{AllNoted, AddsOnly, ChangesOnly};
 

@@ -1,5 +1,5 @@
 //! A relation between numbers and path ids: which path ids a number has is found by the number.
-ghost use Rattle.std.specs.Prelude.{◌≡◌, ◌<◌, ◌||◌, ◌==◌, ◌&&◌, not, ℕ, None, nat_eq, OnOk, OnErr};
+ghost use Rattle.std.specs.Prelude.{◌≡◌, ◌<◌, ◌||◌, ◌==◌, ◌&&◌, not, ℕ, None, nat_eq, OnOk, OnErr, [], IsTrue};
 ghost use Rattle.std.specs.HashMap.{get};
 ghost use Rattle.std.specs.List.Sorted.{IsStrictlyIncreasing};
 ghost use Rattle.olr_spec.specs.Map.{has};
@@ -9,7 +9,6 @@ use olr_model::NumberHasher;
 use smallvec::SmallVec;
 use std::alloc::{AllocError, Global};
 use std::collections::HashMap;
-use std::fmt;
 use std::hash::BuildHasherDefault;
 
 /// The path ids of a number: most numbers have one, which is stored without an allocation.
@@ -25,13 +24,6 @@ pub struct Index {
     ghost none_above: { (number : ℕ) → greatest < number → get nat_eq path_ids number ≡ None },
 }
 
-/// Prints the numbers that have path ids. The bound isn't printed: it stays when path ids are removed.
-impl fmt::Debug for Index {
-    fn fmt<W: fmt::Write>(&self, f: &mut fmt::Formatter<W>) -> fmt::Result {
-        self.path_ids.fmt(f)
-    }
-}
-
 // Written out: a derived drop is proved again in each crate that ends an index.
 impl Drop for Index {
     fn drop(self) {
@@ -45,7 +37,6 @@ impl Drop for Index {
 }
 
 impl Index {
-    ghost use Rattle.std.specs.Prelude.{[], IsTrue};
     ghost use Rattle.olr_paths.specs.PathIds.{path_ids_of, holds};
 
     /// An index in which no number has a path id. Allocates nothing.

@@ -1,5 +1,5 @@
 //! The paths of a list, one after another, each with what is published of it.
-ghost use Rattle.std.specs.Prelude.{IsTrue, is_some};
+ghost use Rattle.std.specs.Prelude.{IsTrue, is_some, Some, ◌≡◌, map};
 ghost use Rattle.std.specs.List.{list_all};
 
 use crate::path_list::{NamedPath, PathList};
@@ -15,7 +15,6 @@ pub struct Iter<'a> {
 }
 
 impl<'a> Iterator for Iter<'a> {
-    ghost use Rattle.std.specs.Prelude.{Some};
     ghost use Rattle.std.specs.Iterator.{YieldsFirstBy, item_count};
     ghost use Rattle.olr_paths.specs.Items.{results_of, left};
 
@@ -44,7 +43,6 @@ impl<'a> ExactSizeIterator for Iter<'a> {
 impl<'a> FusedIterator for Iter<'a> {}
 
 impl PathList {
-    ghost use Rattle.std.specs.Prelude.{◌≡◌, map};
     ghost use Rattle.olr_paths.specs.Items.{items, left};
     ghost use Rattle.olr_paths.specs.Changes.{AreEncoded};
 

@@ -1,6 +1,6 @@
 //! Changes of a list of named paths, held until all of them are made at once.
 ghost use Rattle.std.specs.Prelude.{◌≡◌, List, [], ◌∷◌, ◌++◌, map, take, length, false, is_some, IsFalse, IfOk, OnOk, OnErr};
-ghost use Rattle.olr_commands.specs.State.{NamesDiffer, path_named};
+ghost use Rattle.olr_commands.specs.State.{NamesDiffer, path_named, same_name};
 ghost use Rattle.olr_paths.specs.Items.{Item, items, item_of, all_named};
 ghost use Rattle.olr_paths.specs.Overlaid.{RemovesNone, changes_in, overlay_changes, change_at, under_change};
 ghost use Rattle.olr_paths.specs.Overlaid.{under_changes, under_overlay};
@@ -93,7 +93,6 @@ impl Drop for Overlay {
 
 impl Overlay {
     ghost use Rattle.std.specs.Prelude.{filter, not, true, None, string_bytes};
-    ghost use Rattle.olr_commands.specs.State.{same_name};
     ghost use Rattle.olr_paths.specs.Changes.{set_item};
 
     /// No changes. Takes no memory.

@@ -1,8 +1,9 @@
 //! A list of named paths, in order.
-ghost use Rattle.std.specs.Prelude.{◌≡◌, IfOk, option_map, ◌<◌, ℕ, None, length, get_or, IsFalse};
+ghost use Rattle.std.specs.Prelude.{◌≡◌, IfOk, option_map, ◌<◌, ℕ, None, length, get_or, IsFalse, [], ◌∷◌, ◌++◌, true, false};
+ghost use Rattle.std.specs.Prelude.{not, map, filter, take, is_some, slice_get, string_bytes, OnOk, OnErr};
 ghost use Rattle.std.specs.List.Sorted.{IsStrictlyIncreasing};
 ghost use Rattle.std.proofs.Props.{props};
-ghost use Rattle.olr_paths.specs.Finders.{AreNoted, ArePublished};
+ghost use Rattle.olr_paths.specs.Finders.{AreNoted, ArePublished, keys_in, named_keys};
 
 use crate::finder::Finder;
 use crate::keys::Keys;
@@ -23,7 +24,6 @@ pub struct NamedPath {
 
 impl NamedPath {
     ghost use Rattle.olr_paths.specs.Items.{results_of, results_of_named};
-    ghost use Rattle.olr_paths.specs.Finders.{keys_in, named_keys};
 
     /// What the path is found by.
     pub(crate) fn keys(&self) -> Keys<'_>
@@ -95,8 +95,6 @@ impl Drop for PathList {
 }
 
 impl PathList {
-    ghost use Rattle.std.specs.Prelude.{[], ◌∷◌, ◌++◌, true, false, not, map, filter, take, is_some};
-    ghost use Rattle.std.specs.Prelude.{slice_get, string_bytes, OnOk, OnErr};
     ghost use Rattle.olr_commands.specs.State.{NamesDiffer, path_named, same_name};
     ghost use Rattle.olr_paths.specs.Items.{items, item_of, results_of, results_of_named, all_named, results_in};
     ghost use Rattle.olr_paths.specs.Changes.{AreEncoded, set_item};

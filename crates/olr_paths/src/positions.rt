@@ -2,7 +2,7 @@
 ghost use Rattle.std.specs.Prelude.{◌≡◌, ◌+◌, ◌≤◌, ◌++◌, IfOk, OnOk, OnErr, take, length, vec_len, vec_capacity};
 ghost use Rattle.olr_commands.specs.State.{NamesDiffer};
 ghost use Rattle.olr_paths.specs.Items.{items, all_named};
-ghost use Rattle.olr_paths.specs.Finders.{AreNotedAt};
+ghost use Rattle.olr_paths.specs.Finders.{AreNotedAt, AreNoted};
 ghost use Rattle.olr_paths.specs.Stored.{all_put, puts_of};
 
 use crate::finder::Finder;
@@ -48,8 +48,6 @@ fn tidy(list: &mut PathList, earlier: &[(usize, NamedPath)])
 }
 
 impl PathList {
-    ghost use Rattle.olr_paths.specs.Finders.{AreNoted};
-
     /// The index entries of all paths.
     #[inline(never)]
     fn all_noted(&self, alloc: Global) -> Result<Finder, AllocError>

@@ -1,8 +1,8 @@
 //! What is published of a path.
-ghost use Rattle.std.specs.Prelude.{◌≡◌, option_map, string_bytes, IfOk};
+ghost use Rattle.std.specs.Prelude.{◌≡◌, option_map, string_bytes, IfOk, ◌↔◌, ◌∷◌, [], map, IsTrue};
 ghost use Rattle.std.specs.Result.{result_map_both, result_ok};
 ghost use Rattle.olr_answers.specs.Answers.{answer_of, refusal_of};
-ghost use Rattle.olr_commands.specs.Reply.{published_text};
+ghost use Rattle.olr_commands.specs.Reply.{published_text, entry};
 
 use olr_answers::{Answer, CoverageQuery, KnownQuery, Refusal};
 use olr_binary::text::to_text;
@@ -22,8 +22,6 @@ pub struct Published {
 }
 
 impl Published {
-    ghost use Rattle.std.specs.Prelude.{◌↔◌, ◌∷◌, [], map, IsTrue};
-    ghost use Rattle.olr_commands.specs.Reply.{entry};
     ghost use Rattle.olr_commands.specs.Words.{entry_of};
     ghost use Rattle.olr_paths.specs.Items.{results_of};
 
