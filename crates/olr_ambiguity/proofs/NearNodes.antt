@@ -1,9 +1,8 @@
 -- The nodes in the windows of a reference's LRPs.
-use Rattle.olr_ambiguity.proofs.Common.{slice_get-get_or, slice_get_within, decoded_coord, list_any_at}
-use Rattle.olr_ambiguity.proofs.Common.{AreWindows, slice_get, unwrap_or, Reference, Contains, coord_at, has_node, ℕ}
-use Rattle.olr_ambiguity.proofs.Common.{no_coord, list_any, is_rival, AreNodes, is_some, some_of, ap}
-use Rattle.olr_ambiguity.proofs.Common.{side_at, Option, length, IsTrue, get_or, Window, subst, Coord, IsMap, List}
-use Rattle.olr_ambiguity.proofs.Common.{is_in, Some, ◌≡◌, ◌∙◌, ◌<◌, sym, Map, get}
+use Rattle.olr_ambiguity.proofs.Common.{slice_get-get_or, slice_get_within, decoded_coord, list_any_at, AreWindows, slice_get}
+use Rattle.olr_ambiguity.proofs.Common.{unwrap_or, Reference, Contains, coord_at, has_node, ℕ, no_coord, list_any, is_rival}
+use Rattle.olr_ambiguity.proofs.Common.{AreNodes, is_some, some_of, ap, side_at, Option, length, IsTrue, get_or, Window, subst}
+use Rattle.olr_ambiguity.proofs.Common.{Coord, IsMap, List, is_in, Some, ◌≡◌, ◌∙◌, ◌<◌, sym, Map, get}
 use Rattle.olr_ambiguity.proofs.Lists.{close, rival_known}
 
 module _ (M : Map) (ids : List (Option ℕ)) (places : List Coord) (beside : length ids ≡ length places) (nodes : AreNodes M ids places) where

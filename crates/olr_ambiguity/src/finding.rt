@@ -6,7 +6,7 @@ ghost use Rattle.olr_spec.specs.Receiver.{decoded_coord, last_number};
 ghost use Rattle.olr_spec.specs.Ambiguity.{obstacles, obstacles_at, side_at};
 ghost use Rattle.olr_answers.specs.Ambiguities.{found_of};
 ghost use Rattle.olr_ambiguity.specs.Causes.{applies, named};
-ghost use Rattle.olr_ambiguity.specs.Grids.{AreNodes, HasRivals, IsGrid};
+ghost use Rattle.olr_ambiguity.specs.Grids.{AreNodes, HasRivals};
 ghost use Rattle.olr_ambiguity.specs.OwnLines.{IsOwnLine, side_of};
 ghost use Rattle.olr_ambiguity.specs.Places.{place_of};
 
@@ -30,6 +30,7 @@ pub(crate) enum Cause {
 }
 
 /// Appends the candidates among these that are ambiguities for this cause.
+#[tactic(auto, using(std::proofs::lemmas::Grind::common_steps))]
 fn push_lines<M: MapRead>(
     found: &mut Vec<Found>,
     map: &M,
@@ -80,8 +81,10 @@ fn push_at<M: MapRead>(
     Ok(())
 }
 
-/// The ambiguities of a reference, see `obstacles`. The grid may have rivals alone.
-fn obstacles_by<M: MapRead>(
+/// The ambiguities of a reference, LRP by LRP: at each first twins, then other lines that
+/// are unclear by their directions, then other nodes, each in ascending order. `own` are the path's own lines at the LRPs,
+/// and `grid` is that of the map, or of nodes among which each rival is.
+pub fn obstacles<M: MapRead>(
     alloc: Global,
     map: &M,
     grid: &Grid,
@@ -100,24 +103,6 @@ fn obstacles_by<M: MapRead>(
         push_at(alloc, &mut found, map, grid, &own, k)?;
     }
     Ok(found)
-}
-
-/// The ambiguities of a reference, LRP by LRP: at each first twins, then other lines that
-/// are unclear by their directions, then other nodes, each in ascending order. `own` are the path's own lines at the LRPs,
-/// and `grid` is that of the map.
-pub fn obstacles<M: MapRead>(
-    alloc: Global,
-    map: &M,
-    grid: &Grid,
-    reference: &Reference,
-    own: &[LineId],
-) -> Result<Vec<Found>, AllocError>
-    requires grid { IsGrid (M.map map.now) grid.now.nodes.items }
-    requires own { All (λ x. IsTrue (has_line (M.map map.now) x)) own.now }
-    requires count { length own.now ≡ last_number reference.now + 1 }
-    ensures { IfOk result (λ found. list_map found_of found.items ≡ obstacles (M.map map.now) reference.now own.now) }
-{
-    obstacles_by(alloc, map, grid, reference, own)
 }
 
 /// The same without a grid of the map: its nodes are passed over once. `ids` are the nodes in their slots, none in a free
@@ -139,5 +124,5 @@ pub fn obstacles_near<M: MapRead>(
     let windows = windows(alloc, map, reference, own)?;
     let nodes = nodes_in(alloc, ids, places, &windows)?;
     let grid = Grid::of(alloc, map, &nodes)?;
-    obstacles_by(alloc, map, &grid, reference, own)
+    obstacles(alloc, map, &grid, reference, own)
 }

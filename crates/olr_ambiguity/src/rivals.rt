@@ -40,6 +40,7 @@ pub(crate) fn window_of(place: DecodedPlace, here: Coord) -> Window
 }
 
 /// Whether one of these candidates isn't outdone by the own line.
+#[tactic(auto, using(std::proofs::lemmas::Grind::common_steps))]
 fn has_rival<M: MapRead>(map: &M, own: &OwnLine, lines: &[LineId]) -> bool
     requires own { IsOwnLine (M.map map.now) own.now }
     requires known { All (λ y. IsTrue (has_line (M.map map.now) y)) lines.now }

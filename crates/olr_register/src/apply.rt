@@ -1,6 +1,6 @@
 //! Commands, and whole runs of them.
-ghost use Rattle.std.specs.Prelude.{map, Some, IfOk};
-ghost use Rattle.olr_commands.specs.State.{State, start_state};
+ghost use Rattle.std.specs.Prelude.{map, Some, IfOk, ◌≡◌, is_some, OnOk, OnErr, IsFalse};
+ghost use Rattle.olr_commands.specs.State.{State, start_state, IsContent, Make};
 ghost use Rattle.olr_commands.specs.Reply.{IsOutcome};
 ghost use Rattle.olr_commands.specs.History.{History, Headline};
 ghost use Rattle.olr_commands.specs.Words.{command_of, outcome_of};
@@ -12,8 +12,6 @@ use olr_commands::{Command, CommandFault, Reply};
 use std::alloc::{AllocError, Global};
 
 impl Register {
-    ghost use Rattle.std.specs.Prelude.{◌≡◌, is_some, OnOk, OnErr, IsFalse};
-    ghost use Rattle.olr_commands.specs.State.{IsContent, Make};
     ghost use Rattle.olr_register.specs.BatchChanges.{change_of};
     ghost use Rattle.olr_register.specs.Registered.{Applied, Counted};
     ghost use Rattle.olr_register.specs.Answered.{Answered};

@@ -3,7 +3,7 @@ ghost use Rattle.std.specs.List.{list_all, concat};
 ghost use Rattle.std.specs.Prelude.{◌≡◌, ◌++◌, ℕ, map, flat_map, length, All, IsTrue, IsFalse, IfOk, OnOk, Some};
 ghost use Rattle.olr_commands.specs.Dump.{node_change, line_change, path_change, margin_changes, dump_lines};
 ghost use Rattle.olr_commands.specs.RecordText.{record_line};
-ghost use Rattle.olr_commands.specs.State.{is_recordable};
+ghost use Rattle.olr_commands.specs.State.{is_recordable, Dump as Dumps};
 ghost use Rattle.olr_map.specs.RoadMaps.{map_of, slot_of};
 ghost use Rattle.olr_paths.specs.Items.{items, all_named};
 ghost use Rattle.olr_spec.specs.Map.{has_node, has_line, coord_at, line_at};
@@ -180,7 +180,6 @@ fn dump_of(
 }
 
 impl Register {
-    ghost use Rattle.olr_commands.specs.State.{Dump as Dumps};
     ghost use Rattle.olr_register.specs.Answered.{Answered};
 
     /// The records that build the register from an empty one: its margin, if it has one, its nodes and its lines, each in

@@ -1,11 +1,20 @@
-use Rattle.olr_ambiguity.proofs.Common.{decoded_coord, side_at}
-use Rattle.olr_ambiguity.proofs.Cells.{grid_more}
-use Rattle.olr_ambiguity.proofs.Lists.{rival_known}
+use Rattle.olr_ambiguity.proofs.Common.{◌∙◌, ◌++◌, sym, get_or_from_slice_get, arith, obstacles_at}
+use Rattle.olr_ambiguity.proofs.Lists.{one_more, numbered}
 use Rattle.olr_ambiguity.proofs.finding.obstacles.Goals as goal
 
-pub obstacles_by-requires-clause-grid : goal.obstacles_by-requires-clause-grid
-obstacles_by-requires-clause-grid g c = λ k x at.
+pub loop-k-preserved : goal.loop-k-preserved
+loop-k-preserved g c =
     let M = g.M.MapRead.map c.args.map.now in
     let r = c.args.reference.now in
-    grid_more M _ _ c.args.grid.now.nodes.items c.requires.grid
-    (λ v is. rival_known M (side_at r k) (decoded_coord r k) x v (g.met.M.MapRead.sound c.args.map.now) is)
+    let k = c.loop-k.k in
+    let own = c.own_line-own.result in
+    let is = c.own_line-own.ensures in
+    let step = one_more M r c.args.own.now k own.id c.loop-k-test.true (get_or_from_slice_get c.args.own.now k own.id own.id is.id) in
+    c.in_ok-push_at.ensures
+    ∙ (λ i. c.loop-k.invariant i ++ numbered k (obstacles_at M (is.side i) (is.place i) own.id)) ∙ sym step
+
+pub push_at-requires-clause-grid : goal.push_at-requires-clause-grid
+push_at-requires-clause-grid g c =
+    let is = c.own_line-own.ensures in
+    let rivals = c.requires.grid c.loop-k.k c.own_line-own.result.id is.id in
+    grind (arith, is.side, is.place, rivals)

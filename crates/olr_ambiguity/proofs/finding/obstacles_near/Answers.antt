@@ -10,8 +10,8 @@ of-requires g c = λ k d lt.
     let slot = c.in_ok-nodes.ensures.right v there in
     in_slot (g.M.MapRead.map c.args.map.now) c.args.ids.now c.args.places.now c.requires.beside c.requires.nodes slot.0 v slot.1
 
-pub obstacles_by-requires-clause-grid : goal.obstacles_by-requires-clause-grid
-obstacles_by-requires-clause-grid g c = λ k x at.
+pub obstacles-requires-clause-grid : goal.obstacles-requires-clause-grid
+obstacles-requires-clause-grid g c = λ k x at.
     let M = g.M.MapRead.map c.args.map.now in
     grid_more M _ _ c.in_ok-grid.grid.nodes.items c.in_ok-grid.ensures (λ v is.
     subst (λ (vs : List ℕ). Contains vs v) (sym c.deref-2.ensures.value)

@@ -1,5 +1,8 @@
 use Rattle.olr_register.proofs.Common.{map_of, All, IsTrue, has_line, length, ◌≡◌, ◌+◌}
-use Rattle.olr_spec.specs.Receiver.{last_number}
+use Rattle.olr_spec.specs.Ambiguity.{side_at}
+use Rattle.olr_spec.specs.Receiver.{decoded_coord, last_number}
+use Rattle.olr_ambiguity.proofs.Cells.{grid_more}
+use Rattle.olr_ambiguity.proofs.Lists.{rival_known}
 use Rattle.olr_register.proofs.Ambiguous.{own_lines}
 use Rattle.olr_register.proofs.ambiguities.found_in.Goals.{In-Points}
 use Rattle.olr_register.proofs.ambiguities.found_in.Goals as goal
@@ -11,6 +14,13 @@ own c =
     let e = c.requires.encoding in
     rw c.as_slice-own.ensures.value (own_lines e.0 (map_of c.args.roads.now) e.1 c.args.encoding.now e.3 c.args.roads.now.kept.sound e.2
     c.in-Points.reference c.in-Points.is)
+
+pub obstacles-requires-clause-grid : goal.obstacles-requires-clause-grid
+obstacles-requires-clause-grid c = λ k x at.
+    let M = map_of c.args.roads.now in
+    let r = c.in-Points.reference in
+    grid_more M _ _ c.in-Some.grid.now.nodes.items (rw c.in-Some.is at c.requires.grid)
+    (λ v is. rival_known M (side_at r k) (decoded_coord r k) x v c.args.roads.now.kept.sound is)
 
 pub obstacles-requires-clause-own : goal.obstacles-requires-clause-own
 obstacles-requires-clause-own c = (own (goal.at.obstacles-requires-clause-own c).In-Points).0

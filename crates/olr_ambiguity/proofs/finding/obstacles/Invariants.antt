@@ -1,5 +1,5 @@
 use Rattle.olr_ambiguity.proofs.Common.{◌≡◌, map, take, obstacles_from, found_of}
-use Rattle.olr_ambiguity.proofs.finding.obstacles_by.Given as goal
+use Rattle.olr_ambiguity.proofs.finding.obstacles.Given as goal
 
 -- the ambiguities at the LRPs so far
 abbrev pub invariant-loop-k : goal.invariant-loop-k
