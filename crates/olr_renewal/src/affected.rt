@@ -33,6 +33,7 @@ fn farthest(margin: Margin) -> u32
 }
 
 /// Whether it is known that no path of a list has a coverage query.
+#[tactic(auto, using(olr_paths::proofs::NotedPositions::lack_by))]
 fn lacks_queries(list: &PathList) -> bool
     ensures { IsTrue result → LackQueries (items list.now) }
 {

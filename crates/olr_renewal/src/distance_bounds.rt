@@ -166,6 +166,7 @@ impl DistanceBounds {
     }
 
     /// Whether the bounds are settled: no node is to be looked at again.
+    #[tactic(auto, using(crate::proofs::BoundLemmas::settled_at_once))]
     pub fn is_settled(&self) -> bool
         ensures { IsTrue result → (M : Map) (s : ℕ → ℕ) → IsUnderWay M s [] self.now → IsRight M s self.now }
     {
