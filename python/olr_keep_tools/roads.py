@@ -16,7 +16,7 @@ import functools
 import json
 import math
 from collections import Counter, defaultdict
-from typing import Any, Dict, FrozenSet, Iterable, List, Mapping, NamedTuple, Optional, Sequence, Set, Tuple, Union
+from typing import Any, Dict, FrozenSet, Iterable, Iterator, List, Mapping, NamedTuple, Optional, Sequence, Set, Tuple, Union
 
 from .courses import Edge, Follower, Found, Ground, Lost, Network, Plane, Polyline, Rival, Wish, cells_near, course_of
 from .geo import METRES, angle_between, direction
@@ -374,11 +374,20 @@ def moved_by(old: Sequence[Place], new: Sequence[Place], tolerance: float) -> Pl
     return sum(it[0] for it in found) / len(found), sum(it[1] for it in found) / len(found)
 
 
+def samples_off(one: Polyline, other: Polyline, scale: float, slack: float) -> Iterator[float]:
+    """The samples of a course, but for those in segments that another one has as well, about as far along."""
+    there = {(a, b): far for a, b, far in zip(other.points, other.points[1:], other.far)}
+    for a, b, low, high in zip(one.points, one.points[1:], one.far, one.far[1:]):
+        far = there.get((a, b))
+        if far is None or abs(far - low * scale) > slack or abs(far + high - low - high * scale) > slack:
+            yield from one.samples(low, high)
+
+
 def farthest(one: Polyline, other: Polyline) -> float:
     """How far the points of a course are from those that are as far along another one, at most."""
     scale, slack = other.length / (one.length or 1.0), max(50.0, 0.02 * one.length)
     worst = max(math.dist(one.points[0], other.points[0]), math.dist(one.points[-1], other.points[-1]))
-    marks = list(one.samples(0.0, one.length))
+    marks = list(samples_off(one, other, scale, slack))
     for at, point, there in zip(marks, one.along(marks), other.along(it * scale for it in marks)):
         if math.dist(point, there) > worst:
             low, high = at * scale - slack, at * scale + slack
@@ -422,6 +431,12 @@ class Roads:
         """The sections across the given course."""
         return Sections(self.course)
 
+    @functools.cached_property
+    def nodes(self) -> Dict[int, Place]:
+        """The nodes near the course, in the plane."""
+        places = {node: at for it in self.near.values() for node, at in ((it.start, it.points[0]), (it.end, it.points[-1]))}
+        return dict(zip(places, self.plane.course(places.values())))
+
     def moved_by(self) -> Place:
         """By how much the junctions around the path are moved, in metres."""
         last = self.last or LastMap({}, [])
@@ -457,7 +472,8 @@ class Roads:
         """What became of the path's road."""
         course = self.expected()
         follower = Follower(course, self.network, self.tolerance)
-        blocked = follower.blocked()
+        are_there = self.own_streets() <= {it.street for it in self.near.values()}
+        blocked = None if are_there else follower.blocked()
         self.scale = self.course.length / (Polyline(self.plane.course(course)).length or 1.0)
         found = blocked or follower.follow(Wish(self.own_streets(), price=self.price, junctions=self.junctions()))
         answer = Answer(Verdict.GONE, found) if isinstance(found, Lost) else Judged(self, found).answer()
@@ -521,8 +537,7 @@ class Roads:
                 return frozenset()
         x, y = self.plane.flat(place)
         there = x + self.by[0], y + self.by[1]
-        near = {number for it in self.near.values() for number, at in ((it.start, it.points[0]), (it.end, it.points[-1]))
-                if math.dist(self.plane.flat(at), there) <= self.tolerance}
+        near = {number for number, at in self.nodes.items() if math.dist(at, there) <= self.tolerance}
         found = stubs(self.near, near)
         if not self.last:
             return frozenset(number for number, new in found.items() if len(new) > 2)

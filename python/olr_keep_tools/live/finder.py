@@ -77,18 +77,22 @@ class Ways(Network):
         super().__init__({})
         self.lines = self.rows = Rows()
         self.beside: Dict[Place, List[int]] = {}
-        self.fine: Grid[int] = Grid(FINE)
+        self.stretches: Dict[Tuple[Any, ...], List[int]] = {}  # the one or two lines of each
+        self.fine: Grid[List[int]] = Grid(FINE)
         self.without_cells: List[int] = []
 
     def take(self, found: Iterable[Tuple[Any, ...]]) -> None:
         """Adds what a query found."""
-        read, shapes, leaving, nodes = self.rows.read, self.rows.shapes, self.leaving, self.nodes
+        read, shapes, leaving, nodes, stretches = self.rows.read, self.rows.shapes, self.leaving, self.nodes, self.stretches
         for it in found:
             number, start, end, shape = it[0], it[1], it[2], it[11]
             if number in read:
                 continue
             read[number] = it
-            self.without_cells.append(number)
+            several = stretches.setdefault(it[6:10], [])
+            several.append(number)
+            if len(several) == 1:
+                self.without_cells.append(number)
             leaving[start].append((number, end))
             if shape is not None:
                 shapes[it[6:10]] = shape
@@ -108,9 +112,9 @@ class Ways(Network):
     def around(self, course: Sequence[Place], metres: float) -> Dict[int, Row]:
         """The lines that may be within this distance of a course, of those that were read."""
         for number in self.without_cells:
-            self.fine.add_along(self.rows[number].points, number)
+            self.fine.add_along(self.rows[number].points, self.stretches[self.rows.read[number][6:10]])
         self.without_cells.clear()
-        return {it: self.rows[it] for it in sorted({*self.fine.at(cells_near(course, metres, FINE))})}
+        return {it: self.rows[it] for it in sorted(set().union(*self.fine.at(cells_near(course, metres, FINE))))}
 
 
 class Finder:
