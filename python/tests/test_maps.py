@@ -14,6 +14,7 @@ from olr_keep_tools.osmrecords import Numbers, driven, measure_of, number_lines,
 from olr_keep_tools.receiver import RoadMap, bearing, project, shape_length
 from olr_keep_tools.records import State
 from olr_keep_tools.refound import Location, Shake, Waves, cut_out, farthest, shaken
+from olr_keep_tools.roads import farthest_apart
 
 
 def roads_of(*lines: str) -> RoadMap:
@@ -203,6 +204,19 @@ class Shapes(unittest.TestCase):
         self.assertLess(farthest(shape[:2], other), 20.0)
         none, parts = shaken(ROADS, Shake(3, 5.0, 0.0, 100.0, 0.0))
         self.assertEqual((parts, len(none.lines)), ({1: [], 2: [], 3: []}, 0))
+
+
+class Apart(unittest.TestCase):
+    """How far two courses are apart, where they share most of their segments."""
+
+    def test_farthest_apart(self) -> None:
+        course = [(6 + k * 0.001, 49.0) for k in range(11)]
+        for k, metres in ((0, 20.0), (5, 30.0), (10, 40.0)):
+            bent = [(lon, lat + (metres / METRES if at == k else 0.0)) for at, (lon, lat) in enumerate(course)]
+            self.assertAlmostEqual(farthest_apart(course, bent), metres, delta=0.5)
+        self.assertEqual(farthest_apart(course, list(course)), 0.0)
+        lap = [*course[:6], (6.005, 49.001), course[5], *course[6:]]
+        self.assertAlmostEqual(farthest_apart(course, lap), 0.001 * METRES, delta=0.5)
 
 
 if __name__ == "__main__":

@@ -17,6 +17,7 @@ FIELDS = """line.line, from_node, to_node, split_part(fields, ',', 1), split_par
 COLUMNS = f"{FIELDS}, ST_AsBinary(geom, 'NDR')"
 ONE_WAY = f"{FIELDS}, case when along or street.direction <> 'both' then ST_AsBinary(geom, 'NDR') end"
 BOXES = "unnest(%s::float8[], %s::float8[], %s::float8[], %s::float8[]) with ordinality as box(w, s, e, n, number)"
+STRETCH = slice(6, 10)  # of a row: street, direction, part and number in it, which both lines of a two-way stretch have
 LINES = "olr_keep.line join olr_keep.street on street.street = line.street"
 
 
@@ -65,7 +66,7 @@ class Rows(Dict[int, Row]):
 
     def __missing__(self, number: int) -> Row:
         it = self.read[number]
-        points = coordinates(it[11]) or (coordinates(self.shapes[it[6:10]]) or ())[::-1]
+        points = coordinates(it[11]) or (coordinates(self.shapes[it[STRETCH]]) or ())[::-1]
         self[number] = row = Row._make((*it[:11], points))
         return row
 
@@ -89,13 +90,13 @@ class Ways(Network):
             if number in read:
                 continue
             read[number] = it
-            several = stretches.setdefault(it[6:10], [])
+            several = stretches.setdefault(it[STRETCH], [])
             several.append(number)
             if len(several) == 1:
                 self.without_cells.append(number)
             leaving[start].append((number, end))
             if shape is not None:
-                shapes[it[6:10]] = shape
+                shapes[it[STRETCH]] = shape
                 if start not in nodes:
                     lon, lat = COORDINATE.unpack_from(shape, 9)
                     nodes[start] = lon, lat
@@ -112,7 +113,7 @@ class Ways(Network):
     def around(self, course: Sequence[Place], metres: float) -> Dict[int, Row]:
         """The lines that may be within this distance of a course, of those that were read."""
         for number in self.without_cells:
-            self.fine.add_along(self.rows[number].points, self.stretches[self.rows.read[number][6:10]])
+            self.fine.add_along(self.rows[number].points, self.stretches[self.rows.read[number][STRETCH]])
         self.without_cells.clear()
         return {it: self.rows[it] for it in sorted(set().union(*self.fine.at(cells_near(course, metres, FINE))))}
 
